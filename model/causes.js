@@ -24,14 +24,26 @@ const Causes = ((Tokens, Reader, SyntaxCauses, CheckerCauses, Nearest) => {
   }
 
   const bytesOf = (text) => new TextEncoder().encode(text);
+  const lineOf = (text, line) => (text.split("\n")[line - 1] ?? "").replace(/\r$/, "");
+
+  /** Where a cause stands in its line, in letters as JavaScript counts them, from 1. */
+  const letterOf = ({ line, column }, text) => new TextDecoder().decode(bytesOf(lineOf(text, line)).slice(0, column - 1)).length + 1;
+
+  const WIDEST = 160, AROUND = 60; // letters: of a line that is shown whole, and that are shown before and after the place in a longer one
+
+  /** What is shown of a line, and how much of that stands before the place. */
+  function shownOf(source, before, length) {
+    if (source.length <= WIDEST) return { source, before: source.slice(0, before) };
+    const from = Math.max(0, before - AROUND), to = before + length + AROUND, start = from > 0 ? ".. " : "";
+    return { source: `${start}${source.slice(from, to)}${to < source.length ? " .." : ""}`, before: start + source.slice(from, before) };
+  }
 
   /** The lines that show a cause: title, place, the text's line with a caret, hints. */
-  function linesOf({ which, line, column, length, title, hints }, text) {
-    const source = (text.split("\n")[line - 1] ?? "").replace(/\r$/, "");
-    const before = new TextDecoder().decode(bytesOf(source).slice(0, column - 1)).replace(/[^\t]/g, " ");
+  function linesOf(cause, text) {
+    const { which, line, column, length, title, hints } = cause, shown = shownOf(lineOf(text, line), letterOf(cause, text) - 1, length);
     const number = String(line), margin = " ".repeat(number.length);
     return [
-      title, `${margin}--> ${which}:${line}:${column}`, `${margin} |`, `${number} | ${source}`, `${margin} | ${before}${"^".repeat(length)}`,
+      title, `${margin}--> ${which}:${line}:${column}`, `${margin} |`, `${number} | ${shown.source}`, `${margin} | ${shown.before.replace(/[^\t]/g, " ")}${"^".repeat(length)}`,
       ...hints.map((hint) => `${margin} = ${hint}`),
     ];
   }
@@ -115,7 +127,7 @@ const Causes = ((Tokens, Reader, SyntaxCauses, CheckerCauses, Nearest) => {
     return [...notes, ...resultsInHeads(program, which), ...scattered(clauses, which)].sort((one, other) => one.line - other.line || one.column - other.column);
   }
 
-  return { causeOf, notesOn, linesOf, LIMITS: CheckerCauses.LIMITS };
+  return { causeOf, notesOn, linesOf, letterOf, LIMITS: CheckerCauses.LIMITS };
 })(...(typeof require === "undefined" ? [Tokens, Reader, SyntaxCauses, CheckerCauses, Nearest] :
   [require("./tokens.js"), require("./reader.js"), require("./syntax_causes.js"), require("./checker_causes.js"), require("./nearest.js")]));
 if (typeof module !== "undefined") module.exports = Causes;

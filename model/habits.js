@@ -21,7 +21,8 @@ const Habits = (() => {
     [/^\?/, "? is not of the language", "a variable begins with a large letter, as X"],
     [/^&+/, "& is not of the language", "goals and tests are separated by commas"],
     [/^#/, "# is not of the language", "a comment begins with %; there is nothing to import"],
-    [/^[@$^~]/, "no mark of the language begins so", "a clause is: head :- guard | body."],
+    [/^\^/, "there is no operator ^", "multiply: Y := X * X"],
+    [/^[@$~]/, "no mark of the language begins so", "a clause is: head :- guard | body."],
     [/^:/, ": is not of the language", "a clause is head :- guard | body.  There are no modules"],
     [/^\}/, "there are no {..}", "use a structure, as pair(a,b)"],
     [/^\ufeff/, "the text begins with a byte order mark, which nobody sees", "save it as UTF-8 without BOM"],
@@ -37,7 +38,7 @@ const Habits = (() => {
     "=>": ["=> is written >=", "\"at least\" is >=; a clause is head :- guard | body."],
     "<-": ["<- is written :-", "a clause is: head :- guard | body."],
     "->": ["there is no ->", "write two clauses, each with its guard: p(X,Y) :- X > 0 | ..   p(X,Y) :- X =< 0 | .."],
-    "--": ["-- is not of the language", "a variable gets one value: N1 := N - 1; there are no grammars with -->"],
+    "--": ["-- is not of the language", "a variable gets one value; name a new one: N1 := N - 1"],
     "++": ["++ is not of the language", "a variable gets one value; name a new one: N1 := N + 1"],
     "+=": ["+= is not of the language", "a variable gets one value; name a new one: N1 := N + 1"],
     "-=": ["-= is not of the language", "a variable gets one value; name a new one: N1 := N - 1"],
@@ -63,6 +64,7 @@ const Habits = (() => {
     when: ["there is no `when`", "a clause is: head :- guard | body."],
     let: ["there is no `let`", "write the goal alone, as Y := X + 1"],
     var: ["there is no `var`", "a variable is there when it is named; it begins with a large letter"],
+    return: ["there is no `return`", "a result is an argument, which the body binds, as p(X,R) :- true | R = X."],
     import: ["there is nothing to import", "all clauses stand in one text"],
   };
 
@@ -70,6 +72,7 @@ const Habits = (() => {
   const TESTS = {
     otherwise: ["otherwise is not of this language", "write the opposite of the other guards, as X =\\= 0"],
     alternatively: ["alternatively is not of this language", "write the opposite of the other guards, as X =\\= 0"],
+    else: ["there is no else", "write the opposite of the other guards, as X =\\= 0"],
     nonvar: ["nonvar is written wait", "wait(X) says yes when X is bound"],
     ground: ["there is no test ground", "wait(X) says yes when X is bound, whatever stands in it"],
     var: ["no test tells that a variable is unbound", "it may be bound later; wait(X), integer(X), atom(X), list(X) wait until it is"],
@@ -92,6 +95,7 @@ const Habits = (() => {
     findall: "there is no search for all answers: a list is made by a process that goes on with its tail",
     wait: "wait is a test, and stands before the bar", integer: "integer is a test, and stands before the bar",
     atom: "atom is a test, and stands before the bar", list: "list is a test, and stands before the bar",
+    instream: "instream takes one variable, and stands in the query: instream(S)",
     call: "goals are no terms: `call` is not there", is: "`is` is written :=, as Y := X + 1",
     append: "nothing is built in: write its clauses, as in examples/append.ghc", merge: "nothing is built in: write its clauses, as in examples/merge.ghc",
     member: "nothing is built in: write its clauses", length: "nothing is built in: write its clauses", reverse: "nothing is built in: write its clauses, as in examples/reverse.ghc",

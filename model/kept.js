@@ -6,7 +6,7 @@ const Kept = (() => {
   const RECORDED = /^(\d+) (\d+\.\d+|-) (.+) reads \S+ binds \S+ makes \S+$/;
   const UNDONE = /^undone ([\d,]+)$/;
   const CALL = /^CALL (\d+\.\d+) (.*)$/;
-  const READING = new Set(["goals", "show", "records", "shelf", "save", "why", "who", "spy", "nospy", "explain", "goal", "clauses", "since"]); // all others may change it
+  const READING = new Set(["goals", "show", "records", "shelf", "save", "why", "who", "spy", "nospy", "explain", "goal", "clauses", "since", "causes"]); // all others may change it
 
   function stepOf([, number, goal, act]) {
     const clause = /^by (\d+)$/.exec(act);
@@ -21,6 +21,7 @@ const Kept = (() => {
       this.takers = new Map(); // the step that consumed a goal
       this.texts = new Map(); // goals as written, as far as CALL lines told them
       this.changes = 0; // how many lines have changed the session
+      this.removed = new Set(); // steps that went since somebody looked; some may be there again
     }
 
     add(step) {
@@ -32,6 +33,7 @@ const Kept = (() => {
       const step = this.steps.get(number);
       if (step === undefined) return;
       this.steps.delete(number);
+      this.removed.add(number);
       if (step.goal !== null) this.takers.delete(step.goal);
     }
 
@@ -59,6 +61,19 @@ const Kept = (() => {
       const undone = UNDONE.exec(told), call = CALL.exec(told);
       if (undone !== null) for (const number of undone[1].split(",")) this.remove(Number(number));
       if (call !== null) this.texts.set(call[1], call[2]);
+      return undefined;
+    }
+
+    /** The steps that went since this was asked last. */
+    takeRemoved() {
+      const { removed } = this;
+      this.removed = new Set();
+      return removed;
+    }
+
+    /** The first step in recorded order that is not among those known; undefined where all are. */
+    firstBeside(known) {
+      for (const number of this.steps.keys()) if (!known.has(number)) return number;
       return undefined;
     }
 

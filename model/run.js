@@ -21,15 +21,17 @@ const Run = ((Graph, Reader, Print) => {
 
   /** The variables of others that an ask names. */
   function namesIn(line, number, end) {
-    if (!line.startsWith(`${number} - ask `)) return NONE;
+    if (!line.startsWith(" - ask ", line.indexOf(" "))) return NONE;
     return Graph.variablesIn(line.slice(0, end)).filter((variable) => numbersOf(variable)[0] !== number);
   }
+
+  const numberIn = (line) => Number.parseInt(line, 10);
 
   /** What a record line tells of reads and bindings; no text of a term has a semicolon or a blank. Undefined where it is none. */
   function recordOf(line) {
     const makes = line.lastIndexOf(" makes "), binds = line.lastIndexOf(" binds ", makes), reads = line.lastIndexOf(" reads ", binds);
     if (reads < 0) return undefined;
-    const number = Number.parseInt(line, 10), read = line.slice(reads + " reads ".length, binds), bound = line.slice(binds + " binds ".length, makes);
+    const number = numberIn(line), read = line.slice(reads + " reads ".length, binds), bound = line.slice(binds + " binds ".length, makes);
     return { number, reads: read === "-" ? NONE : read.split(","), binds: bound === "-" ? NONE : bound.split(";").map(bindingOf), names: namesIn(line, number, reads) };
   }
 
@@ -40,7 +42,6 @@ const Run = ((Graph, Reader, Print) => {
       this.kept = kept;
       this.query = Reader.readQuery(query);
       this.records = new Map(); // by the step's number
-      this.lines = new Map(); // each record by its line, once it was read
       this.bound = new Map(); // what each variable is bound to: a text, or the term once it was read
       this.binders = new Map(); // the step that bound a variable
       this.goals = new Map(); // goals as written, by name
@@ -66,21 +67,33 @@ const Run = ((Graph, Reader, Print) => {
 
     /** Learns the lines of the reply to `records`, as it is now. */
     learn(lines) {
+      const told = new Set(lines.map(numberIn));
+      this.forget([...this.records.keys()].filter((number) => !told.has(number)));
+      this.learnMore(lines);
+    }
+
+    /** Learns record lines of further steps: with what was known of the others that is all of the run as it is now. */
+    learnMore(lines) {
       this.learnedAt = this.kept.changes;
-      const known = this.lines;
-      this.lines = new Map();
-      this.records = new Map();
-      this.bound = new Map();
-      this.binders = new Map();
       for (const line of lines) {
-        const record = known.get(line) ?? recordOf(line);
+        const record = this.records.has(numberIn(line)) ? undefined : recordOf(line);
         if (record === undefined) continue;
-        this.lines.set(line, record);
         this.records.set(record.number, record);
         for (const { variable, term } of record.binds) {
           this.bound.set(variable, term);
           this.binders.set(variable, record.number);
         }
+      }
+    }
+
+    /** Forgets what was known of steps that went. */
+    forget(numbers) {
+      for (const number of numbers) {
+        for (const { variable } of this.records.get(number)?.binds ?? NONE) {
+          this.bound.delete(variable);
+          this.binders.delete(variable);
+        }
+        this.records.delete(number);
       }
     }
 

@@ -44,19 +44,49 @@ const SyntaxCauses = ((Tokens, Habits) => {
     return cause("the integer does not fit into 64 bits", "integers go from -9223372036854775808 to 9223372036854775807");
   }
 
+  /** Arrows, which mean one thing after a head and another in a body. */
+  function arrow({ token, before, next, here, depth, isQuery }) {
+    const mark = [touches(before, token) ? before.text + token.text : "", touches(token, next) ? token.text + next.text : ""].find((pair) => ["=>", "<-", "--", "->"].includes(pair));
+    if (mark === undefined || depth > 0 || isQuery) return undefined;
+    const hasNeck = here.some(({ text }) => text === ":-"), isHead = here.length > 0 && !hasNeck;
+    if (isHead) return mark === "--" ? cause("there are no grammars with -->", CLAUSE) : cause(`${mark} is written :-`, CLAUSE);
+    return mark === "<-" ? cause("there is no <-", "to bind a variable write =, as X = f(Y), to compute :=, as X := Y + 1") : undefined;
+  }
+
+  const MARKS = new Set([":-", ":=", "=<", ">="]);
+
+  /** A mark that a blank stands in. */
+  function splitMark({ token, before, next }) {
+    const joined = [[before, token], [token, next]].filter(([left, right]) => left !== undefined && left.line === right.line && !touches(left, right)).map(([left, right]) => left.text + right.text);
+    const mark = joined.find((pair) => MARKS.has(pair));
+    return mark === undefined ? undefined : cause(`a blank stands within ${mark}`, `write ${mark} in one piece`);
+  }
+
   function foreignPair({ token, before, next }) {
     const pairs = [touches(before, token) ? before.text + token.text : "", touches(token, next) ? token.text + next.text : ""];
     const found = pairs.find((pair) => Object.hasOwn(Habits.PAIRS, pair));
     return found === undefined ? undefined : cause(...Habits.PAIRS[found]);
   }
 
+  /** Where a comment took the rest of an expression's line: % is no operator. */
+  function commentInExpression({ text, token, before, here }) {
+    const isExpression = here.some((other) => other.text === ":=" || COMPARISONS.has(other.text));
+    if (!isExpression || !endsTerm(before) || before.line === token.line) return undefined;
+    const rest = text.slice(before.end).split("\n")[0];
+    if (!/^[ \t]*%/.test(rest)) return undefined;
+    return { ...cause("% begins a comment, and is no operator", "the remainder is mod, as X mod 2"), after: before };
+  }
+
+  const OPERATORS = ["+", "-", "*", "/", "mod", "=", ":="];
+
   function endOfText({ token, here, isQuery, before }) {
     if (token.kind !== "end") return undefined;
+    const open = Tokens.openBrackets(here).at(-1), where = open && `${quoted(open)} of line ${open.line}, column ${open.column} is not closed`;
+    if (isQuery && open !== undefined) return cause("the query ends within brackets", where);
     if (isQuery) return cause(
-      here.length > 0 ? "the query ends too early" : "the query is empty", "write goals, as append([1],[2],R); for none: true");
-    const open = Tokens.openBrackets(here).at(-1);
-    const hint = open === undefined ? `write a full stop after ${quoted(before)}` : `${quoted(open)} of line ${open.line}, column ${open.column} is not closed`;
-    return { ...cause("the text ends within a clause", hint), after: before };
+      here.length > 0 ? "the query ends too early" : "the query is empty",
+      OPERATORS.includes(before?.text) ? `something is missing after ${quoted(before)}` : "write goals, as append([1],[2],R); for none: true");
+    return { ...cause("the text ends within a clause", where ?? `write a full stop after ${quoted(before)}`), after: before };
   }
 
   function beginning({ token, here, next, isQuery, before }) {
@@ -70,12 +100,12 @@ const SyntaxCauses = ((Tokens, Habits) => {
     if (token.kind === "variable") return cause(
       `${token.text} is a variable, and no ${isQuery ? "goal" : "clause"} begins with one`, `names of predicates begin with a small letter: ${token.text[0].toLowerCase()}${token.text.slice(1)}`);
     if (isQuery) return cause(`no goal begins with ${quoted(token)}`, "write goals, as append([1],[2],R)");
-    return cause(`no clause begins with ${quoted(token)}`, CLAUSE);
+    return cause(`no clause begins with ${quoted(token)}`, token.kind === "integer" ? "names of predicates begin with a small letter" : CLAUSE);
   }
 
   function foreignWord({ token, before, next }) {
     if (token.text === "mod" && next.text === "(") return cause("mod is an operator", "X mod 2, and not mod(X,2)");
-    if (token.text === "is" && before?.kind === "variable") return cause("`is` is written :=", `${before.text} := ..`);
+    if (token.text === "is" && before?.kind === "variable") return cause("`is` is written :=", `${before.text} := ..`, ...(next.text === "[" ? [`a term is given by =, as ${before.text} = [A|X]`] : []));
     if (token.kind === "name" && Object.hasOwn(Habits.WORDS, token.text) && endsTerm(before)) return cause(...Habits.WORDS[token.text]);
     if (before?.kind === "name" && Object.hasOwn(Habits.WORDS, before.text) && before.text !== "is") return cause(...Habits.WORDS[before.text]);
     return undefined;
@@ -88,6 +118,7 @@ const SyntaxCauses = ((Tokens, Habits) => {
     if (isFraction(first, before, token) || isFraction(before, token, next)) return cause("there are no fractions", "numbers are integers of 64 bits");
     if (before?.kind === "integer" && touches(before, token) && (token.kind === "name" || token.kind === "variable")) return cause(
       `${quoted(token)} cannot follow ${quoted(before)}`, BEHIND_NUMBER);
+    if (token.text === "+" && next.kind === "integer" && !endsTerm(before)) return cause("there is no + before a number", `write ${next.text}`);
     if (token.text === "-" && next.kind === "integer" && !touches(token, next) && !endsTerm(before)) return cause(
       "a space stands between the sign and the number", `write -${next.text}`);
     return undefined;
@@ -95,7 +126,7 @@ const SyntaxCauses = ((Tokens, Habits) => {
 
   const BEFORE_OPERAND = new Set([":=", "<", ">", "=<", ">=", "=:=", "=\\=", "+", "-", "*", "/", "mod", "(", "|"]);
 
-  function arithmetic({ token, before, depth, here, later }) {
+  function arithmetic({ token, before, next, depth, here, later }) {
     const isOperator = ["+", "-", "*", "/", "mod"].includes(token.text);
     if (token.text === "-" && before?.text !== "(" && BEFORE_OPERAND.has(before?.text)) return cause(
       "there is no minus before a variable or a bracket", "write 0 - X");
@@ -103,16 +134,40 @@ const SyntaxCauses = ((Tokens, Habits) => {
     if (token.text.startsWith("-") && token.kind === "integer" && depth > 0) return cause(...ARGUMENT);
     if (isOperator && [...here, ...later].some(({ text }) => text === "=")) return cause("= does not compute", "to compute write :=, as Y := X + 1");
     if (token.text === ":=") return cause("only a variable stands before :=", "turn it round, as X := 3, or compare numbers by =:= in the guard");
+    if (token.kind === "name" && next.text === "(" && BEFORE_OPERAND.has(before?.text) && here.at(-1)?.text !== "|" && here.some(({ text }) => text === ":=" || COMPARISONS.has(text))) return cause(
+      `${token.text} is no operator, and nothing computes it`, `let a process give the value: ${token.text}(..,V), and then X := V`, "to name a term write =");
     if (token.kind === "name" && BEFORE_OPERAND.has(before?.text) && here.some(({ text }) => text === ":=" || COMPARISONS.has(text))) return cause(
       `${quoted(token)} is no number`, "an expression has variables, integers, + - * / mod and brackets; to name a term write =");
     return undefined;
   }
 
-  function bars({ token, before, here, depth }) {
+  /** What stands in the list that is open, outside of brackets within it; undefined where none is. */
+  function inList(here) {
+    const open = Tokens.openBrackets(here).at(-1);
+    if (open?.text !== "[") return undefined;
+    let depth = 0;
+    return here.slice(here.indexOf(open) + 1).filter((token) => {
+      const isOutside = depth === 0;
+      depth += Tokens.depthOf([token]);
+      return isOutside;
+    });
+  }
+
+  /** May the last goal before a guard's bar be a test? An expression without a comparison is none. */
+  function isTest(here) {
+    const start = here.findLastIndex(({ text }, place) => [",", ":-"].includes(text) && Tokens.depthOf(here.slice(0, place)) === 0), goal = here.slice(start + 1);
+    const isExpression = goal[0]?.kind === "integer" || (goal.length > 1 && goal.some(({ text }) => ["+", "-", "*", "/", "mod"].includes(text)));
+    return start < 0 || !isExpression || hasComparison(goal) || Tokens.depthOf(here) > 0;
+  }
+
+  function bars({ token, before, here }) {
     const hasBar = Tokens.barOutside(here) >= 0;
     if (token.text === "|" && before?.text === ":-") return cause("the guard is empty", "write true |, or leave out the bar too");
-    if (token.text === "|" && depth > 0 && here.some(({ text }) => text === "|")) return cause(
-      "one tail stands after the bar of a list", "[A,B|C], and not [A|B|C]");
+    const list = inList(here), hasTail = list?.some(({ text }) => text === "|");
+    if (hasTail && ["|", ","].includes(token.text) && endsTerm(before)) return cause("one tail stands after the bar of a list", "[A,B|C], and not [A|B|C]");
+    if (list !== undefined && token.text === "]" && before.text === "|") return cause("no tail stands after the bar of the list", "write it, as [A|X], or drop the bar");
+    if (token.text === "|" && before?.text === "[") return cause("a term is expected after '['", "write it, or drop the mark");
+    if (token.text === "|" && !isTest(here)) return cause("an expression is no test", "compare it, as X mod 2 =:= 0");
     if (token.text === "|" && before?.kind === "variable") return cause(`${quoted(before)} is no test`, "to wait until it is bound write wait(X)");
     if (token.text === "|" && hasBar) return cause(
       "a second bar in one clause", "a clause is head :- guard | body. with one bar: all tests stand before it");
@@ -184,8 +239,10 @@ const SyntaxCauses = ((Tokens, Habits) => {
   }
 
   /** What stands within brackets is terms with commas between them. */
-  function withinBrackets({ token, before, depth }) {
+  function withinBrackets({ token, before, here, depth }) {
     if (depth === 0) return undefined;
+    const callee = here[here.indexOf(Tokens.openBrackets(here).at(-1)) - 1]?.text;
+    if (callee === "not" && ["=", ":="].includes(token.text)) return cause(...Habits.WORDS.not);
     if (["=", ":="].includes(token.text) || COMPARISONS.has(token.text)) return cause("an argument is a term, and no goal or test", "write the goal before or after this one, with a comma between them");
     if (["(", "["].includes(before?.text) && [",", "|"].includes(token.text)) return cause(`a term is expected after ${quoted(before)}`, "write it, or drop the mark");
     if (before?.text === "(" && token.kind === "name") return cause("brackets group expressions alone", "write goals and terms without them");
@@ -196,6 +253,12 @@ const SyntaxCauses = ((Tokens, Habits) => {
     if (token.text !== "instream") return undefined;
     if (isQuery) return cause("instream takes a variable", "write instream(S), and feed it by `in 1 TERM`");
     return cause("instream stands in queries alone", "give the process a variable, and write instream(S) in the query");
+  }
+
+  /** A name that is written with a hyphen, as my-pred. */
+  function hyphen({ token, before, next }) {
+    if (token.text !== "-" || before?.kind !== "name" || next.kind !== "name" || !touches(before, token) || !touches(token, next)) return undefined;
+    return cause("a name has no hyphen", `write ${before.text}_${next.text}`);
   }
 
   function neighbours({ token, before, isQuery }) {
@@ -218,6 +281,7 @@ const SyntaxCauses = ((Tokens, Habits) => {
   function afterMark({ token, before, isQuery }) {
     if (before?.text === ",") return cause(
       `a goal or a term is expected after the comma, and ${quoted(token)} is none`, "drop the comma, or write what is missing");
+    if (token.text === "(" && before?.text === "=") return cause("brackets group expressions alone", "a pair is a structure, as pair(1,2)");
     if (["=", ":="].includes(before?.text)) return cause(
       `${quoted(token)} cannot stand after ${quoted(before)}`, before.text === "=" ? "a term stands there, as [A|X]" : "an expression stands there, as X + 1");
     if ([":-", "|"].includes(before?.text)) return cause(`no goal begins with ${quoted(token)}`, isQuery ? GOALS : CLAUSE);
@@ -229,7 +293,7 @@ const SyntaxCauses = ((Tokens, Habits) => {
   }
 
   const RULES = [
-    badToken, foreignMark, foreignPair, numbers, comparisonAfterBar, comparison, variableAsGoal, endOfText, streams, beginning, foreignWord,
+    badToken, splitMark, foreignMark, arrow, foreignPair, hyphen, commentInExpression, numbers, comparisonAfterBar, comparison, variableAsGoal, endOfText, streams, beginning, foreignWord,
     clauseInQuery, secondNeck, bars, arithmetic, brackets, afterHead, withinBrackets, neighbours, afterMark, anything,
   ];
 

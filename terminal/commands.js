@@ -3,7 +3,8 @@
 
 const { nearest } = require("../model/nearest.js");
 
-// `own` are those that the terminal answers itself; all others are lines of the console.
+// `own` are those that the terminal answers itself; all others are lines of the console. One that `isNewer` is answered by the terminal
+// where the console does not know it.
 const COMMANDS = [
   { name: "step", form: "step [G [C]]", tells: "reduce goal G, by clause C; alone: the first goal that is ready" },
   { name: "leap", form: "leap [K]", tells: "run on, for K steps at most" },
@@ -12,18 +13,21 @@ const COMMANDS = [
   { name: "undo", form: "undo [N]", tells: "take back step N alone; alone: the last step" },
   { name: "roll", form: "roll N", tells: "take back step N with all that depends on it" },
   { name: "redo", form: "redo N", tells: "put step N there again" },
+  { name: "keep", form: "keep X or G", tells: "take back all but what variable X, or goal G, rests on", isNewer: true },
   { name: "shelf", form: "shelf", tells: "list what was taken back" },
   { name: "arrange", form: "arrange N ..", tells: "put the kept steps into another lawful order" },
   { name: "goals", form: "goals", tells: "list the goals, each with its status" },
   { name: "show", form: "show [X]", tells: "the value of variable X; alone: of all variables of the query" },
   { name: "stuck", form: "stuck", tells: "why nothing goes on: who waits for whom", own: true },
   { name: "holders", form: "holders X", tells: "the goals that have X, and so could bind it", own: true },
-  { name: "clauses", form: "clauses G", tells: "what each clause says to goal G: yes, waits, or no and why", asks: true },
+  { name: "clauses", form: "clauses G", tells: "what each clause says to goal G: yes, waits, or no and why", isNewer: true },
   { name: "records", form: "records [P]", tells: "list the kept steps; those of predicate P, as price/2, alone" },
-  { name: "goal", form: "goal N", tells: "the goal that step N took, and its clause", asks: true },
+  { name: "goal", form: "goal N", tells: "the goal that step N took, and its clause", isNewer: true },
   { name: "why", form: "why N", tells: "on which steps step N depends" },
   { name: "who", form: "who X", tells: "which steps bound X" },
-  { name: "explain", form: "explain X", tells: "where the value of X comes from, all the way", asks: true },
+  { name: "since", form: "since N", tells: "list the kept steps from step N on", isNewer: true },
+  { name: "causes", form: "causes", tells: "which step depends on which, all of it", isNewer: true },
+  { name: "explain", form: "explain X or G", tells: "where the value of X comes from, all the way; why goal G waits or has failed", isNewer: true },
   { name: "list", form: "list [P]", tells: "the program's clauses, with their numbers; those of predicate P alone", own: true },
   { name: "watch", form: "watch X", tells: "run until X is bound", own: true },
   { name: "stat", form: "stat", tells: "how many steps of which predicate, and the longest chain of causes", own: true },
@@ -70,12 +74,20 @@ function isVariable(word, variables) {
   return variables.includes(word) || (VARIABLE.test(word) && (word.length === 1 || commandOf(word) === undefined));
 }
 
+const CALLED = /^([a-z]+)\((.*)\)\.?$/;
+
+/** A command that is written like a call, as `step(1.2)`, as it is written elsewhere; any other line as it is. */
+function uncalled(text) {
+  const [, name, given] = CALLED.exec(text) ?? [];
+  return byName.has(name) && !FREE.has(name) ? `${name} ${given}` : text;
+}
+
 /** What a typed line means: a command's name and words, and the line of the console that says so. `variables` are the query's. */
 function meaningOf(typed, variables = []) {
-  const text = typed.trim(), words = text.split(/[ \t]+/);
+  const text = uncalled(typed.trim()), words = text.split(/[ \t]+/);
   const first = byName.has(words[0]) ? words[0] : bare(words[0]) || words[0];
   if (words.length === 1 && isVariable(first, variables)) return { name: "show", words: [first], line: `show ${first}` };
-  const name = commandOf(first);
+  const name = words.length > 1 && variables.includes(first) ? undefined : commandOf(first);
   if (name === undefined) return { name: undefined, words: words.slice(1), line: typed };
   const rest = text.slice(words[0].length).trim();
   if (FREE.has(name)) return { name, words: rest === "" ? [] : rest.split(/ +/), line: rest === "" ? name : `${name} ${rest}` };
@@ -93,6 +105,14 @@ const ELSEWHERE = {
   edit: "edit the file elsewhere, then restart", set: "ask X = TERM binds a variable that is unbound", jump: "roll N goes back to before step N",
   until: "watch X runs until X is bound", cut: "there is no cut: step G C takes goal G by clause C", fail: "there is no fail: roll N takes a step back",
 };
+
+const GOAL = /^[A-Za-z_]\w*\s*(\(|:?=)/;
+
+/** What a line that is no command may be meant to be, in words. */
+function suggestionFor(typed) {
+  const text = typed.trim();
+  return GOAL.test(text) ? `no such command; ask adds goals: ask ${text.replace(/\.$/, "")}` : suggestion(text.split(/\s+/)[0]);
+}
 
 /** Which word was meant, in words. */
 function suggestion(word) {
@@ -141,4 +161,4 @@ function helpLines(words) {
   return [...COMMANDS.map(helpLine), "A beginning of a word will do where it is clear; G is a goal, as 1.2, N a step's number, X a variable, P a predicate."];
 }
 
-module.exports = { COMMANDS, NAMES, REFUSALS, commandOf, meaningOf, helpLines, usageOf, suggestion, asksConsole: (name) => byName.get(name)?.asks === true };
+module.exports = { COMMANDS, NAMES, REFUSALS, commandOf, meaningOf, helpLines, usageOf, suggestionFor, isNewer: (name) => byName.get(name)?.isNewer === true };

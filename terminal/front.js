@@ -6,7 +6,7 @@ const fs = require("node:fs");
 const Causes = require("../model/causes.js");
 const { Ended } = require("./program.js");
 const { Session, isRefusal } = require("./session.js");
-const { asksConsole, helpLines, meaningOf, suggestion, usageOf } = require("./commands.js");
+const { helpLines, isNewer, meaningOf, suggestionFor, usageOf } = require("./commands.js");
 const Own = require("./own.js");
 const { notesAfter, plural } = require("./telling.js");
 
@@ -17,6 +17,7 @@ const PROMPT_STEPS = 1000; // a run of so many steps ends soon: it is not prepar
 const MOST_WATCHED = 1_000_000;
 const ASK_AGAIN = { quit: "quit again ends", restart: "restart again begins anew" };
 
+const NOT_WRITTEN = { ENOENT: "its folder is not there", EACCES: "writing it is not allowed", EISDIR: "it is a folder", EROFS: "writing it is not allowed", ENOSPC: "the disk is full" };
 const RUN_ENDED = "the run was ended; the session stands as before it. leap 1000 runs for 1000 steps at most";
 
 // What is thrown where ^C came before a run was begun.
@@ -93,13 +94,14 @@ class Front {
   async passOn(meaning, typed) {
     const reply = await this.session.ask(typed);
     reply.forEach((line) => this.out(line));
-    if (reply[0] === "F25 command") this.note(suggestion(typed.trim().split(/\s+/)[0]));
+    if (reply[0] === "F25 command") this.note(suggestionFor(typed));
   }
 
   async act(meaning, typed) {
+    if (isNewer(meaning.name)) return this.askNewer(meaning, typed);
     const own = this[`on_${meaning.name}`];
-    if (own !== undefined && await own.call(this, meaning, typed) !== false) return;
-    await this.send(meaning, typed);
+    if (own !== undefined && await own.call(this, meaning, typed) !== false) return undefined;
+    return this.send(meaning, typed);
   }
 
   /** Sends a line of the console, and tells its reply with what is to be added. */
@@ -211,26 +213,29 @@ class Front {
     return true;
   }
 
-  on_goal(meaning, typed) {
-    return this.askFirst(meaning, typed);
-  }
-
-  on_clauses(meaning, typed) {
-    return this.askFirst(meaning, typed);
-  }
-
-  on_explain(meaning, typed) {
-    return this.askFirst(meaning, typed);
-  }
-
-  /** The console is asked first; where it does not know the command, it is answered from the run. */
-  async askFirst(meaning, typed) {
-    if (meaning.words.length !== 1) return this.note(usageOf(meaning.name));
-    const reply = asksConsole(meaning.name) ? await this.session.ask(meaning.line) : ["F25 command"];
-    if (reply[0] === "F25 command") return this.note(...await Own[meaning.name](this.session, meaning.words));
-    if (typed.trim() !== meaning.line) this.note(`sent: ${meaning.line}`);
+  /** A newer command of the console: where the console does not know it, it is answered from the run. */
+  async askNewer({ name, words: given }, typed) {
+    if (given.length !== (name === "causes" ? 0 : 1)) return this.note(usageOf(name));
+    const words = given.map((word) => this.variableFor(name, word)), line = [name, ...words].join(" ");
+    const reply = await this.session.askNewer(line);
+    if (reply === undefined) return this.note(...await Own[name](this.session, words, (roll) => this.rolled(roll)));
+    if (typed.trim() !== line) this.note(`sent: ${line}`);
     this.show(reply);
-    return this.note(...await notesAfter(this.session, meaning, reply));
+    return this.note(...await notesAfter(this.session, { name, words, line }, reply));
+  }
+
+  /** A variable as the console knows it: by its name in the query, else as `_n_m`, where the text gives the name to one of a step. */
+  variableFor(name, word) {
+    const isOfQuery = this.session.variables.includes(word) || !["explain", "keep"].includes(name);
+    return isOfQuery ? word : Own.variablesOf(this.session, word)[0] ?? word;
+  }
+
+  /** A rollback that stands for a part of what was typed. */
+  async rolled(line) {
+    this.note(`sent: ${line}`);
+    const reply = await this.session.ask(line);
+    this.show(reply);
+    return reply;
   }
 
   async on_watch({ words: [name] }) {
@@ -258,7 +263,7 @@ class Front {
       return this.note(refusal === undefined ? `saved in ${file}; --load ${file} goes on from it` : "save alone writes a history with what was asked for");
     } catch (error) {
       if (error instanceof Ended) throw error;
-      return this.note(`${file}: ${error.message}`);
+      return this.note(`${file}: ${NOT_WRITTEN[error.code] ?? error.message}; nothing was saved`);
     }
   }
 

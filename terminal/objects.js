@@ -44,10 +44,54 @@ function cause(line) {
 
 const told = (reply) => (reply[0] === "none" ? [] : reply);
 
+const valueOf = (line) => ({ variable: line.slice(0, line.indexOf(" ")), value: line.slice(line.indexOf(" = ") + 3) });
+
+const OTHERS = / or ([\d,]+)$/;
+
+/** A step of an explanation, with the other clauses that could have been taken in its place. */
+function explainedStep(line, textOf) {
+  const others = OTHERS.exec(line), [record] = Graph.readRecords([line.replace(OTHERS, "")]);
+  return record && { ...step(record, textOf), ...(others && { others: others[1].split(",").map(Number) }) };
+}
+
+/** What an explanation tells: of a variable its value, of a goal its line; who could bind what is unbound; the steps, and of how many. */
+function explanation(reply, textOf) {
+  const [first] = reply, [, of] = /^steps \d+ of (\d+)$/.exec(reply.at(-1)) ?? [], [subject] = Graph.readGoals([first]);
+  const holders = reply.map((line) => /^(_\d+_\d+) in (\d+\.\d+) (.+)$/.exec(line)).filter(Boolean).map(([, variable, name, status]) => ({ variable, goal: name, status }));
+  const steps = reply.map((line) => explainedStep(line, textOf)).filter(Boolean);
+  return { ...(subject ? { goal: goal(subject) } : valueOf(first)), holders, steps, ...(of && { of: Number(of) }) };
+}
+
+/** A direct dependence: the step, and what `why` tells of it. */
+function dependence(line) {
+  const [number] = line.split(" ", 1);
+  const { step: on, ...how } = cause(line.slice(number.length + 1));
+  return { step: Number(number), on, ...how };
+}
+
+const TAKEN = /^(\d+) (?:(\d+\.\d+) (by \d+|eq|is|end|in \S+) (.*)|- (ask .*))$/;
+
+/** The goal that a step took, as it was written then. */
+function taken(line) {
+  const [, number, name, act, text, asked] = TAKEN.exec(line);
+  return { step: Number(number), goal: name ?? null, act: act ?? asked, text: text ?? null };
+}
+
+/** What a clause says to a goal. */
+function choice(line) {
+  const [number, says, variables] = line.split(" ");
+  return { clause: Number(number), says, ...(variables && { waitsFor: variables.split(",") }) };
+}
+
 const REPLIES = {
   records: (reply, textOf) => ({ steps: Graph.readRecords(reply).map((record) => step(record, textOf)) }),
+  since: (reply, textOf) => ({ steps: Graph.readRecords(reply).map((record) => step(record, textOf)) }),
+  goal: ([line]) => (TAKEN.test(line) ? taken(line) : { lines: [line] }),
+  clauses: (reply) => ({ clauses: reply.map(choice) }),
+  explain: explanation,
+  causes: (reply) => ({ dependences: told(reply).map(dependence) }),
   goals: (reply) => ({ goals: Graph.readGoals(reply).map(goal) }),
-  show: ([line]) => ({ variable: line.slice(0, line.indexOf(" ")), value: line.slice(line.indexOf(" = ") + 3) }),
+  show: ([line]) => valueOf(line),
   why: (reply) => ({ causes: told(reply).map(cause) }),
   who: (reply) => ({ bound: told(reply).map((line) => line.split(" by ")).map(([variable, number]) => ({ variable, step: Number(number) })) }),
   shelf: (reply) => ({ steps: Graph.readShelf(reply).map(({ number, goal: name, act }) => ({ step: number, goal: name, act })) }),

@@ -4,9 +4,10 @@
 const Choices = require("../model/choices.js");
 const Graph = require("../web/graph.js");
 const Print = require("../model/print.js");
-const Reader = require("../model/reader.js");
+const Slice = require("../model/slice.js");
 const Stuck = require("../model/stuck.js");
-const { plural } = require("./telling.js");
+const { isRefusal } = require("./session.js");
+const { clauseLines, plural, whyFailed } = require("./telling.js");
 
 const SHOWN = 70; // letters of a goal or a value that are shown
 const DEEPEST = 12, LONGEST = 24; // links of an explanation, and its lines
@@ -58,12 +59,7 @@ async function goal(session, [word]) {
   const run = await session.look(), step = session.kept.steps.get(Number(word));
   if (step === undefined) return [`step ${word} is not kept`];
   if (step.goal === null) return [`step ${step.number} consumed no goal: ${step.act}`];
-  const lines = [`step ${step.number} took ${step.goal}: ${run.textOf(step.goal)}`];
-  if (step.clause === null) return [...lines, step.act];
-  const clause = session.clauses[step.clause - 1], values = [...run.environmentOf(step.number) ?? []].filter(([name]) => Reader.isWritten(name));
-  lines.push(`by clause ${clause.number}: ${clause.text.replace(/\s*\n\s*/g, " ")}`);
-  if (values.length > 0) lines.push(`with ${values.map(([name, term]) => `${name} = ${Print.term(term, { store: run, most: 40 })}`).join(", ")}`);
-  return lines;
+  return [`step ${step.number} took ${step.goal}: ${run.textOf(step.goal)}`, ...(step.clause === null ? [step.act] : clauseLines(session, step))];
 }
 
 /** A step that bound a variable, and who made its goal. */
@@ -80,7 +76,22 @@ function innerVariables(run, variable, number) {
   return [...new Set([...reads, ...Graph.variablesIn(term)])].filter((other) => other !== variable);
 }
 
+const isGoal = (word) => /^\d+\.\d+$/.test(word);
+
+/** A goal as `goals` has it, for what it waits or why it has failed, and the steps that led to it. */
+async function explainGoal(session, name) {
+  const run = await session.look(), goals = await session.goals(), goal = goals.find((one) => one.name === name), lines = [];
+  if (goal === undefined) return [`no goal ${name} is there; goals lists those that are`];
+  const status = [goal.status, goal.waitsFor.join(","), goal.refusal].filter(Boolean).join(" ");
+  const why = goal.status === "failed" ? await whyFailed(session, name, goal.refusal) : Stuck.linesOfGoal(goals, name, (variable) => run.labelOf(variable));
+  for (let step = run.makerOf(name); step !== undefined && lines.length < DEEPEST; step = step.goal === null ? undefined : run.makerOf(step.goal)) {
+    lines.push(`made by step ${step.number}: ${step.goal === null ? "" : `${cut(run.textOf(step.goal))} `}${step.act}`);
+  }
+  return [`${name} ${status} ${cut(goal.text)}`, ...why, ...lines];
+}
+
 async function explain(session, [word]) {
+  if (isGoal(word)) return explainGoal(session, word);
   const run = await session.look(), lines = [], told = new Set();
   const left = variablesOf(session, word).slice(0, 1).map((variable) => ({ variable, depth: 0 }));
   while (left.length > 0 && lines.length < LONGEST) {
@@ -95,6 +106,36 @@ async function explain(session, [word]) {
   }
   if (left.length > 0) lines.push(".. explain one of these variables for more ..");
   return lines.length > 0 ? lines : [`${word} is no variable of the run`];
+}
+
+async function since(session, [word]) {
+  const number = Number(word);
+  if (!session.kept.steps.has(number)) return [`step ${word} is not kept; records lists the kept steps`];
+  const lines = await session.ask("records");
+  return lines.slice(lines.findIndex((line) => line.startsWith(`${number} `)));
+}
+
+async function causes(session) {
+  const graph = Graph.graphOf(Graph.readRecords(await session.ask("records"))), lines = [];
+  for (const { number } of graph.steps) lines.push(...Graph.whyLines(graph, number).filter((line) => line !== "none").map((line) => `${number} ${line}`));
+  return lines.length > 0 ? lines : ["no step depends on another one"];
+}
+
+/** The steps on which the variable or the goal of a word rests; or what is wrong with the word. */
+async function keptSteps(session, [word]) {
+  const run = await session.look(), [variable] = isGoal(word) ? [] : variablesOf(session, word);
+  if (isGoal(word) && (await session.goalNamed(word)) === undefined) return { wrong: `no goal ${word} is there; goals lists those that are` };
+  if (isGoal(word)) return { steps: Slice.ofGoal(run, word) };
+  const isKnown = variable !== undefined && !isRefusal(await session.ask(`show ${variable}`));
+  return isKnown ? { steps: Slice.ofVariable(run, variable) } : { wrong: `${word} is no variable of the run` };
+}
+
+/** Takes back all but what a variable or a goal rests on, by rollbacks; `roll` does each, and hears its line. Lines that tell the end. */
+async function keep(session, words, roll) {
+  const { wrong, steps } = await keptSteps(session, words), next = () => session.kept.firstBeside(steps ?? session.kept.steps);
+  if (wrong !== undefined) return [wrong];
+  for (let number = next(); number !== undefined; number = next()) if (isRefusal(await roll(`roll ${number}`))) break;
+  return [`kept ${session.kept.steps.size}`];
 }
 
 /** The longest chain of causes. */
@@ -117,4 +158,4 @@ async function stat(session) {
   return [...lines, `${plural(steps.length, "step")}, longest chain of causes ${chain}: on average ${(steps.length / Math.max(1, chain)).toFixed(1)} at once`];
 }
 
-module.exports = { list, stuck, holders, clauses, records, goal, explain, stat };
+module.exports = { list, stuck, holders, clauses, records, goal, explain, since, causes, keep, variablesOf, stat };

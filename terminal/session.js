@@ -5,6 +5,7 @@
 const fs = require("node:fs");
 const os = require("node:os");
 const path = require("node:path");
+const Choices = require("../model/choices.js");
 const Graph = require("../web/graph.js");
 const Kept = require("../model/kept.js");
 const Reader = require("../model/reader.js");
@@ -13,6 +14,16 @@ const Program = require("./program.js");
 const { readWords, wordsFrom } = require("./words.js");
 
 const isRefusal = (reply) => /^F\d+ (?!= )/.test(reply[0] ?? ""); // `F1 = 2` is the value of a variable
+
+// Commands that not every console knows, each with the forms of its words: a console may know a command for variables and not for goals.
+const GOAL = /^\d+\.\d+$/, VARIABLE = /^([A-Z]\w*|_\d+_\d+)$/, NUMBER = /^[1-9]\d*$/;
+const NEWER = { explain: [GOAL, VARIABLE], keep: [GOAL, VARIABLE], goal: [NUMBER], clauses: [GOAL], since: [NUMBER], causes: [/^$/] };
+
+/** A newer command with the form of its words, as a name; undefined where the words are of no form. */
+function formOf(line) {
+  const [name, ...words] = line.trim().split(/ +/), place = NEWER[name].findIndex((form) => words.length < 2 && form.test(words.join(" ")));
+  return place < 0 ? undefined : `${name} ${place}`;
+}
 
 // What is thrown where the console refuses to list the goals, since one of them is too long to print.
 class NotTold extends Error {}
@@ -33,6 +44,7 @@ class Session {
     this.native = native;
     this.given = readWords(words);
     this.savedAt = 0; // the number of changes when the session was saved last
+    this.unknown = new Set(); // forms of newer commands that the console has been found not to know
   }
 
   /** Begins anew with the files as they are now. Throws `Program.Ended` where ghcdb refuses them. */
@@ -68,6 +80,29 @@ class Session {
     return reply;
   }
 
+  /** The reply to a line of a newer command; undefined where the console does not know it so. For each form it is asked for that once. */
+  async askNewer(line) {
+    const form = formOf(line);
+    if (form === undefined || this.unknown.has(form)) return undefined;
+    const reply = await this.ask(line);
+    if (reply[0] !== "F25 command") return reply;
+    this.unknown.add(form);
+    return undefined;
+  }
+
+  /** The numbers of the clauses that say yes to a goal. */
+  async clausesSayingYes(goal) {
+    const reply = await this.askNewer(`clauses ${goal}`);
+    if (reply !== undefined) return reply.map((line) => /^(\d+) yes$/.exec(line)).filter(Boolean).map(([, number]) => Number(number));
+    return Choices.choicesOf(await this.look(), goal).filter(({ says }) => says === "yes").map(({ clause }) => clause.number);
+  }
+
+  /** The goal that a kept step took, as it was written then. */
+  async goalTaken({ number, goal }) {
+    const [line] = await this.askNewer(`goal ${number}`) ?? [], [, text] = /^\d+ \d+\.\d+ (?:by \d+|eq|is|end|in \S+) (.*)$/.exec(line) ?? [];
+    return text ?? (await this.look()).textOf(goal);
+  }
+
   /** The goals as they stand. Throws `NotTold` where the console lists none. */
   async goals() {
     if (this.seen.goals !== this.kept.changes) {
@@ -83,13 +118,18 @@ class Session {
     return (await this.goals()).find((goal) => goal.name === name);
   }
 
-  /** The run with all that `records` tells of it. */
+  /** The run with all that `records` tells of it; only what is not known yet is asked for. */
   async look() {
-    if (this.seen.records !== this.kept.changes) {
-      this.run.learn(await this.program.ask("records"));
-      this.seen.records = this.kept.changes;
-    }
-    return this.run;
+    if (this.seen.records === this.kept.changes) return this.run;
+    const { run, kept } = this;
+    run.forget(kept.takeRemoved());
+    const first = kept.firstBeside(run.records);
+    const since = run.records.size === 0 || first === undefined ? undefined : await this.askNewer(`since ${first}`);
+    if (first === undefined) run.learnMore([]);
+    else if (since !== undefined && !isRefusal(since)) run.learnMore(since);
+    else run.learn(await this.ask("records"));
+    this.seen.records = kept.changes;
+    return run;
   }
 
   /** Keeps what brings the session back where a run has to be ended. */

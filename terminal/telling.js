@@ -4,6 +4,7 @@
 const Causes = require("../model/causes.js");
 const Choices = require("../model/choices.js");
 const Print = require("../model/print.js");
+const Reader = require("../model/reader.js");
 const Stuck = require("../model/stuck.js");
 const { nearest } = require("../model/nearest.js");
 const { REFUSALS } = require("./commands.js");
@@ -167,9 +168,47 @@ function afterGoals(session, reply) {
   return named.length === 0 ? [] : [`waited for: ${some(named.map(labelOf(session))).join(", ")}`];
 }
 
-function afterWho(session, reply) {
-  const named = reply.map((line) => line.split(" ")[0]).filter((variable) => session.run.nameOf(variable) !== undefined);
+/** The names that the text gives to variables that begin lines. */
+function namesOfFirst(session, lines) {
+  const named = [...new Set(lines.map((line) => line.split(" ")[0]))].filter((variable) => session.run.nameOf(variable) !== undefined);
   return named.length === 0 ? [] : [some(named.map(labelOf(session))).join(", ")];
+}
+
+/** The clause by which a step was taken, and what its variables stand for, as far as records have told it. */
+function clauseLines({ run, clauses }, step) {
+  const clause = clauses[step.clause - 1], values = [...run.environmentOf(step.number) ?? []].filter(([name]) => Reader.isWritten(name));
+  const shown = values.map(([name, term]) => `${name} = ${Print.term(term, { store: run, most: 40 })}`).join(", ");
+  return [`by clause ${clause.number}: ${clause.text.replace(/\s*\n\s*/g, " ")}`, ...(shown === "" ? [] : [`with ${shown}`])];
+}
+
+async function afterGoal(session, [word]) {
+  const step = session.kept.steps.get(Number(word));
+  if (step === undefined || step.clause === null) return [];
+  await session.look();
+  return clauseLines(session, step);
+}
+
+/** The names that the text gives to the variables of a reply. */
+function namesOfAll(session, reply) {
+  const named = [...new Set(reply.flatMap((line) => line.match(/\b_\d+_\d+\b/g) ?? []))].filter((variable) => session.run.nameOf(variable) !== undefined);
+  return named.length === 0 ? [] : [some(named.map(labelOf(session))).join(", ")];
+}
+
+/** After an explanation: variables by the names of the text, and at which steps another clause could be taken. */
+function afterExplain(session, reply) {
+  const others = reply.map((line) => /^(\d+) (\d+\.\d+) by \d+ reads .* or ([\d,]+)$/.exec(line)).filter(Boolean);
+  const lines = others.map(([, number, goal, clauses]) => {
+    const [first, ...more] = clauses.split(",");
+    return `another clause than step ${number} took: roll ${number}, step ${goal} ${first}${more.length > 0 ? ` (or ${more.join(", ")})` : ""}`;
+  });
+  return [...namesOfFirst(session, reply), ...some(lines)];
+}
+
+/** After `keep`: what the last line counts. */
+function afterKeep(reply) {
+  const [, count] = /^kept (\d+)$/.exec(reply.at(-1)) ?? [];
+  if (count === undefined) return [];
+  return [`${plural(Number(count), "step")} left; shelf lists what was taken back, redo N puts a step there again`];
 }
 
 /** All that is added after a reply to a line of the console. */
@@ -179,8 +218,12 @@ async function notesAfter(session, meaning, reply) {
   if (last.startsWith("stopped ")) return afterStop(session, last);
   if (meaning.name === "show") return afterShow(session, reply);
   if (meaning.name === "goals") return afterGoals(session, reply);
-  if (meaning.name === "who") return afterWho(session, reply);
+  if (meaning.name === "who") return namesOfFirst(session, reply);
+  if (meaning.name === "explain") return afterExplain(session, reply);
+  if (meaning.name === "keep") return afterKeep(reply);
+  if (meaning.name === "goal") return afterGoal(session, meaning.words);
+  if (meaning.name === "clauses") return [...await whyNoClause(session, meaning.words[0]), ...namesOfAll(session, reply)];
   return afterSettling(session, reply);
 }
 
-module.exports = { notesAfter, whyNoClause, plural, some };
+module.exports = { notesAfter, clauseLines, whyNoClause, whyFailed, plural, some };

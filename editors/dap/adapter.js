@@ -40,6 +40,12 @@ class Adapter {
     this.send({ type: "event", event: name, body });
   }
 
+  /** Tells that the session has ended, once: there are clients that ask for its end again when they hear of it. */
+  tellEnd() {
+    if (!this.hasToldEnd) this.event("terminated");
+    this.hasToldEnd = true;
+  }
+
   /** Tells lines in the editor's console; a step's line leads to its clause. */
   tell(lines, category = "console") {
     for (const line of lines) {
@@ -93,7 +99,7 @@ class Adapter {
   }
 
   wordsOf(error, command) {
-    if (error instanceof Ended) this.event("terminated");
+    if (error instanceof Ended) this.tellEnd();
     const words = error instanceof Refused || error instanceof Ended ? error.message : `${command}: ${error.message}`;
     return words.replace(/\{/g, "(").replace(/\}/g, ")");
   }

@@ -66,6 +66,7 @@ module.exports = {
     this.processes = new Processes(this.session);
     this.inside = new Inside(this.session);
     this.live = new Set();
+    this.hasToldEnd = false;
     this.frameTexts = new Map();
     this.textsNow = this.textsBefore = this.notedAt = undefined;
     this.breakpoints.spied = new Set();
@@ -151,7 +152,7 @@ module.exports = {
 
   async on_terminate() {
     await this.session?.end();
-    this.later(() => this.event("terminated"));
+    this.later(() => this.tellEnd());
   },
 
   // For a picture: what the page's picture is drawn of.

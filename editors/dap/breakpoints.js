@@ -2,7 +2,6 @@
 // predicate alone (`spy`); the rest is found out at each such stop.
 "use strict";
 
-const Choices = require("../../model/choices.js");
 const Print = require("../../model/print.js");
 const Reader = require("../../model/reader.js");
 
@@ -57,7 +56,7 @@ class Breakpoints {
    */
   async met(session, name, log) {
     const run = await session.look(), predicate = run.predicateOf(name), call = run.goalOf(name)?.call;
-    const saysYes = new Set(Choices.choicesOf(run, name).filter(({ says }) => says === "yes").map(({ clause }) => clause.number));
+    const saysYes = new Set(await session.clausesSayingYes(name));
     for (const point of [...this.clauses, ...this.predicates]) {
       if (point.predicate !== predicate || (point.clause !== undefined && !saysYes.has(point.clause))) continue;
       if (point.condition !== undefined && (call === undefined || !fits(point.condition, call, run))) continue;

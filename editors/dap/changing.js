@@ -3,7 +3,7 @@
 
 const { isRefusal } = require("../../terminal/session.js");
 const { notesAfter } = require("../../terminal/telling.js");
-const { suggestion, NAMES } = require("../../terminal/commands.js");
+const { suggestionFor, NAMES } = require("../../terminal/commands.js");
 const { goalsMade } = require("./told.js");
 const { refused } = require("./refused.js");
 
@@ -11,7 +11,12 @@ module.exports = {
   /** A line of the console as it was typed; where it changed the session, the editor hears of a stop. */
   async typed(line, word) {
     const before = this.session.kept.changes, reply = await this.session.ask(line);
-    if (reply[0] === "F25 command" && !NAMES.includes(word)) throw refused(suggestion(word));
+    if (reply[0] === "F25 command" && !NAMES.includes(word)) throw refused(suggestionFor(line));
+    return this.answered(line, word, reply, before);
+  },
+
+  /** A reply of the console with what is to be added; `before` is the number of changes before the line. */
+  async answered(line, word, reply, before) {
     if (!isRefusal(reply)) {
       if (this.session.kept.changes !== before) this.later(() => this.stoppedAnew(line));
       return reply;

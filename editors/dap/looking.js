@@ -2,10 +2,9 @@
 "use strict";
 
 const path = require("node:path");
-const Choices = require("../../model/choices.js");
 const Own = require("../../terminal/own.js");
 const Stuck = require("../../model/stuck.js");
-const { NAMES, commandOf, helpLines } = require("../../terminal/commands.js");
+const { NAMES, commandOf, helpLines, isNewer } = require("../../terminal/commands.js");
 const { completionsOf } = require("../../terminal/complete.js");
 const { whyNoClause } = require("../../terminal/telling.js");
 const { QUERY, STEPS, SHELF } = require("./places.js");
@@ -32,7 +31,7 @@ module.exports = {
     const steps = [];
     for (let step = run.makerOf(goal.name); step !== undefined; step = step.goal === null ? undefined : run.makerOf(step.goal)) steps.push(step);
     const shown = [goal, ...steps].slice(startFrame, startFrame + (levels || MOST_FRAMES));
-    if (shown.some((one) => one !== goal && one.goal !== null && this.frameText(one.goal) === undefined)) await this.session.look();
+    for (const one of shown) if (one !== goal && one.goal !== null && this.frameText(one.goal) === undefined) this.frameTexts.set(one.goal, await this.session.goalTaken(one));
     return { stackFrames: shown.map((one) => (one === goal ? this.frameOfGoal(goal) : this.frameOfStep(one))), totalFrames: steps.length + 1 };
   },
 
@@ -72,10 +71,9 @@ module.exports = {
   },
 
   async on_stepInTargets({ frameId }) {
-    const { kind, what } = this.inside.referred(frameId) ?? {};
-    const choices = kind === "goal" ? Choices.choicesOf(await this.session.look(), what.name) : [];
+    const { kind, what } = this.inside.referred(frameId) ?? {}, yes = kind === "goal" && what.sort === "call" ? await this.session.clausesSayingYes(what.name) : [];
     const label = ({ number, text }) => `clause ${number}: ${text.replace(/\s+/g, " ").slice(0, 90)}`;
-    return { targets: choices.filter(({ says }) => says === "yes").map(({ clause }) => ({ id: clause.number, label: label(clause) })) };
+    return { targets: yes.map((number) => ({ id: number, label: label(this.session.clauses[number - 1]) })) };
   },
 
   async on_gotoTargets({ source, line }) {
@@ -121,12 +119,20 @@ module.exports = {
     if (commandOf(word) === "help") return helpLines(words);
     if (["stuck", "stat"].includes(name)) return Own[name](this.session, words);
     if (["holders", "list"].includes(name) && words.length < 2) return Own[name](this.session, words);
-    if (["goal", "clauses", "explain"].includes(name) && words.length === 1) return this.askFirst(name, line, words);
+    if (isNewer(name) && words.length === (name === "causes" ? 0 : 1)) return this.askNewer(name, line, words);
     return this.typed(line, word);
   },
 
-  async askFirst(name, line, words) {
-    const reply = await this.session.ask(line);
-    return reply[0] === "F25 command" ? Own[name](this.session, words) : reply;
+  /** A newer command of the console: where the console does not know it, it is answered from the run. */
+  async askNewer(name, line, words) {
+    const before = this.session.kept.changes, reply = await this.session.askNewer(line), rolls = [];
+    if (reply !== undefined) return this.answered(line, name, reply, before);
+    const lines = await Own[name](this.session, words, async (roll) => {
+      const rolled = await this.session.ask(roll);
+      rolls.push(...rolled);
+      return rolled;
+    });
+    if (this.session.kept.changes !== before) this.later(() => this.stoppedAnew(line));
+    return [...rolls, ...lines];
   },
 };

@@ -58,6 +58,9 @@
     (setq configuration (plist-put configuration :program (buffer-file-name))))
   configuration)
 
+(declare-function dap-register-debug-provider "dap-mode")
+(declare-function dap-register-debug-template "dap-mode")
+
 (with-eval-after-load 'dap-mode
   (dap-register-debug-provider "ghcdb" #'fghc--provide)
   (dap-register-debug-template "Flat GHC" (list :type "ghcdb" :request "launch" :name "Flat GHC")))
@@ -68,7 +71,8 @@
 (declare-function dap--resp-handler "dap-mode")
 (declare-function dap--resume-application "dap-mode")
 (declare-function dap--send-message "dap-mode")
-(declare-function dape--request "dape")
+(declare-function dape--live-connection "dape")
+(declare-function dape--next-like-command "dape")
 
 (defun fghc--dap-send (request)
   "Send REQUEST about the process that is shown, by dap-mode."
@@ -77,17 +81,25 @@
                        (dap--resp-handler (lambda (_) (dap--resume-application session)))
                        session)))
 
+(defun fghc--send (request)
+  "Send REQUEST about the process that is shown.
+By dape where it debugs, else by dap-mode."
+  (let ((connection (and (fboundp 'dape--live-connection) (dape--live-connection 'stopped t))))
+    (if connection
+        (dape--next-like-command connection request)
+      (fghc--dap-send request))))
+
 (defun fghc-step-back ()
   "Take back the last step of the process that is shown."
   (interactive)
-  (fghc--dap-send "stepBack"))
+  (fghc--send "stepBack"))
 
 (defun fghc-reverse-continue ()
-  "Go back to the step that bound a watched variable, or to a breakpoint, or to the beginning."
+  "Go back to the step that bound a watched variable.
+Where none is watched go to a breakpoint, else to the beginning."
   (interactive)
-  (fghc--dap-send "reverseContinue"))
+  (fghc--send "reverseContinue"))
 
-;; dape, which is not tried here: M-x dape, ghcdb.
 (with-eval-after-load 'dape
   (when (boundp 'dape-configs)
     (add-to-list 'dape-configs

@@ -7,6 +7,7 @@ const os = require("node:os");
 const path = require("node:path");
 const test = require("node:test");
 const { Client } = require("./client.js");
+const protocol = require("./protocol.js");
 
 const ROOT = path.join(__dirname, "..", "..");
 const example = (name) => path.join(ROOT, "examples", name);
@@ -18,6 +19,8 @@ function programFile(text) {
   fs.writeFileSync(file, text);
   return file;
 }
+
+const LONGEST = 400, MOST_ROUNDS = 8; // milliseconds, times the load for each processor; rounds, of which the least counts, for other work may be done
 
 const TRIED = new Set();
 let capabilities;
@@ -161,8 +164,8 @@ test("texts, completions, the console, restart, frames started anew", () => sess
   assert.match(await client.type("help"), /step \[G \[C\]\]/);
   assert.match(await client.type("why 99"), /F16 not a kept step/);
   assert.match(await client.type("stuck"), /1\.3 waits for _1_1 \(P of step 1\)/);
-  assert.match(await client.type("goal 1"), /step 1 took 0\.1/);
-  assert.match(await client.type("clauses 1.1"), /clause 2 \(line 7\) says yes/);
+  assert.match(await client.type("goal 1"), /bill\(12,3,_0_1\)/);
+  assert.match(await client.type("clauses 1.1"), /2.*yes/);
   assert.match(await client.refusal("evaluate", { expression: "undoo 3", context: "repl" }), /undoo: no such command; undo\?/);
   assert.match(await client.refusal("evaluate", { expression: "Nobody", context: "hover" }), /no variable/);
   assert.ok((await client.ask("ghcdb/graph")).records.length === 1);
@@ -174,6 +177,9 @@ test("texts, completions, the console, restart, frames started anew", () => sess
   await client.go("pause");
   await client.ask("terminate");
   await client.event("terminated");
+  await client.ask("terminate");
+  await new Promise((resolve) => { setTimeout(resolve, 100); });
+  assert.deepStrictEqual(client.events.filter(({ event }) => event === "terminated"), [], "the end is told once");
 }));
 
 test("a pause is heard in an endless run, and requests are answered in it", () => session(async (client) => {
@@ -207,8 +213,13 @@ test("at 10,000 steps a stop, its frames and a step back come without a felt del
   await client.go("continue");
   assert.ok((await client.type("records")).split("\n").length > 10000, "too few steps");
   await show();
-  const times = [await time(() => client.go("stepBack")), await time(show), await time(() => client.go("stepIn")), await time(show), await time(() => client.go("stepBack"))];
-  assert.ok(Math.max(...times) < 1000, `times: ${times.map(Math.round)} ms`);
+  const acts = { back: () => client.go("stepBack"), "shown after it": show, step: () => client.go("stepIn"), "shown after that": show }, times = {};
+  const longest = () => LONGEST * Math.max(1, os.loadavg()[0] / os.cpus().length), isSlow = (name) => !(Math.min(...times[name]) < longest());
+  for (const name of Object.keys(acts)) times[name] = [];
+  for (let round = 0; round < MOST_ROUNDS && Object.keys(acts).some(isSlow); round += 1) {
+    for (const [name, does] of Object.entries(acts)) times[name].push(Math.round(await time(does)));
+  }
+  for (const name of Object.keys(acts)) assert.ok(!isSlow(name), `${name}: ${times[name]} ms`);
 }));
 
 test("what ghcdb refuses is told with its cause", async () => {
@@ -229,4 +240,10 @@ test("every request that the adapter says it has was tried", () => {
   const { Adapter } = require("../dap/adapter.js");
   const all = Object.getOwnPropertyNames(Adapter.prototype).filter((name) => name.startsWith("on_")).map((name) => name.slice(3).replace("ghcdb_", "ghcdb/"));
   assert.deepStrictEqual(all.filter((name) => !TRIED.has(name)), []);
+});
+
+test("all messages are of the protocol's own types", { skip: protocol.isThere ? false : "there is no node-vscode-debugprotocol with node-typescript" }, () => {
+  const { told, count, kinds } = protocol.wrongTypes(Client.heard);
+  assert.strictEqual(told, "");
+  assert.ok(count > 200 && kinds > 35, `${count} messages of ${kinds} kinds`);
 });

@@ -62,6 +62,7 @@ class Client {
   hear(message) {
     assert.ok(message.seq > this.last, "the numbers of messages do not rise");
     this.last = message.seq;
+    Client.heard.push(message);
     const form = FORMS[message.event ?? message.command];
     if (form !== undefined && message.success !== false) check(message.body, form, message.event ?? message.command);
     if (message.type === "response") return this.answers.get(message.request_seq)(message);
@@ -143,5 +144,7 @@ class Client {
     return this.ended;
   }
 }
+
+Client.heard = []; // all messages of all clients
 
 module.exports = { Client };

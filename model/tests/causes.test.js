@@ -43,6 +43,17 @@ test("the caret stands below the place, whatever letters and tabs are before it"
   assert.strictEqual(at[3].indexOf("ä"), at[4].indexOf("^"));
 });
 
+test("of a long line the place is shown, with what stands around it", () => {
+  const program = `p(X) :- true | ${"X = 1, ".repeat(100)}X == 2.\n`, cause = Causes.causeOf("F2 syntax at 1:718", { text: program, which: "m.ghc" });
+  const [, place, , source, caret] = Causes.linesOf(cause, program);
+  assert.strictEqual(place, " --> m.ghc:1:718");
+  assert.ok(source.length < 140 && source.startsWith("1 | .. ") && source.endsWith("X == 2."), source);
+  assert.strictEqual(source[caret.indexOf("^")], "=");
+  const early = Causes.linesOf({ ...cause, column: 3 }, program);
+  assert.ok(early[3].startsWith("1 | p(X)") && early[3].endsWith(" .."), early[3]);
+  assert.strictEqual(Causes.letterOf({ line: 1, column: 6 }, "ä ä\n"), 4);
+});
+
 test("a cause is told for every text that is cut short", () => {
   const program = "app([A|X],Y,Z) :- X =\\= 1, true | Z = [A|Z1], N := 1 + 2, app(X,Y,Z1).\n";
   for (let length = 1; length < program.length - 2; length += 1) {

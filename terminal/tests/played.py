@@ -2,6 +2,7 @@
 """Plays sessions at a pseudo-terminal: what people type who have not read the manual, ^C, ^D, Tab, the tutorial, and examples/wrong.
 
     python3 terminal/tests/played.py [PATTERN]      those whose names have the pattern, or all, several at once
+    python3 terminal/tests/played.py --write PAGE   plays the sessions of a page, and writes what is shown into it: look at each line
 
 GHCDB names the native program; without it see terminal/ghcdb.
 
@@ -29,6 +30,7 @@ FRONT = str(ROOT / "terminal" / "ghcdb")
 MARK = "% "
 PROGRAM = os.environ.get("GHCDB", "")
 PROGRAM = os.path.abspath(PROGRAM) if os.sep in PROGRAM else PROGRAM
+BLOCK = re.compile(r"^```\n(\$.*?)^```$", re.M | re.S)
 ENDLESS = "p(N) :- true | M := N + 1, p(M).\n"
 
 
@@ -61,16 +63,9 @@ def play_typed(home, name):
 
 
 def page_rows():
-    """The examples of the tutorials, as run_rows.py reads them."""
+    """The examples of the tutorials, as run_rows.py reads them; it plays them on the program alone."""
     pages = [ROOT / "docs" / page for page in ("TUTORIAL.md", "RACE.md")]
     return [(name, row) for page in pages for name, row in run_rows.rows_of(page)]
-
-
-def play_bare(row):
-    """An example of a tutorial on the program alone, where there is one."""
-    if run_rows.PROGRAM.is_file():
-        wrong = run_rows.judge(row)
-        wants(not wrong, "\n".join(wrong))
 
 
 def play_row(home, row):
@@ -90,14 +85,15 @@ def play_row(home, row):
     wants("\n".join(told) + "\n" == row["output"], f"{row['name']}: {told}")
 
 
-def answers():
-    """The sessions of examples/wrong/ANSWERS.md, each as its lines."""
-    text = (ROOT / "examples/wrong/ANSWERS.md").read_text()
-    return [block.splitlines() for block in re.findall(r"^```\n(\$.*?)^```$", text, re.M | re.S)]
+def shown_sessions():
+    """The sessions of pages that are written as a terminal shows them, each as its lines."""
+    for page in ("README.md", "docs/TUTORIAL.md", "docs/TERMINAL.md", "examples/wrong/ANSWERS.md"):
+        for block in re.findall(BLOCK, (ROOT / page).read_text()):
+            yield page, block.splitlines()
 
 
-def play_answer(home, block):
-    """A session of the answers, exactly as it stands there. A line in brackets stands for the file's being mended."""
+def shown_by(home, block):
+    """What a terminal shows of a session, as its lines. A line in brackets stands for the file's being mended."""
     _, file, query = re.fullmatch(r'\$ (\S+) (\S+) --query "(.*)"', block[0]).groups()
     with tempfile.TemporaryDirectory() as folder:
         program = Path(folder, file)
@@ -114,9 +110,24 @@ def play_answer(home, block):
                     shown += [line, *terminal.type(line[2:])]
         finally:
             terminal.end()
+    return shown
+
+
+def play_shown(home, block):
+    """A session, exactly as it stands in a page."""
+    shown = shown_by(home, block)
     for wanted, got in zip(block, shown):
-        wants(wanted == got, f"{file}: {got!r} in place of {wanted!r}")
-    wants(len(block) == len(shown), f"{file}: {len(shown)} lines in place of {len(block)}")
+        wants(wanted == got, f"{got!r} in place of {wanted!r}")
+    wants(len(block) == len(shown), f"{len(shown)} lines in place of {len(block)}")
+
+
+def write_page(page):
+    """Writes into a page what a terminal shows of its sessions."""
+    text = Path(page).read_text()
+    for block in re.findall(BLOCK, text):
+        with tempfile.TemporaryDirectory() as home:
+            text = text.replace(block, "\n".join(shown_by(home, block.splitlines())) + "\n")
+    Path(page).write_text(text)
 
 
 def test_greeting_follows_the_program(home):
@@ -126,7 +137,7 @@ def test_greeting_follows_the_program(home):
     refused = start(home, str(ROOT / "examples/bill.ghc"), "--query", "bill(12,3,T")
     shown = refused.start.splitlines()
     wants(refused.status == 1 and shown[0] == "query: F2 syntax at 1:12", str(shown))
-    wants(all(line.startswith(MARK) for line in shown[1:]) and "the query ends too early" in shown[1], str(shown))
+    wants(all(line.startswith(MARK) for line in shown[1:]) and "the query ends within brackets" in shown[1], str(shown))
 
 
 def test_file_that_is_not_there(home):
@@ -159,6 +170,36 @@ def test_interrupt_in_a_run(home):
         wants(terminal.type("records") == before, "the session is another one")
         wants(is_met("stopped limit", terminal.type("leap 5")), "no run after it")
         terminal.end()
+
+
+def test_interrupt_of_what_takes_many_lines(home):
+    with tempfile.TemporaryDirectory() as folder:
+        program = Path(folder, "endless.ghc")
+        program.write_text("p(N,_) :- true | M := N + 1, p(M,_).\n")
+        terminal = start(home, str(program), "--query", "p(0,X)", wait=60.0)
+        terminal.press("watch X\r")
+        time.sleep(0.3)
+        terminal.press("\x03")
+        shown = terminal.read()
+        wants("% ended: it is not bound" in shown, shown[-500:])
+        wants(is_met("stopped limit", terminal.type("leap 2000")), "no run after it")
+        terminal.press("back 100000\r")
+        time.sleep(0.05)
+        terminal.press("\x03")
+        terminal.read()
+        left = len(terminal.type("records"))
+        wants(0 < left, "the steps are gone")
+        terminal.end()
+
+
+def test_launcher_gives_a_terminal_the_front(home):
+    environment = {"HOME": home, "COLUMNS": "220", "GHCDB_QUIET": "1"}
+    terminal = Terminal([str(ROOT / "ghcdb"), "examples/bill.ghc", "--query", "bill(12,3,T)"], environment, folder=ROOT)
+    wants("% Flat GHC. help lists the commands" in terminal.start, terminal.start)
+    wants(is_met("=% sent: step 0.1", terminal.type("s")), "no front")
+    wants(is_met("=undone 1", terminal.type("back")), "no front")
+    terminal.type("exit")
+    wants(terminal.status == 0, f"status {terminal.status}")
 
 
 def test_long_run_is_shortened(home):
@@ -198,6 +239,8 @@ def test_save_and_load(home):
         terminal.type("leap")
         wants(is_met(f"saved in {file}", terminal.type(f"save {file}")), "not saved")
         wants(is_met("is there and is no history", terminal.type(f"save {ROOT / 'README.md'}")), "would be written over")
+        wants(is_met("its folder is not there; nothing was saved", terminal.type(f"save {folder}/none/run.history")), "no reason")
+        wants(is_met("it is a folder; nothing was saved", terminal.type(f"save {folder}")), "no reason")
         terminal.type("quit")
         wants(terminal.status == 0, "asks though it is saved")
         loaded = start(home, *words, "--load", file)
@@ -232,6 +275,9 @@ def test_tab(home):
         wants(terminal.complete(line).rstrip() == wanted, f"{line!r} becomes {terminal.complete(line)!r}")
     terminal.type("step")
     wants(terminal.complete("undo ").rstrip() == "undo 1", "no kept step is offered")
+    wants(terminal.offered("step ") == ["1.1", "1.2"], "the ready goals are not offered")
+    wants(terminal.offered("explain ")[:2] == ["Total", "_1_1"], "no variable is offered")
+    wants("goals" in terminal.offered("go") and "goal" in terminal.offered("go"), "no commands are offered")
     terminal.end()
 
 
@@ -262,14 +308,18 @@ def test_note_on_a_lone_variable(home):
 
 
 def test_on_a_pipe_nothing_is_added(home):
-    program = os.environ.get("GHCDB") or str(ROOT / "crates/ghcdb/out/ghcdb")
-    if not os.access(program, os.X_OK):
-        return
+    native = os.environ.get("GHCDB") or str(ROOT / "crates/ghcdb/out/ghcdb")
+    is_there = os.access(native, os.X_OK)
     words = [str(ROOT / "examples/append.ghc"), "--query", "append([1],[2],R)"]
-    lines = "help\nstep\nR\nleap\nundo\nshow R\n\n\xff\n".encode("latin-1")
-    alone = subprocess.run([program, *words], input=lines, capture_output=True)
-    front = subprocess.run(["node", FRONT, *words], input=lines, capture_output=True, env={**os.environ, "GHCDB": program})
-    wants((front.stdout, front.stderr, front.returncode) == (alone.stdout, alone.stderr, alone.returncode), str(front))
+    lines = "help\nstep\nR\nexplain R\nleap\nundo\nshow R\n\n\xff\n".encode("latin-1")
+    environment = {**os.environ, "GHCDB": native if is_there else "page", "GHCDB_QUIET": "1"}
+    alone = [native] if is_there else ["node", str(ROOT / "web" / "console")]
+    programs = [alone, ["node", FRONT], ["node", str(ROOT / "terminal" / "check")], [str(ROOT / "ghcdb")], [str(ROOT / "ghcdb"), "--check"]]
+    told = [subprocess.run([*program, *words], input=lines, capture_output=True, env=environment) for program in programs]
+    for program, one in zip(programs, told):
+        wants((one.stdout, one.stderr) == (told[0].stdout, told[0].stderr), f"{program}: {one}")
+    wants([one.returncode for one in told] == [0, 0, 4, 0, 4], str([one.returncode for one in told]))
+    wants(told[0].stdout.count(b"F25 command") == 6 and b"%" not in told[0].stdout, str(told[0]))
 
 
 def tests():
@@ -279,12 +329,10 @@ def tests():
             yield name, test
     for name in SESSIONS:
         yield f"typed: {name}", lambda home, name=name: play_typed(home, name)
-    for block in answers():
-        yield f"answers: {block[0]}", lambda home, block=block: play_answer(home, block)
+    for page, block in shown_sessions():
+        yield f"{page}: {block[0]}", lambda home, block=block: play_shown(home, block)
     for name, row in page_rows():
         yield name, lambda home, name=name, row=row: play_row(home, json.loads(run_rows.told(name, row)))
-        if "RACE.md" in name:
-            yield f"{name}, bare", lambda home, row=row: play_bare(row)
 
 
 def try_one(place):
@@ -304,6 +352,8 @@ CHOSEN = [(name, test) for name, test in tests() if re.search(sys.argv[1] if len
 
 
 def main():
+    if sys.argv[1:2] == ["--write"]:
+        return write_page(sys.argv[2])
     with multiprocessing.get_context("fork").Pool(os.cpu_count()) as pool:
         told = pool.map(try_one, range(len(CHOSEN)), chunksize=1)
     failed = [line for line in told if line]

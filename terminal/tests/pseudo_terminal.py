@@ -56,21 +56,32 @@ class Terminal:
         shown = self.read()
         return shown.split("\n")[1:-1] if self.status is None else shown.split("\n")[1:]
 
-    def complete(self, line):
-        """Types the beginning of a line and the Tab key; what stands in the line then. The line is dropped again."""
-        self.press(line + "\t")
-        shown, quiet = b"", time.monotonic() + 0.25
+    def shown_soon(self):
+        """What is shown until nothing more comes for a while."""
+        shown, quiet = b"", time.monotonic() + 0.5
         while time.monotonic() < quiet:
             if select.select([self.device], [], [], 0.05)[0]:
                 shown += os.read(self.device, 65536)
                 quiet = time.monotonic() + 0.25
-        self.press("\x15")
-        self.read_quietly()
-        return text_of(shown).split("> ")[-1].strip("\n")
+        return text_of(shown)
 
-    def read_quietly(self):
-        while select.select([self.device], [], [], 0.1)[0]:
-            os.read(self.device, 65536)
+    def complete(self, line):
+        """Types the beginning of a line and the Tab key; what stands in the line then. The line is dropped again."""
+        self.press(line + "\t")
+        shown = self.shown_soon()
+        self.press("\x15")
+        self.shown_soon()
+        return shown.split("> ")[-1].strip("\n")
+
+    def offered(self, line):
+        """Types the beginning of a line and the Tab key twice; the words that are shown then. The line is dropped again."""
+        self.press(line + "\t")
+        self.shown_soon()
+        self.press("\t")
+        shown = self.shown_soon()
+        self.press("\x15")
+        self.shown_soon()
+        return shown.rpartition("> ")[0].split()
 
     def end(self):
         if self.status is None:
