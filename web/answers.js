@@ -1,4 +1,4 @@
-// Shows what was answered where one looks, above the picture: refusals, causes, who bound a variable; and lights the steps that it names.
+// Shows what was answered where one looks, above the picture: refusals and why, causes, who bound a variable; and lights the steps that it names.
 const Answers = (() => {
   "use strict";
 
@@ -17,20 +17,31 @@ const Answers = (() => {
     area.hidden = false;
   }
 
+  /** A cause of the module Causes, as elements: title, the text's line with a caret, hints. */
+  function causeParts(cause, text) {
+    const [title, ...lines] = Causes.linesOf(cause, text), place = lines.splice(0, 4).join("\n");
+    return [make("b", null, title), make("pre", { class: "cause" }, place), ...lines.map((hint) => make("div", { class: "hint" }, hint.trim()))];
+  }
+
+  /** Why a program, a query or a line's goals were refused: the cause where one is known. Nothing where there is none to be told. */
+  function partsOfRefusal(refusal, given) {
+    const limit = /^F6 limit: (\w+)$/.exec(refusal), cause = Causes.causeOf(refusal, given);
+    if (limit) return [Causes.LIMITS[limit[1]]];
+    return cause === undefined ? [] : causeParts(cause, given.text);
+  }
+
+  const ASKED = /^ *(?:ask +|in +\S+ +)(.*)$/;
+
+  /** Of a line that asks for goals or feeds a stream: why its text was refused. */
+  function partsOfAsked({ line, reply }) {
+    const [, text] = ASKED.exec(line) || [];
+    return text === undefined ? [] : partsOfRefusal(reply[0], { text, which: wordsOf(line).split(" ")[0], isQuery: true, program: Talk.given.program });
+  }
+
   const hide = () => { find("answer").hidden = true; };
 
   /** The numbers of the steps that a reply to `who X` names, the last one first. */
   const stepsBy = (reply) => reply.map((line) => /^\S+ by (\d+)$/.exec(line)).filter(Boolean).map(([, number]) => Number(number)).reverse();
-
-  const OF_SLICE = /^(\d+) (?:\d+\.\d+|-) .* makes \S+( or [\d,]+)?$/;
-
-  /** Rings the steps that a reply to `explain` tells, otherwise those at which another clause could be chosen. */
-  function lightSlice(entry) {
-    const steps = entry.reply.map((line) => OF_SLICE.exec(line)).filter(Boolean);
-    if (steps.length === 0) return;
-    Canvas.choose(null);
-    Canvas.markWay(steps.map(([, number]) => Number(number)), steps.filter(([, , others]) => others).map(([, number]) => Number(number)));
-  }
 
   /** Lights the step that a line asked about, or the steps that bound a variable. */
   function light(entry) {
@@ -53,15 +64,13 @@ const Answers = (() => {
     const fresh = what === "lines" ? Talk.entries.slice(shown) : [], refused = fresh.filter(isRefused).pop(), last = fresh[fresh.length - 1];
     shown = Talk.entries.length;
     hide();
-    if (refused) put(true, make("code", null, wordsOf(refused.line)), " was refused: ", ...linkedLine(refused.reply[0]));
-    else if (last && /^explain /.test(wordsOf(last.line))) {
-      tellReply(last);
-      lightSlice(last);
-    } else if (last && /^(why|who) /.test(wordsOf(last.line)) && last.reply[0] !== "none") {
+    if (refused) put(true, make("code", null, wordsOf(refused.line)), " was refused: ", ...linkedLine(refused.reply[0]), make("div", null, ...partsOfAsked(refused)));
+    else if (last && last.slice) Resting.tell(wordsOf(last.line).split(" ")[1], last.slice);
+    else if (last && /^(why|who) /.test(wordsOf(last.line)) && last.reply[0] !== "none") {
       tellReply(last);
       light(last);
     }
   }
 
-  return { show, hide, put };
+  return { show, hide, put, causeParts, partsOfRefusal };
 })();

@@ -10,7 +10,7 @@ const Beside = (() => {
   /** The run as it is now, which goes on no more. */
   function frozen() {
     const { graph, goals, shelf, texts, clauses, values } = Talk.run;
-    return { graph: Graph.graphOf(graph.slice(0, graph.count)), goals, shelf, texts: new Map(texts), clauses, values, given: Talk.given, lines: Talk.typedLines() };
+    return { graph: Graph.partOf(graph, 0, graph.count), goals, shelf, texts: new Map(texts), clauses, values, given: Talk.given, lines: Talk.typedLines() };
   }
 
   /** Keeps the run beside; says whether it did. */

@@ -3,7 +3,7 @@ const Canvas = (() => {
   "use strict";
 
   const { find } = Elements;
-  const canvas = { by: "record", theme: "light", zoom: 1, isFit: false, chosen: null, way: [], view: null };
+  const canvas = { by: "record", theme: "light", zoom: 1, isFit: false, chosen: null, way: new Set(), others: new Set(), slice: null, view: null };
   const LEGEND = 70; // points below the lanes
   const OWN_SCROLL = 250; // milliseconds in which the browser tells of a scrolling that the page did
   let scrolledAt = -OWN_SCROLL;
@@ -16,6 +16,7 @@ const Canvas = (() => {
       find("canvas").textContent = "";
       return;
     }
+    if (!Talk.run.isWhole) return; // when all of a change is read, it is drawn
     const area = find("canvas"), isScrolled = area.scrollLeft > 0 || area.scrollTop > 0;
     const room = Math.max(320, area.clientWidth - 8) * (Overview.isOn() || canvas.isFit ? 1 : canvas.zoom);
     const high = canvas.isFit ? Math.max(120, area.clientHeight - LEGEND) : undefined;
@@ -26,7 +27,7 @@ const Canvas = (() => {
     canvas.view = drawn.view;
     if (canvas.chosen && !isThere(canvas.chosen)) canvas.chosen = null;
     if (isScrolled) stayInSight();
-    if (canvas.chosen || Overview.hits.length > 0) showChosen();
+    if (canvas.chosen || canvas.slice || canvas.way.size > 0 || Overview.hits.length > 0) showChosen();
   }
 
   const isThere = (chosen) => (chosen.step !== undefined ? Talk.run.graph.byNumber.has(chosen.step) : Talk.run.goals.some((goal) => goal.name === chosen.goal));
@@ -46,24 +47,23 @@ const Canvas = (() => {
     }
   }
 
-  /** Lights up the chosen step with all its causes and effects; all else is faint. */
+  /** Lights up the chosen step with all its causes and effects, or a slice; all else is faint. */
   function showChosen() {
     const svg = find("canvas").querySelector("svg"), { chosen } = canvas, { graph } = Talk.run;
     if (!svg) return;
     const step = chosen && graph.byNumber.has(chosen.step) ? chosen.step : undefined;
     const reach = step ? Overview.reachOf(step) : null, amongst = (found) => ({ has: (number) => found.isIn[graph.indexOf(number)] === 1 });
-    const causes = reach ? amongst(reach.causes) : new Set(), effects = reach ? amongst(reach.effects) : new Set();
-    const way = new Set(canvas.way);
-    const hits = new Set(Overview.hits.map((index) => graph.numbers.at(index)));
-    svg.classList.toggle("looking", Boolean(step));
+    const lit = reach ? reach.causes : canvas.slice, causes = lit ? amongst(lit) : new Set(), effects = reach ? amongst(reach.effects) : new Set();
+    const hits = Overview.hitFlags();
+    svg.classList.toggle("looking", Boolean(lit));
     for (const mark of marks()) {
       const number = Number(mark.dataset.step);
       mark.classList.toggle("chosen", number === step);
       mark.classList.toggle("cause", causes.has(number) && number !== step);
       mark.classList.toggle("effect", effects.has(number) && number !== step);
-      mark.classList.toggle("way", way.has(number));
-      mark.classList.remove("or");
-      mark.classList.toggle("hit", hits.has(number));
+      mark.classList.toggle("way", canvas.way.has(number));
+      mark.classList.toggle("or", canvas.others.has(number));
+      mark.classList.toggle("hit", hits[graph.indexOf(number)] === 1);
       mark.classList.remove("going");
     }
     for (const goal of svg.querySelectorAll(".goal")) goal.classList.toggle("chosen", Boolean(chosen) && goal.dataset.goal === chosen.goal);
@@ -75,14 +75,29 @@ const Canvas = (() => {
     for (const mark of marks()) mark.classList.toggle("going", numbers.has(Number(mark.dataset.step)));
   }
 
-  /** Rings the steps on the way to a part of a value, and otherwise those of them at which another clause could be chosen. */
-  function markWay(numbers, others = []) {
-    canvas.way = numbers;
-    const way = new Set(numbers), open = new Set(others);
-    for (const mark of marks()) {
-      mark.classList.toggle("way", way.has(Number(mark.dataset.step)));
-      mark.classList.toggle("or", open.has(Number(mark.dataset.step)));
-    }
+  /** Rings the steps on the way to a part of a value. */
+  function markWay(numbers) {
+    canvas.way = new Set(numbers);
+    for (const mark of marks()) mark.classList.toggle("way", canvas.way.has(Number(mark.dataset.step)));
+  }
+
+  /** Lights the steps of a slice, also in the strip, and rings those of them at which another clause could be chosen. */
+  function showSlice(numbers, others) {
+    const { graph } = Talk.run, isIn = new Uint8Array(graph.count);
+    choose(null);
+    for (const number of numbers) if (graph.indexOf(number) !== Graph.NONE) isIn[graph.indexOf(number)] = 1;
+    canvas.slice = { isIn, count: numbers.length };
+    canvas.others = new Set(others);
+    if (numbers.length > 0) scrollTo({ step: numbers[numbers.length - 1] });
+    showChosen();
+    Overview.draw();
+  }
+
+  /** Forgets what was lit beside a chosen step. */
+  function forget() {
+    canvas.way = new Set();
+    canvas.others = new Set();
+    canvas.slice = null;
   }
 
   /** The clause by which a chosen step went. */
@@ -93,18 +108,19 @@ const Canvas = (() => {
 
   function choose(chosen) {
     canvas.chosen = chosen;
-    canvas.way = [];
+    forget();
     showChosen();
     Overview.draw();
     Panels.showDetail(chosen);
     Program.markClause(clauseOf(chosen));
   }
 
-  /** Lane names and the axis stay where one sees them while the picture is scrolled. */
+  /** Lane names, the axis and what all stands for stay where one sees them while the picture is scrolled. */
   function stayInSight() {
     const area = find("canvas"), svg = area.querySelector("svg");
     if (!svg) return;
     svg.querySelector(".names").setAttribute("transform", `translate(${area.scrollLeft} 0)`);
+    if (svg.querySelector(".legend")) svg.querySelector(".legend").setAttribute("transform", `translate(${area.scrollLeft} 0)`);
     svg.querySelector(".axis").setAttribute("transform", `translate(0 ${area.scrollTop})`);
   }
 
@@ -189,5 +205,5 @@ const Canvas = (() => {
     return true;
   }
 
-  return Object.assign(canvas, { draw, choose, markWay, elementOf, showThere, isOwnScroll, scrollTo, ring, stayInSight, onKey, addTitle });
+  return Object.assign(canvas, { draw, choose, forget, markWay, showSlice, elementOf, showThere, isOwnScroll, scrollTo, ring, stayInSight, onKey, addTitle });
 })();

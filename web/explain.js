@@ -64,18 +64,17 @@ const Explain = ((Graph, Terms) => {
   }
 
   /**
-   * The steps that have to be rolled back so that a slice alone is left: those outside it all whose causes are in it. And the numbers of all
-   * that go.
+   * The steps that have to be rolled back so that a slice alone is left: those outside it all whose causes are in it. And all that go: how
+   * many, and whether a number is one of them.
    */
   function rollsTo(graph, isIn) {
-    const rolls = [], gone = new Set();
+    const rolls = [], gone = { size: 0, has: (number) => isIn[graph.indexOf(number)] === 0 };
     for (let index = 0; index < graph.count; index++) {
       if (isIn[index] === 1) continue;
-      const number = graph.numbers.at(index);
-      gone.add(number);
+      gone.size += 1;
       let isFirst = true;
       for (let edge = graph.firstCause.at(index); edge < graph.causeEnd(index); edge++) isFirst = isFirst && isIn[graph.from.at(edge)] === 1;
-      if (isFirst) rolls.push(number);
+      if (isFirst) rolls.push(graph.numbers.at(index));
     }
     return { rolls, gone };
   }
@@ -106,9 +105,15 @@ const Explain = ((Graph, Terms) => {
     return found;
   }
 
+  /** The last bindings that the console's explanation of a goal tells. */
+  function bindersExplained(lines) {
+    const steps = lines.map((line) => Graph.readRecord(line.replace(/ or [\d,]+$/, ""))).filter(Boolean);
+    return steps.flatMap((step) => step.binds.map(({ variable, term }) => ({ variable, term, step: step.number }))).slice(-MOST_BINDERS).reverse();
+  }
+
   /** Why a goal has failed, in words where `code` stands between back quotes, and the bindings that brought it there. */
   function failureOf(run, goal) {
-    const code = (text) => `\`${Terms.cut(text, 60)}\``, written = run.texts.get(goal.name) || "";
+    const code = (text) => `\`${Terms.cut(text, 60)}\``, written = run.texts.get(goal.name);
     const [left, right] = goal.text.split(" = "), clash = goal.sort === "unification" ? clashOf(left, right) : null;
     const words = {
       F10: () => `no clause of ${code(Graph.predicateOf(goal.text))} says yes to ${code(goal.text)} (F10)`,
@@ -116,7 +121,7 @@ const Explain = ((Graph, Terms) => {
       F12: () => `${code(goal.text)} would make a term that holds itself (F12)`,
       F13: () => `${code(goal.text)} has no value (F13)`,
     }[goal.refusal];
-    return { words: words ? words() : goal.refusal, binders: bindersOf(run.graph, written) };
+    return { words: words ? words() : goal.refusal, binders: written === undefined ? bindersExplained(run.explained || []) : bindersOf(run.graph, written) };
   }
 
   return { argumentsOf, explain, sliceOf, rollsTo, clashOf, failureOf, isVariable };

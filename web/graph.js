@@ -128,7 +128,9 @@ const Graph = (() => {
   const MOST_WITH_IMPLIED = 3000; // steps; of a longer run it is not looked for which edges others imply
   const MOST_KEPT = 20000; // steps and lists of causes that are kept after they were read
   const MOST_WAITING_EDGES = 20000;
-  const NONE = -1;
+  const NONE = -1, MOVED = 4096; // no index; steps that are moved up without a pause
+  const MADE = 0, READ = 1, NAMED = 2, WAYS = 3, WOKE = 4; // how a step depends on another one
+  const WORDS = ["made", "read", "named"];
 
   /** A list of numbers that grows at its end. */
   class Numbers {
@@ -149,6 +151,76 @@ const Graph = (() => {
 
     at(index) {
       return this.all[index];
+    }
+  }
+
+  const PARTS = 251; // a prime number, so that all parts grow alike
+
+  /** A map by numbers (and a few other keys) in many parts: a large one grows at once by a small part alone, and so never stands still for long. */
+  class PartedMap {
+    constructor() {
+      this.parts = Array.from({ length: PARTS }, () => new Map());
+      this.size = 0;
+    }
+
+    partOf(key) {
+      return this.parts[typeof key === "number" ? key % PARTS : 0];
+    }
+
+    get(key) {
+      return this.partOf(key).get(key);
+    }
+
+    has(key) {
+      return this.partOf(key).has(key);
+    }
+
+    set(key, value) {
+      const part = this.partOf(key), before = part.size;
+      part.set(key, value);
+      this.size += part.size - before;
+    }
+
+    delete(key) {
+      if (this.partOf(key).delete(key)) this.size -= 1;
+    }
+  }
+
+  const MOST_DENSE = 0x400000; // numbers that have a place of their own
+
+  /** The indexes of steps by their numbers: a list of places, and a map for the numbers beyond it. */
+  class Indexes {
+    constructor() {
+      this.places = new Int32Array(1024).fill(NONE);
+      this.beyond = new PartedMap();
+    }
+
+    get(number) {
+      if (number >= MOST_DENSE) return this.beyond.get(number);
+      const index = number < this.places.length ? this.places[number] : NONE;
+      return index === NONE ? undefined : index;
+    }
+
+    has(number) {
+      return this.get(number) !== undefined;
+    }
+
+    set(number, index) {
+      if (number >= MOST_DENSE) {
+        this.beyond.set(number, index);
+        return;
+      }
+      if (number >= this.places.length) {
+        const larger = new Int32Array(Math.max(number + 1, this.places.length * 2)).fill(NONE);
+        larger.set(this.places);
+        this.places = larger;
+      }
+      this.places[number] = index;
+    }
+
+    delete(number) {
+      if (number >= MOST_DENSE) this.beyond.delete(number);
+      else if (number < this.places.length) this.places[number] = NONE;
     }
   }
 
@@ -182,19 +254,21 @@ const Graph = (() => {
 
   /**
    * The graph of a run of any length. A step comes at the end (`push`) or goes from there (`pop`), and both cost what that step alone
-   * costs. Steps go by their index in the record, or by their number. A step is kept as its line, and read where it is asked for.
+   * costs. Steps go by their index in the record, or by their number. A step is kept as its line, and read where it is asked for. On what
+   * it depends the console tells, where it knows `causes`; else that is found in the record.
    */
   class RunGraph {
     constructor() {
       this.told = []; // for each step its line, or the step as it was given
-      this.indexes = new Map(); // by number
-      this.binders = new Map(); // by variable
+      this.indexes = new Indexes(); // by number
+      this.binders = new PartedMap(); // by variable
       this.queryConsumers = new Map(); // by place in the query
       this.kinds = new Numbers(Uint8Array);
       for (const name of ["numbers", "makers"]) this[name] = new Numbers(Float64Array); // of the step, and of what made its goal
       for (const name of ["clauses", "places", "depths", "deepest", "firstMade", "firstCause", "lastEffect"]) this[name] = new Numbers(Int32Array);
       this.consumers = new Numbers(Int32Array); // for each goal that was made: the index of the step that consumed it
       for (const name of ["from", "to", "effectBefore"]) this[name] = new Numbers(Int32Array); // for each edge
+      this.hows = new Numbers(Uint8Array); // for each edge: made, read or named, and whether it woke
       this.forget();
       const accessor = (of) => ({ get: (number) => (this.indexes.has(number) ? of(this.indexes.get(number)) : undefined), has: (number) => this.indexes.has(number) });
       this.byNumber = accessor((index) => this.stepAt(index));
@@ -298,30 +372,42 @@ const Graph = (() => {
       }
     }
 
-    /** The causes of a step: who made its goal, who bound what it read, who made what it names, by their places in the record. */
+    /** On what a step depends, found in the record: who made its goal, who bound what it read, who made what it names, in recorded order. */
     findCauses(step) {
       const causes = [];
-      if (step.goal !== null) this.addCause(causes, step, nameParts(step.goal)[0], "made", null);
-      for (const variable of step.reads) this.addCause(causes, step, this.binderOf(variable), "read", variable);
-      for (const variable of step.names) this.addCause(causes, step, numbersOf(variable)[0], "named", variable);
-      if (causes.length > 1) causes.sort((one, other) => this.indexes.get(one.from) - this.indexes.get(other.from));
-      return causes;
+      if (step.goal !== null) this.addCause(causes, nameParts(step.goal)[0], MADE);
+      for (const variable of step.reads) this.addCause(causes, this.binderOf(variable), READ);
+      for (const variable of step.names) this.addCause(causes, numbersOf(variable)[0], NAMED);
+      return markWoke(step, inOrder(causes));
     }
 
-    addCause(causes, step, from, kind, variable) {
+    /** Adds that a step depends on another one; of several ways the first counts: made, then read, then named. */
+    addCause(causes, from, how) {
       if (from === undefined || !this.indexes.has(from)) return;
-      let cause = causes.find((one) => one.from === from);
-      if (cause === undefined) {
-        cause = { from, to: step.number, kind, variables: [], woke: false, implied: false };
-        causes.push(cause);
-      }
-      if (variable !== null) cause.variables.push(variable);
+      const index = this.indexes.get(from), cause = causes.find((one) => one.index === index);
+      if (cause === undefined) causes.push({ index, how });
+      else cause.how = Math.min(cause.how & WAYS, how & WAYS) | ((cause.how | how) & WOKE);
+    }
+
+    /** On what a step depends, as the console has told it: the numbers of causes, and how. */
+    toldCauses({ from, hows }) {
+      const causes = [];
+      from.forEach((number, at) => this.addCause(causes, number, hows[at]));
+      return inOrder(causes);
+    }
+
+    /** The variables by which a step depends on another one: those that it read and that one bound, and those that it names and that one made. */
+    variablesBetween(step, from) {
+      return [...step.reads.filter((variable) => this.binderOf(variable) === from), ...step.names.filter((variable) => numbersOf(variable)[0] === from)];
     }
 
     causesAt(index) {
       return this.knownCauses.get(index, () => {
-        const step = this.stepAt(index), causes = this.findCauses(step);
-        markWoke(step, causes);
+        const step = this.stepAt(index), causes = [];
+        for (let edge = this.firstCause.at(index); edge < this.causeEnd(index); edge++) {
+          const from = this.numbers.at(this.from.at(edge)), how = this.hows.at(edge);
+          causes.push({ from, to: step.number, kind: WORDS[how & WAYS], variables: this.variablesBetween(step, from), woke: (how & WOKE) !== 0, implied: false });
+        }
         return causes;
       });
     }
@@ -334,13 +420,13 @@ const Graph = (() => {
       return effects.reverse();
     }
 
-    /** Puts a step, or the line that tells it, at the end. */
-    push(told) {
+    /** Puts a step, or the line that tells it, at the end. `causes` has the numbers and ways of its causes, where the console has told them. */
+    push(told, causes = null) {
       const step = typeof told === "string" ? readRecord(told) : told;
       if (step === null) return;
-      const index = this.count, causes = this.findCauses(step), [maker, place] = step.goal === null ? [NONE, NONE] : nameParts(step.goal);
+      const index = this.count, edges = causes === null ? this.findCauses(step) : this.toldCauses(causes), [maker, place] = step.goal === null ? [NONE, NONE] : nameParts(step.goal);
       let depth = 0;
-      for (const cause of causes) depth = Math.max(depth, this.depths.at(this.indexes.get(cause.from)) + 1);
+      for (const edge of edges) depth = Math.max(depth, this.depths.at(edge.index) + 1);
       this.numbers.push(step.number);
       this.kinds.push(KINDS.indexOf(step.kind));
       this.clauses.push(step.clause || 0);
@@ -351,7 +437,7 @@ const Graph = (() => {
       this.firstMade.push(this.consumers.length);
       this.firstCause.push(this.from.length);
       this.lastEffect.push(NONE);
-      for (const cause of causes) this.addEdge(this.indexes.get(cause.from), index);
+      for (const edge of edges) this.addEdge(edge.index, index, edge.how);
       this.told.push(told);
       this.indexes.set(step.number, index);
       this.setConsumer(step, index);
@@ -360,27 +446,89 @@ const Graph = (() => {
       this.changed();
     }
 
-    addEdge(from, to) {
+    addEdge(from, to, how) {
       this.effectBefore.push(this.lastEffect.at(from));
       this.lastEffect.all[from] = this.from.length;
       this.from.push(from);
       this.to.push(to);
+      this.hows.push(how);
+    }
+
+    /** The numbers of a step's causes, and how it depends on each. */
+    waysAt(index) {
+      const first = this.firstCause.at(index), end = this.causeEnd(index), from = [];
+      for (let edge = first; edge < end; edge++) from.push(this.numbers.at(this.from.at(edge)));
+      return { from, hows: this.hows.all.slice(first, end) };
+    }
+
+    /**
+     * Takes steps away from anywhere: `to` tells for each index where its step stands then, or NONE; `first` is the first that goes. No step
+     * that stays depends on one that goes. All that is behind moves up; yields now and then.
+     */
+    *remove(to, first) {
+      for (let index = first; index < this.count; index++) if (to[index] === NONE) this.forgetStep(index);
+      this.forget();
+      const end = this.count, perStep = [this.numbers, this.kinds, this.clauses, this.makers, this.places, this.depths];
+      let step = first, made = this.firstMade.at(first), edge = this.firstCause.at(first);
+      for (let index = first; index < end; index++) {
+        if (index % MOVED === MOVED - 1) yield index;
+        if (to[index] === NONE) continue;
+        const madeFrom = this.firstMade.at(index), madeTo = this.madeEnd(index), edgeFrom = this.firstCause.at(index), edgeTo = this.causeEnd(index);
+        for (const list of perStep) list.all[step] = list.at(index);
+        this.told[step] = this.told[index];
+        this.indexes.set(this.numbers.at(step), step);
+        this.firstMade.all[step] = made;
+        for (let at = madeFrom; at < madeTo; at++) this.consumers.all[made++] = this.consumers.at(at);
+        this.firstCause.all[step] = edge;
+        for (let at = edgeFrom; at < edgeTo; at++) this.moveEdge(at, edge++, to[this.from.at(at)], step);
+        this.deepest.all[step] = Math.max(this.depths.at(step), step > 0 ? this.deepest.at(step - 1) : 0);
+        step += 1;
+      }
+      this.shorten(step, made, edge);
+      for (let at = 0; at < made; at++) if (this.consumers.at(at) >= first) this.consumers.all[at] = to[this.consumers.at(at)];
+      for (const [place, index] of this.queryConsumers) this.queryConsumers.set(place, to[index]);
+      this.chainEffects();
+    }
+
+    /** Forgets what a step bound and consumed, and its number. */
+    forgetStep(index) {
+      const step = this.stepAt(index);
+      for (const binding of step.binds) this.binders.delete(keyOfVariable(binding.variable));
+      this.setConsumer(step, NONE);
+      this.indexes.delete(step.number);
+    }
+
+    moveEdge(at, edge, from, to) {
+      this.from.all[edge] = from;
+      this.to.all[edge] = to;
+      this.hows.all[edge] = this.hows.at(at);
+    }
+
+    shorten(steps, made, edges) {
+      this.told.length = steps;
+      for (const list of [this.numbers, this.kinds, this.clauses, this.makers, this.places, this.depths, this.deepest, this.firstMade, this.firstCause, this.lastEffect]) list.length = steps;
+      for (const list of [this.from, this.to, this.effectBefore, this.hows]) list.length = edges;
+      this.consumers.length = made;
+      this.changed();
+    }
+
+    /** Chains the edges of each step's consequences anew. */
+    chainEffects() {
+      this.lastEffect.all.fill(NONE, 0, this.count);
+      for (let edge = 0; edge < this.from.length; edge++) {
+        this.effectBefore.all[edge] = this.lastEffect.at(this.from.at(edge));
+        this.lastEffect.all[this.from.at(edge)] = edge;
+      }
     }
 
     /** Takes the last step away. No step that stays depends on it. */
     pop() {
-      const index = this.count - 1, step = this.stepAt(index);
-      for (let edge = this.from.length - 1; edge >= this.firstCause.at(index); edge--) this.lastEffect.all[this.from.at(edge)] = this.effectBefore.at(edge);
-      for (const list of [this.from, this.to, this.effectBefore]) list.length = this.firstCause.at(index);
-      for (const binding of step.binds) this.binders.delete(keyOfVariable(binding.variable));
-      this.setConsumer(step, NONE);
-      this.consumers.length = this.firstMade.at(index);
-      this.indexes.delete(step.number);
-      this.told.pop();
-      for (const list of [this.numbers, this.kinds, this.clauses, this.makers, this.places, this.depths, this.deepest, this.firstMade, this.firstCause, this.lastEffect]) list.length = index;
+      const index = this.count - 1, first = this.firstCause.at(index);
+      for (let edge = this.from.length - 1; edge >= first; edge--) this.lastEffect.all[this.from.at(edge)] = this.effectBefore.at(edge);
+      this.forgetStep(index);
       this.knownSteps.map.delete(index);
       this.knownCauses.map.delete(index);
-      this.changed();
+      this.shorten(index, this.firstMade.at(index), first);
     }
 
     changed() {
@@ -389,13 +537,16 @@ const Graph = (() => {
     }
   }
 
-  /** Marks the cause that a waiting goal waited for last, as docs/LANGUAGE.md says under `woke`. The causes stand in recorded order. */
+  const inOrder = (causes) => (causes.length > 1 ? causes.sort((one, other) => one.index - other.index) : causes);
+
+  /**
+   * Marks the cause that a waiting goal waited for last, as docs/LANGUAGE.md says under `woke`: the last one, where the step read it, and
+   * its goal was made before that. The causes stand in recorded order.
+   */
   function markWoke(step, causes) {
-    if (step.kind !== "reduce" && step.kind !== "assign") return;
-    const readers = causes.filter((cause) => cause.variables.length > 0);
-    if (readers.length === 0) return;
-    const last = readers[readers.length - 1], made = causes.findIndex((cause) => step.goal !== null && cause.from === nameParts(step.goal)[0]);
-    last.woke = last.kind === "read" && made < causes.indexOf(last);
+    const last = causes[causes.length - 1];
+    if ((step.kind === "reduce" || step.kind === "assign") && last !== undefined && last.how === READ) last.how |= WOKE;
+    return causes;
   }
 
   /** Marks each edge that a longer chain of causes implies: the picture draws these faintly. */
@@ -417,28 +568,52 @@ const Graph = (() => {
     return graph;
   }
 
-  /** For each step by its index, 1 where one comes to it from one of some steps along the edges, these steps among them; and how many. */
-  function reached(graph, indexes, goesOn) {
-    const isIn = new Uint8Array(graph.count), left = [];
-    let count = 0;
-    const add = (other) => {
-      if (isIn[other] === 1) return;
-      isIn[other] = 1;
-      count += 1;
-      left.push(other);
-    };
-    indexes.forEach(add);
-    while (left.length > 0) goesOn(left.pop(), add);
+  /** The graph of some steps of another graph alone, from one index up to another. */
+  function partOf(whole, from, to) {
+    const graph = new RunGraph();
+    for (let index = from; index < Math.min(to, whole.count); index++) graph.push(whole.stepAt(index), whole.waysAt(index));
+    return graph;
+  }
+
+  /**
+   * For each step by its index, 1 where it is one of some steps, or one of these depends on it by however many edges; and how many there are.
+   * Each edge leads to a later step, so that one look at each step is enough, from the last one on.
+   */
+  function causesOfAll(graph, indexes) {
+    const isIn = new Uint8Array(graph.count), from = graph.from.all, first = graph.firstCause.all;
+    let last = NONE, count = 0;
+    for (const index of indexes) {
+      isIn[index] = 1;
+      last = Math.max(last, index);
+    }
+    for (let index = last, end = last === NONE ? 0 : graph.causeEnd(last); index >= 0; index--) {
+      if (isIn[index] === 1) {
+        count += 1;
+        for (let edge = first[index]; edge < end; edge++) isIn[from[edge]] = 1;
+      }
+      end = first[index];
+    }
     return { isIn, count };
   }
 
   const causesReached = (graph, ...indexes) => causesOfAll(graph, indexes);
-  const causesOfAll = (graph, indexes) => reached(graph, indexes, (at, add) => {
-    for (let edge = graph.firstCause.at(at); edge < graph.causeEnd(at); edge++) add(graph.from.at(edge));
-  });
-  const effectsReached = (graph, index) => reached(graph, [index], (at, add) => {
-    for (let edge = graph.lastEffect.at(at); edge !== NONE; edge = graph.effectBefore.at(edge)) add(graph.to.at(edge));
-  });
+
+  /** The same of a step and all that depends on it, from that step on. */
+  function effectsReached(graph, index) {
+    const isIn = new Uint8Array(graph.count), from = graph.from.all;
+    let count = 1;
+    isIn[index] = 1;
+    for (let at = index + 1, edge = graph.causeEnd(index); at < graph.count; at++) {
+      const end = graph.causeEnd(at);
+      while (edge < end && isIn[from[edge]] === 0) edge += 1;
+      if (edge < end) {
+        isIn[at] = 1;
+        count += 1;
+      }
+      edge = end;
+    }
+    return { isIn, count };
+  }
 
   function numbersIn(graph, { isIn }) {
     const numbers = new Set();
@@ -530,7 +705,7 @@ const Graph = (() => {
   }
 
   return {
-    splitOutside, variablesIn, wordsOf, readRecords, readShelf, readGoals, readClauses, predicateOf, sortOfText, graphOf,
+    splitOutside, variablesIn, wordsOf, readRecords, readShelf, readGoals, readClauses, predicateOf, sortOfText, graphOf, partOf, MADE, READ, NAMED, WOKE,
     allCauses, allEffects, whyLines, tidyOrder, waitingEdges, circleOf, RunGraph, causesReached, causesOfAll, effectsReached, nameParts, readRecord, NONE,
   };
 })();

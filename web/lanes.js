@@ -2,10 +2,6 @@
 const Lanes = ((Graph, Terms) => {
   "use strict";
 
-  const byName = (one, other) => {
-    const [step, place] = one.split(".").map(Number), [otherStep, otherPlace] = other.split(".").map(Number);
-    return step - otherStep || place - otherPlace;
-  };
   const between = (least, value, most) => Math.max(least, Math.min(value, most));
   const MOST_CLEAR_ROWS = 5;
   const MOST_ARCS = 40;
@@ -14,12 +10,28 @@ const Lanes = ((Graph, Terms) => {
 
   const SORTS = ["call", "unification", "assignment", "stream", "stream"]; // of the goal of a step, by the step's kind
 
+  const named = new WeakMap();
+
+  /** Goals by their names, which are found once for each list of goals. */
+  function goalsByName(goals) {
+    if (!named.has(goals)) named.set(goals, new Map(goals.map((goal) => [goal.name, goal])));
+    return named.get(goals);
+  }
+
   /** What each goal of a run is, by its name: `call` (with its predicate), `unification`, `assignment` or `stream`. */
   class GoalKinds {
     constructor(run) {
       this.run = run;
-      this.there = new Map(run.goals.map((goal) => [goal.name, { sort: goal.sort, predicate: goal.sort === "call" ? Graph.predicateOf(goal.text) : null }]));
+      this.there = new Map();
       this.consumed = new Map();
+    }
+
+    /** The kind of a goal that is there. */
+    ofThere(name) {
+      const goal = goalsByName(this.run.goals).get(name);
+      if (goal === undefined) return undefined;
+      if (!this.there.has(name)) this.there.set(name, { sort: goal.sort, predicate: goal.sort === "call" ? Graph.predicateOf(goal.text) : null });
+      return this.there.get(name);
     }
 
     /** The kind of the goal that a step consumed. */
@@ -31,7 +43,7 @@ const Lanes = ((Graph, Terms) => {
 
     at(maker, place) {
       const index = this.run.graph.consumerAt(maker, place);
-      return index === undefined || index === Graph.NONE ? this.there.get(`${maker}.${place}`) : this.ofConsumer(index);
+      return index === undefined || index === Graph.NONE ? this.ofThere(`${maker}.${place}`) : this.ofConsumer(index);
     }
 
     get(name) {
@@ -74,6 +86,12 @@ const Lanes = ((Graph, Terms) => {
     }
   }
 
+  function notePredicate(lane, kind, index) {
+    if (!kind || !kind.predicate || lane.predicates.includes(kind.predicate)) return;
+    lane.predicates.push(kind.predicate);
+    lane.since.push(index);
+  }
+
   /**
    * The lanes of a run, which grow and shrink with its graph: a step that comes or goes at the end costs what that step alone costs. A
    * lane begins where a step (`parent`, by its index) made its first goal, or with an ask (`asked`), which nothing made, or at the left.
@@ -89,7 +107,7 @@ const Lanes = ((Graph, Terms) => {
     }
 
     begin(name, before, index, parent, asked) {
-      const lane = { name, parent, asked, bornAt: index, slot: this.lanes.length, predicates: [], since: [], index: 0 };
+      const lane = { name, parent, asked, bornAt: index, count: 0, predicates: [], since: [], index: 0 };
       this.lanes.push(lane);
       this.ring.put(lane, before);
       this.order = null;
@@ -113,6 +131,7 @@ const Lanes = ((Graph, Terms) => {
       if (this.ofStep.length > count) this.ofMade.length = Math.min(this.ofMade.length, count < graph.count ? graph.firstMade.at(count) : graph.consumers.length);
       while (this.ofStep.length > count) {
         const lane = this.ofStep.pop();
+        lane.count -= 1;
         while (lane.since.length > 0 && lane.since[lane.since.length - 1] >= count) {
           lane.since.pop();
           lane.predicates.pop();
@@ -124,17 +143,51 @@ const Lanes = ((Graph, Terms) => {
       }
     }
 
+    /**
+     * Takes away what came with steps from anywhere, before the graph does: `to` tells for each index where its step stands then, or NONE.
+     * Gives the lanes that stay and had such a step.
+     */
+    remove(graph, to, first) {
+      const touched = new Set(), moved = (index) => (index === null || index < 0 ? index : to[index]);
+      let step = first, made = graph.firstMade.at(first);
+      for (let index = first; index < this.ofStep.length; index++) {
+        if (to[index] === Graph.NONE) {
+          touched.add(this.ofStep[index]);
+          this.ofStep[index].count -= 1;
+        } else {
+          for (let at = graph.firstMade.at(index); at < graph.madeEnd(index); at++) this.ofMade[made++] = this.ofMade[at];
+          this.ofStep[step++] = this.ofStep[index];
+        }
+      }
+      this.ofStep.length = step;
+      this.ofMade.length = made;
+      this.lanes = this.lanes.filter((lane) => {
+        const isGone = moved(lane.bornAt) === Graph.NONE && lane.bornAt >= 0;
+        if (isGone) this.ring.takeOut(lane);
+        else Object.assign(lane, { bornAt: moved(lane.bornAt), parent: moved(lane.parent), asked: moved(lane.asked), since: touched.has(lane) ? [] : lane.since.map(moved) });
+        return !isGone;
+      });
+      this.order = null;
+      return touched;
+    }
+
+    /** Finds anew which predicates some lanes were. */
+    nameAnew(lanes, graph, kinds) {
+      for (const lane of lanes) Object.assign(lane, { predicates: [], since: [] });
+      for (let index = 0; lanes.size > 0 && index < this.ofStep.length; index++) {
+        if (lanes.has(this.ofStep[index]) && graph.makers.at(index) !== Graph.NONE) notePredicate(this.ofStep[index], kinds.ofConsumer(index), index);
+      }
+    }
+
     /** Gives the next step its lane, and the goals that it made theirs: its own process goes on, small goals stay with it, other calls begin lanes beside it. */
     add(graph, kinds) {
       const index = this.ofStep.length, maker = graph.makers.at(index);
       const known = maker === Graph.NONE ? undefined : maker === 0 ? this.ofQuery.get(graph.places.at(index)) : this.ofMade[graph.madeAt(maker, graph.places.at(index))];
       const lane = known || this.begin(maker === Graph.NONE ? String(graph.numbers.at(index)) : `${maker}.${graph.places.at(index)}`, this.ring, index, null, maker === Graph.NONE ? index : null);
       this.ofStep.push(lane);
+      lane.count += 1;
       const own = maker === Graph.NONE ? undefined : kinds.ofConsumer(index);
-      if (own && own.predicate && !lane.predicates.includes(own.predicate)) {
-        lane.predicates.push(own.predicate);
-        lane.since.push(index);
-      }
+      notePredicate(lane, own, index);
       this.placeMade(graph, kinds, index, lane, own);
     }
 
@@ -248,7 +301,7 @@ const Lanes = ((Graph, Terms) => {
 
   /** What stands at the beginning of an ask's lane: the word, and its first goal with what is known by now. */
   function askText(step, run, store, longest) {
-    const [first, ...others] = step.makes, text = (first && run.texts.get(first)) || "true";
+    const [first, ...others] = step.makes, text = (first && (run.texts.get(first) || Graph.splitOutside(step.act.slice(4), ",")[0])) || "true";
     const told = Graph.sortOfText(text) === "call" ? Terms.briefCall(text, store) : text;
     return Terms.cut(`ask ${told}${others.length > 0 ? ", …" : ""}`, longest);
   }
@@ -332,11 +385,24 @@ const Lanes = ((Graph, Terms) => {
   /** The width of a column of arcs, with their variables. */
   const arcWidth = (edges) => 10 + Math.max(0, ...edges.map((edge) => edge.variable.length)) * 6;
 
+  const MOST_TAKEN = 3; // steps that are shown beside their goal
+  const taken = new WeakMap(); // by lists of goals
+
+  /** The last steps that were taken back from a goal that is there. */
+  function takenFrom(run, goal) {
+    const known = taken.get(run.goals);
+    if (known === undefined || known.shelf !== run.shelf) {
+      const byGoal = new Map(run.goals.map((one) => [one.name, []]));
+      for (const step of run.shelf) if (byGoal.has(step.goal)) byGoal.get(step.goal).push(step);
+      taken.set(run.goals, { shelf: run.shelf, byGoal });
+    }
+    return taken.get(run.goals).byGoal.get(goal.name).slice(-MOST_TAKEN);
+  }
+
   /** About how much room the goals that are there take up, with their labels, what was taken back from them, and the arcs of waits. */
   function roomForGoals(run, labels) {
     if (run.goals.length === 0) return 96;
-    const taken = (goal) => Math.min(3, run.shelf.filter((step) => step.goal === goal.name).length);
-    const widths = run.goals.map((goal) => goalLabel(goal, labels).length * 7 + taken(goal) * 30);
+    const widths = run.goals.map((goal) => goalLabel(goal, labels).length * 7 + takenFrom(run, goal).length * 30);
     const edges = Graph.waitingEdges(run.goals).slice(0, MOST_ARCS);
     return 70 + Math.max(...widths) + Math.min(3, edges.length) * arcWidth(edges);
   }
@@ -360,8 +426,7 @@ const Lanes = ((Graph, Terms) => {
         const x = view.thereX, y = view.yOf(lane, view.rows.get(goal.name));
         const label = goalLabel(goal, sizes.labels);
         let end = x + sizes.radius + 6 + label.length * sizes.font * LETTER;
-        const taken = run.shelf.filter((step) => step.goal === goal.name).slice(-3);
-        for (const step of taken) {
+        for (const step of takenFrom(run, goal)) {
           end += sizes.radius * 2 + 8;
           view.taken.push({ step, x: end - sizes.radius, y });
         }

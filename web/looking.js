@@ -33,7 +33,10 @@ const Looking = (() => {
       if (count % 4096 === 0) await Talk.pause();
       if (own !== sought || version !== Talk.run.version) return;
     }
-    Overview.hits = [...hits];
+    Overview.hits = hits.slice();
+    Overview.hitFlags();
+    await Talk.pause();
+    if (own !== sought) return;
     if (hits.length > 0) goTo(0);
     else Canvas.draw();
     showHits(true);

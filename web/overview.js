@@ -7,6 +7,7 @@ const Overview = (() => {
   const LEAST_SIZE = 6, MOST_SIZE = 600; // steps in the window
   const MOST_GOALS = 120; // that the picture shows
   const EDGE = 10, FOOT = 18, TOP = 8; // points of the strip beside its dots
+  const MOST_AT_ONCE = 5000, DOTS = 1024, SLICE = 8; // steps whose dots are drawn at once; dots between two looks at the clock; milliseconds
   const LEVELS = { leaf: 1, reduction: 2, lit: 3, hit: 4, chosen: 5 };
   // `size` is null until somebody sets it; `until` is how many steps of the record are shown, null for all of them.
   const overview = { from: 0, size: null, until: null, hits: [], folded: new Set(), wasCount: 0 };
@@ -66,7 +67,7 @@ const Overview = (() => {
     const foldOf = Lanes.foldsOf(whole.lanes, overview.folded), isFolded = (goal) => foldOf(whole.lanes.ofGoal(graph, goal.name)) !== null;
     const goals = to >= count() ? fewOf(goalsAfter(count()).filter((goal) => whole.lanes.ofGoal(graph, goal.name) && !isFolded(goal))) : [];
     return {
-      ...whole, graph: Graph.graphOf(graph.slice(from, to)), goals, shelf: overview.until === null && to >= graph.count ? whole.shelf : [], store: graph.store,
+      ...whole, graph: Graph.partOf(graph, from, to), goals, shelf: overview.until === null && to >= graph.count ? whole.shelf : [], store: graph.store,
       placed: Lanes.lanesIn(whole, whole.lanes, from, to, goals, foldOf), before: from, incoming: incoming(from, to),
     };
   }
@@ -108,10 +109,8 @@ const Overview = (() => {
 
   /** How many steps there are in a lane and in all that came of it. */
   function stepsUnder(lane) {
-    const { lanes, graph } = run(), foldOf = Lanes.foldsOf(lanes, new Set([lane.name]));
-    let steps = 0;
-    for (let index = 0; index < graph.count; index++) if (foldOf(lanes.ofStep[index]) === lane) steps++;
-    return steps;
+    const { lanes } = run(), foldOf = Lanes.foldsOf(lanes, new Set([lane.name]));
+    return lanes.lanes.reduce((sum, one) => sum + (foldOf(one) === lane ? one.count : 0), 0);
   }
 
   /** Shows as many steps of the record, from its beginning; nothing is taken back. */
@@ -169,19 +168,35 @@ const Overview = (() => {
     return { dot, tall, x: (index) => Math.round(left + index * across), y: (lane) => Math.round(top + (lane + 0.5) * down - tall / 2) };
   }
 
-  function drawDots(dots, ratio, chosen, causes, effects) {
-    const { graph, lanes } = run(), theme = Picture.THEMES[Canvas.theme], places = placesIn(dots.wide, dots.high, ratio, Math.max(1, lanes.inOrder().length));
-    const { leaf, byClause } = paints(theme, chosen === null ? 0.9 : 0.25), lit = pixelOf(theme.read, theme.ground, 1), after = pixelOf(theme.woke, theme.ground, 1);
+  /** Puts all dots into the strip, and yields from time to time. */
+  function* drawDots(dots, ratio, { chosen, causes, effects }) {
+    const { graph, lanes } = run(), theme = Picture.THEMES[Canvas.theme], places = placesIn(dots.wide, dots.high, ratio, Math.max(1, lanes.inOrder().length)), steps = count();
+    const { leaf, byClause } = paints(theme, causes === null ? 0.9 : 0.25), lit = pixelOf(theme.read, theme.ground, 1), after = pixelOf(theme.woke, theme.ground, 1);
     dots.pixels.fill(pixelOf(theme.ground, theme.ground, 1));
-    for (let index = 0; index < count(); index++) {
+    for (let index = 0; index < steps; index++) {
+      if (index % DOTS === DOTS - 1) yield index;
       const x = places.x(index), y = places.y(lanes.ofStep[index].index), isReduction = graph.kinds.at(index) === 0;
-      if (chosen !== null && causes.isIn[index] === 1) dots.put(x, y, places.dot + 1, places.tall + 1, lit, LEVELS.lit);
-      else if (chosen !== null && effects.isIn[index] === 1) dots.put(x, y, places.dot + 1, places.tall + 1, after, LEVELS.lit);
+      if (causes !== null && causes.isIn[index] === 1) dots.put(x, y, places.dot + 1, places.tall + 1, lit, LEVELS.lit);
+      else if (effects !== null && effects.isIn[index] === 1) dots.put(x, y, places.dot + 1, places.tall + 1, after, LEVELS.lit);
       else dots.put(x, y, places.dot, places.tall, isReduction ? byClause[graph.clauses.at(index)] || leaf : leaf, isReduction ? LEVELS.reduction : LEVELS.leaf);
     }
     const hit = pixelOf(theme.named, theme.ground, 1);
-    for (const index of overview.hits) if (index < count()) dots.put(places.x(index), places.y(lanes.ofStep[index].index) - 2, places.dot + 2, places.tall + 4, hit, LEVELS.hit);
+    for (const index of overview.hits) {
+      if (index % DOTS === DOTS - 1) yield index;
+      if (index < steps) dots.put(places.x(index), places.y(lanes.ofStep[index].index) - 2, places.dot + 2, places.tall + 4, hit, LEVELS.hit);
+    }
     if (chosen !== null) dots.put(places.x(chosen) - 3, places.y(lanes.ofStep[chosen].index) - 3, places.dot + 6, places.tall + 6, pixelOf(theme.ink, theme.ground, 1), LEVELS.chosen);
+  }
+
+  let found = { hits: null, isIn: null };
+
+  /** For each step by its index, 1 where it is among what was looked for. */
+  function hitFlags() {
+    if (found.hits !== overview.hits || found.isIn.length !== run().graph.count) {
+      found = { hits: overview.hits, isIn: new Uint8Array(run().graph.count) };
+      for (const index of overview.hits) found.isIn[index] = 1;
+    }
+    return found.isIn;
   }
 
   let reach = { graph: null, version: 0, number: null };
@@ -196,23 +211,64 @@ const Overview = (() => {
     return reach;
   }
 
+  /** What is lit in the strip: a chosen step with its causes and consequences, or the steps of a slice; and the words for it. */
+  function litNow() {
+    const number = Canvas.chosen && Canvas.chosen.step, index = number ? run().graph.indexOf(number) : -1;
+    if (index < 0 || index >= count()) {
+      const { slice } = Canvas;
+      return { chosen: null, causes: slice, effects: null, words: slice === null ? "drag or click: goes there" : `${slice.count} steps are lit (blue)` };
+    }
+    const { causes, effects } = reachOf(number);
+    return { chosen: index, causes, effects, words: `step ${number}: ${causes.count - 1} causes (blue), ${effects.count - 1} consequences (orange)` };
+  }
+
   const layer = document.createElement("canvas");
-  let drawn = [], words = "";
+  let drawn = [], wanted = [], words = "", job = null;
+
+  const isSame = (one, other) => one.length === other.length && one.every((value, at) => value === other[at]);
+
+  function put(dots, of) {
+    layer.width = dots.wide;
+    layer.height = dots.high;
+    layer.getContext("2d").putImageData(dots.image, 0, 0);
+    drawn = of;
+  }
+
+  /** Draws the dots of a long run in slices of time; the strip shows what it showed until that is done, or until something else is wanted. */
+  async function drawInSlices(dots, parts, of) {
+    let until = performance.now() + SLICE;
+    for (const at of parts) {
+      if (performance.now() < until) continue;
+      await Talk.pause();
+      if (of !== wanted || at >= run().lanes.ofStep.length || !run().isWhole) return;
+      until = performance.now() + SLICE;
+    }
+    put(dots, of);
+    draw();
+  }
 
   /** The dots as a picture, which is drawn anew where something of it is another. */
   function dotsLayer(wide, high, ratio) {
-    const { graph, version } = run(), number = Canvas.chosen && Canvas.chosen.step, index = number ? graph.indexOf(number) : -1, chosen = index < 0 || index >= count() ? null : index;
-    const wanted = [run(), version, chosen, Canvas.theme, wide, high, ratio, overview.hits, count()];
-    if (wanted.every((value, at) => value === drawn[at])) return layer;
-    drawn = wanted;
-    const { causes, effects } = chosen === null ? { causes: null, effects: null } : reachOf(number);
-    words = chosen === null ? "drag or click: goes there" : `step ${number}: ${causes.count - 1} causes (blue), ${effects.count - 1} consequences (orange)`;
-    layer.width = wide;
-    layer.height = high;
-    const dots = new Dots(wide, high);
-    drawDots(dots, ratio, chosen, causes, effects);
-    layer.getContext("2d").putImageData(dots.image, 0, 0);
+    const lit = litNow(), of = [run(), run().version, lit.chosen, lit.causes, Canvas.theme, wide, high, ratio, overview.hits, count()];
+    words = lit.words;
+    if (isSame(of, wanted)) return layer;
+    wanted = isSame(of, drawn) ? drawn : of;
+    if (wanted === drawn) return layer;
+    const dots = new Dots(wide, high), parts = drawDots(dots, ratio, lit);
+    if (count() > MOST_AT_ONCE) job = drawInSlices(dots, parts, of);
+    else {
+      for (const at of parts) if (at < 0) break;
+      put(dots, of);
+    }
     return layer;
+  }
+
+  /** Waits until the strip shows what it is to show. */
+  async function settled() {
+    for (let last = null; job !== last;) {
+      last = job;
+      await last;
+    }
   }
 
   function drawWindow(pen, wide, high, theme) {
@@ -229,14 +285,15 @@ const Overview = (() => {
   function draw() {
     const area = find("overview");
     area.hidden = !isOn();
-    if (!isOn()) return;
+    if (!isOn() || !run().isWhole) return;
     setFrom(overview.from);
     const ratio = window.devicePixelRatio || 1, wide = area.clientWidth, high = area.clientHeight, theme = Picture.THEMES[Canvas.theme];
     if (wide === 0) return;
     area.width = Math.round(wide * ratio);
     area.height = Math.round(high * ratio);
     const pen = area.getContext("2d");
-    pen.drawImage(dotsLayer(area.width, area.height, ratio), 0, 0);
+    const dots = dotsLayer(area.width, area.height, ratio);
+    if (dots.width > 0) pen.drawImage(dots, 0, 0, area.width, area.height);
     pen.scale(ratio, ratio);
     const shown = drawWindow(pen, wide, high, theme);
     pen.font = "11px sans-serif";
@@ -281,5 +338,5 @@ const Overview = (() => {
     area.addEventListener("wheel", (event) => { event.preventDefault(); zoom(event.deltaY < 0 ? 1.2 : 1 / 1.2); goTo(overview.from); }, { passive: false });
   }
 
-  return Object.assign(overview, { MOST_SIZE, reachOf, incoming, isOn, count, shownRun, follow, show, showUntil, laneOf, stepsUnder, zoom, fit, draw, listenToAll, sizeNow: size });
+  return Object.assign(overview, { MOST_SIZE, reachOf, incoming, isOn, count, shownRun, follow, show, showUntil, laneOf, stepsUnder, zoom, fit, draw, settled, hitFlags, listenToAll, sizeNow: size });
 })();

@@ -6,6 +6,7 @@ const Panels = (() => {
   const MOST_ROWS = 100, MOST_LINES = 1000, MOST_TIDIED = 3000;
   const LONGEST_GOAL = 200; // letters
   const MOST_KEPT = 1000000; // steps that the program keeps
+  const LONGEST_LINE = 4000; // letters of a reply's line that are shown
   const MOST_LINKED = 60; // lines of a reply in which numbers are links
   const plural = (count, word) => `${count} ${word}${count === 1 ? "" : "s"}`;
   const isRefusal = (line) => /^F\d+ /.test(line) || /^(program|query|history|session): /.test(line);
@@ -18,8 +19,8 @@ const Panels = (() => {
     if (entry.length === 0) return;
     const lines = entry.tail(MOST_LINES), isRefused = entry.length === 1 && isRefusal(lines[0]), more = entry.length - lines.length;
     if (more > 0) told.append(make("div", { class: "dim" }, `(${plural(more, "line")} before these, which Save writes)`));
-    const isMany = lines.length > MOST_LINKED;
-    told.append(make("div", { class: isRefused ? "refused" : null, "aria-hidden": isMany ? "true" : null }, ...(isMany ? [lines.join("\n")] : linkedLines(lines))));
+    const isMany = lines.length > MOST_LINKED, cut = (line) => (line.length > LONGEST_LINE ? `${line.slice(0, LONGEST_LINE)}… (${line.length} letters, which Save writes)` : line);
+    told.append(make("div", { class: isRefused ? "refused" : null, "aria-hidden": isMany ? "true" : null }, ...(isMany ? [lines.map(cut).join("\n")] : linkedLines(lines.map(cut)))));
     if (isMany) told.append(make("div", { class: "for-readers" }, `${plural(entry.length, "line")}, the last of them: ${lines[lines.length - 1]}`));
   }
 
@@ -53,16 +54,17 @@ const Panels = (() => {
   }
 
   const showGoals = () => {
-    fill("goals", Talk.run.goals.map((goal) => () => goalRow(goal)), Talk.refusal ? "none" : "none: all is done");
+    const { goals } = Talk.run;
+    fill("goals", goals.slice(0, MOST_ROWS).map((goal) => () => goalRow(goal)), Talk.refusal ? "none" : "none: all is done", goals.length);
     const spied = [...Talk.spied].map((predicate) => lineButton(`spied: ${predicate} ×`, `nospy ${predicate}`, { class: "chip" }));
     if (spied.length > 0) find("goals").prepend(make("div", null, ...spied));
   };
 
   function showShelf() {
-    const chips = Talk.run.shelf.map((step) => () =>
+    const { shelf } = Talk.run, chips = shelf.slice(0, MOST_ROWS).map((step) => () =>
       make("button", { class: "chip taken", "data-line": `redo ${step.number}`, title: `redo ${step.number}: puts it there again` }, `${step.number} ${step.goal || "-"} ${step.act}`));
-    fill("shelf", chips, "nothing");
-    find("redo-all").hidden = chips.length < 2;
+    fill("shelf", chips, "nothing", shelf.length);
+    find("redo-all").hidden = shelf.length < 2;
   }
 
   /** What is told of the step that is chosen. */
@@ -74,6 +76,8 @@ const Panels = (() => {
     }
     const causes = Graph.whyLines(Talk.run.graph, step.number).filter((line) => line !== "none");
     const effects = Talk.run.graph.effects.get(step.number).map((edge) => edge.to);
+    const isTold = Talk.run.texts.has(step.goal);
+    Resting.withGoalText(step, () => { if (!isTold && Canvas.chosen && Canvas.chosen.step === step.number) showDetail(Canvas.chosen); });
     area.replaceChildren(Picture.tellStep(Talk.run, step), ...causes.flatMap((line) => ["\nbecause of ", goTo(line.split(" ")[0], line)]),
       ...effects.slice(0, 20).flatMap((number, index) => [index === 0 ? "\nneeded by " : ", ", goTo(number, String(number))]));
   }

@@ -53,18 +53,17 @@ const Program = (() => {
     }
   }
 
-  /** Selects the place at which a text was refused, and marks its line. Gives the line. */
-  function showPlace(name, line, column) {
+  /** Selects the place at which a text was refused, by line and letter, so many letters, and marks its line. */
+  function showPlace(name, line, letter, length) {
     const field = find(name), lines = field.value.split("\n");
-    const start = lines.slice(0, line - 1).reduce((sum, other) => sum + other.length + 1, 0) + column - 1;
+    const start = lines.slice(0, line - 1).reduce((sum, other) => sum + other.length + 1, 0) + letter - 1;
     field.focus({ preventScroll: true });
-    field.setSelectionRange(start, start + 1);
+    field.setSelectionRange(start, start + length);
     if (name === "program") {
       wrong = line;
       paint("wrong", wrong, wrong);
       showLine(line);
     }
-    return lines[line - 1] || "";
   }
 
   function setWrap(isOn) {

@@ -13,36 +13,82 @@ const RunModel = ((Graph, Lanes) => {
       this.texts = new Map();
       this.clauses = Graph.readClauses(program);
       this.values = [];
+      this.explained = []; // the end of the reply to `explain G` of a goal that has failed
+      this.isWhole = true; // not while a change is read
       this.version = 0; // grows with each change
     }
 
     /**
-     * Follows a change: the first `kept` steps stay, all behind them go, and those of `lines` come; `told` has the lines of `goals`,
-     * `shelf` and the values, and `texts`. It yields how many steps have come, each time that it may pause.
+     * Follows what the worker tells. Steps have gone (`gone`, their numbers); or the first `kept` steps stay, all behind them go, and those of
+     * `lines` come, with what the console tells of their causes (`causes`, or null). Beside it stand the lines of `goals` and `shelf`, one
+     * after the other, of the values, and texts. It yields how many steps are read, each time that it may pause; `isWhole` is false until it has ended.
      */
-    *change(kept, lines, told) {
-      const { graph, lanes } = this;
+    *change(look, lines) {
       this.version += 1;
+      this.isWhole = false;
+      if (look.gone !== null) yield* this.takeAway(look.gone);
+      else {
+        yield* this.cut(look.kept);
+        yield* this.add(lines, look.causes);
+      }
+      this.goals = yield* this.inParts(look.goals, Graph.readGoals);
+      yield* this.addLanes();
+      for (const [name, text] of look.texts) this.texts.set(name, text);
+      this.shelf = yield* this.inParts(look.shelf, Graph.readShelf);
+      Object.assign(this, { values: look.values, explained: look.explained || [] });
+      this.version += 1;
+      this.isWhole = true;
+    }
+
+    /** What lines tell, read one by one. */
+    *inParts(lines, read) {
+      const all = [];
+      let count = 0;
+      for (const line of lines) {
+        all.push(...read([line]));
+        count += 1;
+        if (count % PART === 0) yield this.graph.count;
+      }
+      return all;
+    }
+
+    /** Takes away all steps behind the first ones. */
+    *cut(kept) {
+      const { graph, lanes } = this;
       lanes.cut(graph, kept);
       while (graph.count > kept) {
         graph.pop();
         if (graph.count % PART === 0) yield graph.count;
       }
+    }
+
+    *add(lines, causes) {
+      const { graph } = this;
+      let at = 0, first = 0;
       for (const line of lines) {
-        graph.push(line);
+        const end = causes === null ? 0 : first + causes.counts[at];
+        graph.push(line, causes === null ? null : { from: causes.from.subarray(first, end), hows: causes.hows.subarray(first, end) });
+        first = end;
+        at += 1;
         if (graph.count % PART === 0) yield graph.count;
       }
-      const goals = [];
-      for (let at = 0; at < told.goals.length; at += PART) {
-        goals.push(...Graph.readGoals(told.goals.slice(at, at + PART)));
-        yield graph.count;
+    }
+
+    /** Takes steps away, on which no step that stays depends. */
+    *takeAway(numbers) {
+      const { graph, lanes } = this, gone = Int32Array.from(numbers, (number) => graph.indexOf(number)).sort();
+      const isAtEnd = gone.every((index, at) => index === graph.count - gone.length + at);
+      if (isAtEnd) {
+        yield* this.cut(graph.count - gone.length);
+        return;
       }
-      this.goals = goals;
-      yield* this.addLanes();
-      for (const [name, text] of told.texts) this.texts.set(name, text);
-      this.shelf = Graph.readShelf(told.shelf);
-      this.values = told.values;
-      this.version += 1;
+      const to = new Int32Array(graph.count).fill(0);
+      for (const index of gone) to[index] = Graph.NONE;
+      let next = 0;
+      for (let index = 0; index < to.length; index++) if (to[index] !== Graph.NONE) to[index] = next++;
+      const touched = lanes.remove(graph, to, gone[0]);
+      yield* graph.remove(to, gone[0]);
+      lanes.nameAnew(touched, graph, new Lanes.GoalKinds(this));
     }
 
     *addLanes() {

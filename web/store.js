@@ -1,10 +1,9 @@
-// The panel of the store: each value in parts that one can click, which lights the steps that gave them; and what a value rests on alone.
+// The panel of the store: each value in parts that one can click, which lights the steps that gave them.
 const Store = (() => {
   "use strict";
 
   const { find, make, goTo } = Elements;
-  const MOST_ROWS = 100, MOST_LOOKED_AT = 2000, MOST_PARTS = 40, MOST_DEEP = 6, LONGEST_ATOM = 60, MOST_ROLLS = 1000;
-  const plural = (count, word) => `${count} ${word}${count === 1 ? "" : "s"}`;
+  const MOST_ROWS = 100, MOST_LOOKED_AT = 2000, MOST_PARTS = 40, MOST_DEEP = 6, LONGEST_ATOM = 60;
   const { isVariable, argumentsOf } = Explain;
 
   /** A part of a value as a button; `path` leads to it from the row's variable. */
@@ -90,30 +89,5 @@ const Store = (() => {
       ...(shown.length > 0 ? [`. On the way to it: ${before}step `, ...shown.flatMap((step, index) => [index > 0 ? ", " : "", goTo(step)])] : []), ". Its causes are lit.");
   }
 
-  /** Rings what would go if the value of a variable were to stand alone, and asks once more. */
-  function askKeep(name) {
-    const variable = Asking.queryVariables(Talk.given.query).get(name) || name, { graph } = Talk.run;
-    const { rolls, gone } = Explain.rollsTo(graph, Explain.sliceOf(graph, variable)), rest = graph.count - gone.size;
-    Canvas.choose(null);
-    Canvas.ring(gone);
-    const isTooMany = rolls.length > MOST_ROLLS, words = gone.size === 0 ? "Nothing would go" : isTooMany ? "Too many rolls for the page" : `Take back ${gone.size}`;
-    const does = make("button", { class: "danger", disabled: rolls.length === 0 || isTooMany }, words);
-    does.addEventListener("click", () => { Menus.close(); Talk.send(...rolls.map((step) => `roll ${step}`)); });
-    return [make("div", { class: "menu-title" }, make("b", null, `Keep what ${name} rests on`)),
-      make("p", null, `${plural(rest, "step")} of ${graph.count} gave this value. The ringed ${plural(gone.size, "step")} would be taken back, by ${plural(rolls.length, "roll")}.`),
-      make("div", { class: "buttons" }, does, make("button", { "data-close": true }, "Leave it"))];
-  }
-
-  /** Lights all steps on which the value of a variable rests. */
-  function lightSlice(name) {
-    const variable = Asking.queryVariables(Talk.given.query).get(name) || name, { graph } = Talk.run, isIn = Explain.sliceOf(graph, variable);
-    const numbers = [];
-    isIn.forEach((is, index) => { if (is === 1) numbers.push(graph.numbers.at(index)); });
-    Canvas.choose(null);
-    Canvas.markWay(numbers);
-    Answers.put(false, make("code", null, name), ` rests on ${plural(numbers.length, "step")} of ${graph.count}`, ...(numbers.length > 0 ? [": ", ...numbers.slice(0, 12).flatMap((step, index) => [index > 0 ? ", " : "", goTo(step)])] : []),
-      numbers.length > 12 ? ` and ${numbers.length - 12} more.` : ".");
-  }
-
-  return { show, explain, askKeep, lightSlice };
+  return { show, explain };
 })();

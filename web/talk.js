@@ -4,7 +4,7 @@ const Talk = (() => {
   "use strict";
 
   const SLICE = 12; // milliseconds that the page reads without a pause
-  const talk = { session: null, given: { program: "", query: "", history: "" }, entries: [], spied: new Set(), run: new RunModel(""), refusal: "", busy: null };
+  const talk = { session: null, given: { program: "", query: "", history: "" }, entries: [], spied: new Set(), known: new Set(), run: new RunModel(""), refusal: "", busy: null };
   const listeners = [], late = [];
   let last = Promise.resolve(), ready = null, isStopped = false;
 
@@ -46,7 +46,8 @@ const Talk = (() => {
     const looks = [...late.splice(0), look].filter(Boolean);
     for (const one of looks) {
       const isLong = one.come.length > 0x10000;
-      await inSlices(talk.run.change(one.kept, linesOf(one.come), one), (count) => {
+      const look = { ...one, goals: linesOf(one.goals), shelf: linesOf(one.shelf) };
+      await inSlices(talk.run.change(look, linesOf(one.come)), (count) => {
         if (isLong && talk.busy) talk.busy.read = count;
       });
     }
@@ -77,6 +78,7 @@ const Talk = (() => {
     await ready;
     const told = await Service.ask("open", { given: talk.given });
     talk.refusal = told.refusal;
+    talk.known = new Set(told.known);
     talk.session = { hasEnded: Boolean(told.refusal) };
     talk.run = new RunModel(talk.given.program);
     if (told.look) await take(told.look);
@@ -100,13 +102,11 @@ const Talk = (() => {
   }
 
   /** A line that was typed, with its reply; a long one is kept as bytes, and read where somebody asks for it. */
-  function newEntry(line, reply) {
-    if (Array.isArray(reply)) return { line, reply, length: reply.length, tail: (most) => reply.slice(-most) };
+  function newEntry(line, reply, length, slice) {
+    if (Array.isArray(reply)) return { line, reply, slice, length: reply.length, tail: (most) => reply.slice(-most) };
     const decode = (bytes) => new TextDecoder().decode(bytes).split("\n").slice(0, -1);
-    let length = 0;
-    for (let at = reply.indexOf(10); at >= 0; at = reply.indexOf(10, at + 1)) length++;
     return {
-      line, length,
+      line, length, slice,
       get reply() { return decode(reply); },
       tail: (most) => {
         let at = reply.length;
@@ -119,7 +119,7 @@ const Talk = (() => {
   async function type(lines) {
     const told = await Service.ask("lines", { lines });
     if (isStopped) throw Service.STOPPED;
-    const fresh = told.replies.map((reply, index) => newEntry(lines[index], reply));
+    const { replies, lengths = [], slices = [] } = told, fresh = replies.map((reply, index) => newEntry(lines[index], reply, lengths[index], slices[index] || null));
     for (const entry of fresh) if (entry.length < 3) noteSpies(entry.reply);
     if (told.look) await take(told.look);
     talk.entries.push(...fresh);
@@ -187,6 +187,16 @@ const Talk = (() => {
     });
   });
 
+  /** Asks the console what no line of the user asks for; null where it was stopped, or there is no session. */
+  async function ask(line) {
+    if (!talk.session || talk.refusal || talk.session.hasEnded) return null;
+    try {
+      return await Service.ask("ask", { line });
+    } catch {
+      return null;
+    }
+  }
+
   /** Stops the line that is at work. */
   function stop() {
     if (!talk.busy || !talk.busy.canStop) return;
@@ -194,5 +204,5 @@ const Talk = (() => {
     Service.stop();
   }
 
-  return Object.assign(talk, { pause, trouble: "", typed: [], listen, start, send, stop, again, typedLines, inSlices, settled: () => last });
+  return Object.assign(talk, { pause, trouble: "", typed: [], listen, start, send, ask, stop, again, typedLines, inSlices, settled: () => last });
 })();

@@ -1,42 +1,39 @@
 // Runs in a worker, or in the page where a browser refuses workers: keeps the engine's session, plays lines, and tells what has changed.
-const WorkerSide = ((Graph, Asking) => {
+const WorkerSide = ((Graph, Asking, Told) => {
   "use strict";
 
-  const MOST_WITH_TEXTS = 3000; // steps; the goals of a longer run are not asked for again in a second session
-  const MOST_QUICK = 20000; // steps; of a longer run a single step is shown before the record is printed
+  const MOST_WITH_TEXTS = 3000; // steps; the goals of a longer run are not asked for
+  const MOST_QUICK = 20000; // steps; of a longer run a single step is shown before the record is printed, where there is no `since`
   const LATE = 400; // milliseconds without a line, after which the record is printed
   const MOST_LINES_READ = 300000; // bytes; a longer reply is handed on as it is
+  const MOST_EXPLAINED = 50; // lines
   const EVERY = 8192, LEAST_PAUSE = 150; // requests for memory, milliseconds: how often it is told that a line is still at work
-  const LINE_END = 10, FIRST_DIGIT = 48, LAST_DIGIT = 57;
-  const NOTHING = new Uint8Array(0);
+  const LINE_END = 10, NOTHING = new Uint8Array(0);
+
+  /** What the console's commands do to the record: add steps at its end, take steps away, or look at it alone. All others are looked at anew. */
+  const ADDS = new Set(["step", "in", "end", "ask", "redo", "leap", "skip"]), TAKES = new Set(["undo", "roll", "keep"]);
+  const LOOKS = new Set(["goals", "records", "shelf", "save", "show", "who", "why", "spy", "nospy", "explain", "goal", "clauses", "since", "causes"]);
 
   const decode = (bytes) => new TextDecoder().decode(bytes);
   const linesOf = (bytes) => decode(bytes).split("\n").slice(0, -1);
-
-  /** How many bytes two texts have in common at their beginning. */
-  function commonLength(one, other) {
-    const most = Math.min(one.length, other.length), words = most >> 2, first = new Uint32Array(one.buffer, 0, words), second = new Uint32Array(other.buffer, 0, words);
-    let word = 0;
-    while (word < words && first[word] === second[word]) word++;
-    let at = word * 4;
-    while (at < most && one[at] === other[at]) at++;
-    return at;
-  }
-
-  function countLines(bytes, to) {
-    let count = 0;
-    for (let at = bytes.indexOf(LINE_END); at >= 0 && at < to; at = bytes.indexOf(LINE_END, at + 1)) count++;
-    return count;
-  }
-
-  /** How many lines of a record stay, and the text behind them. A record that is empty or refused has no line. */
-  function change(before, after) {
-    const isRecord = after.length > 0 && after[0] >= FIRST_DIGIT && after[0] <= LAST_DIGIT, now = isRecord ? after : NOTHING, same = commonLength(before, now);
-    const start = same === 0 ? 0 : now.lastIndexOf(LINE_END, same - 1) + 1;
-    return { now, kept: countLines(now, start), come: now.slice(start) };
-  }
-
+  const wordOf = (line) => line.trim().split(" ")[0];
   const listed = (all) => all.join(",") || "-";
+
+  /** The numbers of the steps that a reply tells to be taken back. */
+  function goneIn(reply) {
+    const lines = Array.isArray(reply) ? reply : linesOf(reply);
+    return lines.filter((line) => line.startsWith("undone ")).flatMap((line) => line.slice(7).split(",").map(Number));
+  }
+
+  /** The numbers of the steps of some record lines. */
+  function numbersOf(lines) {
+    const numbers = [];
+    for (let at = 0, end = 0; end >= 0 && at < lines.length; at = end + 1) {
+      numbers.push(Told.numberAt(lines, at));
+      end = lines.indexOf(LINE_END, at);
+    }
+    return numbers;
+  }
 
   /** The record line of a step that the record does not tell yet. */
   function quickLine({ number, goal, act, reads, binds, makes }) {
@@ -49,55 +46,78 @@ const WorkerSide = ((Graph, Asking) => {
       this.engine = engine;
       this.mostQuick = mostQuick;
       this.session = null;
+      this.known = Asking.commandsKnown(engine.open(Asking.TRIAL));
       this.quick = [];
     }
 
     /** Begins a session, from nothing or from a history. */
     open({ given }) {
       this.given = given;
-      this.shown = NOTHING; // the record as it was told last
-      this.told = 0; // its steps
+      this.told = new Told(); // the record as it was told last
       this.quick = []; // the steps that came after it, as far as they are known
       this.texts = new Map();
       this.sent = new Set();
       this.session = this.engine.open({ program: given.program, query: given.query, history: given.history || undefined });
-      return { refusal: this.session.refused ? this.session.start.trim() : "", look: this.session.refused ? null : this.look() };
-    }
-
-    /** The record, its lines, and what of it is other than what was told last. */
-    record() {
-      const changed = change(this.shown, this.session.bytes("records"));
-      return { ...changed, lines: linesOf(changed.now) };
-    }
-
-    /** What is to be shown: the change of the record, and all that the console tells beside it. */
-    look() {
-      const { now, kept, come } = change(this.shown, this.session.bytes("records"));
-      this.shown = now;
-      this.quick = [];
-      this.told = kept + countLines(come, come.length);
-      return { kept, come, isQuick: false, ...this.beside(), texts: this.newTexts() };
+      return { refusal: this.session.refused ? this.session.start.trim() : "", look: this.session.refused ? null : this.look(), known: [...this.known] };
     }
 
     get count() {
-      return this.told + this.quick.length;
+      return this.told.count + this.quick.length;
     }
 
+    /** What is to be shown, by the whole record: how many of its steps stay, the lines of those that have come, and all that is told beside it. */
+    look() {
+      this.quick = [];
+      return this.changed(this.told.replace(this.session.bytes("records")));
+    }
+
+    /** The same, where steps can have come at the end alone, and the console knows `since`. */
+    addedLook() {
+      const { lastNumber, count: kept } = this.told, come = lastNumber === null ? null : this.told.addSince(this.session.bytes(`since ${lastNumber}`));
+      return come === null ? this.look() : this.changed({ kept, come });
+    }
+
+    /** The same, where steps have gone: they are told by their numbers. */
+    takenLook(numbersGone) {
+      const gone = Float64Array.from(numbersGone), numbers = new Set(gone), quick = this.quick.filter((step) => numbers.has(step.number));
+      this.quick = this.quick.filter((step) => !numbers.has(step.number));
+      for (const { number } of quick) numbers.delete(number);
+      this.told.take(numbers);
+      return this.changed({ gone, come: NOTHING });
+    }
+
+    changed({ gone = null, kept = 0, come, isQuick = false }) {
+      const causes = this.known.has("causes") && come.length > 0 ? Asking.causesOf(this.session, numbersOf(come)) : null;
+      return { gone, kept, come, causes, isQuick, ...this.beside(), texts: this.newTexts() };
+    }
+
+    /** What is told beside the record: the bytes of the replies to `goals` and `shelf`, the lines of values, and why a goal has failed. */
     beside() {
-      const { goals, shelf, values } = Asking.besideRecord(this.session, this.given.query);
-      return { goals, shelf, values };
+      const values = Asking.variablesOf(this.given.query).flatMap((name) => this.session.line(`show ${name}`)), goals = this.session.bytes("goals");
+      return { goals, shelf: this.session.bytes("shelf"), values, explained: this.explained(goals) };
+    }
+
+    /** The end of what the console explains of a goal that has failed, of a run that is not long. */
+    explained(goals) {
+      if (!this.known.has("explain") || this.count > MOST_WITH_TEXTS) return [];
+      const failed = linesOf(goals).find((line) => /^\d+\.\d+ failed /.test(line));
+      return failed ? this.session.line(`explain ${failed.split(" ")[0]}`).slice(-MOST_EXPLAINED) : [];
     }
 
     /** The texts of goals that were not handed on yet. */
     newTexts() {
-      if (this.count <= MOST_WITH_TEXTS) {
-        const { program, query } = this.given, steps = Graph.readRecords(linesOf(this.shown));
-        if (steps.length === 0) for (const goal of Graph.readGoals(this.session.line("goals"))) this.texts.set(goal.name, goal.text);
-        Asking.completeTexts(this.texts, steps, query, () => this.engine.open({ program, query }));
-      }
+      if (this.count <= MOST_WITH_TEXTS) this.completeTexts(Graph.readRecords(linesOf(this.told.bytes)));
       const fresh = [...this.texts].filter(([name]) => !this.sent.has(name));
       for (const [name] of fresh) this.sent.add(name);
       return fresh;
+    }
+
+    /** Asks for the texts of the goals that steps took: the console, or else a second session, in which they are stepped the same way. */
+    completeTexts(steps) {
+      const { program, query } = this.given;
+      if (steps.length === 0) for (const goal of Graph.readGoals(this.session.line("goals"))) this.texts.set(goal.name, goal.text);
+      if (this.known.has("goal")) Asking.completeTakenTexts(this.texts, steps, this.session);
+      else Asking.completeTexts(this.texts, steps, query, () => this.engine.open({ program, query }));
     }
 
     /** A step as far as its reply and its causes tell it; null where it was refused. What it bound is told by those that read it. */
@@ -105,8 +125,8 @@ const WorkerSide = ((Graph, Asking) => {
       const found = /^REDU (\d+) (\S+) (.+)$/.exec(reply[0] || "");
       if (!found) return null;
       const [, number, goal, act] = found, makes = reply.map((line) => /^CALL (\S+) /.exec(line)).filter(Boolean).map(([, name]) => name);
-      const reads = this.session.line(`why ${number}`).map((line) => /^(\d+) read (\S+)/.exec(line)).filter(Boolean).map(([, from, variable]) => ({ from, variable }));
-      return { number, goal, act, reads, binds: new Map(), makes };
+      const reads = this.session.line(`why ${number}`).map((line) => /^(\d+) read (\S+)/.exec(line)).filter(Boolean).map(([, from, variable]) => ({ from: Number(from), variable }));
+      return { number: Number(number), goal, act, reads, binds: new Map(), makes };
     }
 
     /** What a variable stands for, as a binding tells it. */
@@ -117,7 +137,7 @@ const WorkerSide = ((Graph, Asking) => {
 
     /**
      * What is to be shown after a single step of a long run: the step alone, and of those before it that the record does not tell yet
-     * what it read of them. The record is printed later, by `lateLook`.
+     * what it read of them. The record is printed later, by `look`.
      */
     quickLook(reply) {
       const step = this.quickStep(reply);
@@ -131,19 +151,23 @@ const WorkerSide = ((Graph, Asking) => {
         }
         this.quick.push(step);
       }
-      const kept = this.told + first, come = new TextEncoder().encode(this.quick.slice(first).map(quickLine).join(""));
-      return { kept, come, isQuick: true, ...this.beside(), texts: this.newTexts() };
+      const come = new TextEncoder().encode(this.quick.slice(first).map(quickLine).join(""));
+      return this.changed({ kept: this.told.count + first, come, isQuick: true });
     }
 
-    /** The record as it is, in the place of what `quickLook` told. */
-    lateLook() {
-      const { told } = this, look = this.look();
-      return { ...look, kept: Math.min(look.kept, told) };
+    /** What is to be shown after lines; null where they have changed nothing. */
+    lookAfter(lines, replies) {
+      const words = lines.map(wordOf), [word] = words;
+      if (words.every((one) => LOOKS.has(one))) return null;
+      if (lines.length > 1) return this.look();
+      if (TAKES.has(word)) return this.takenLook(goneIn(replies[0]));
+      if (ADDS.has(word) && this.known.has("since")) return this.addedLook();
+      return word === "step" && this.count > this.mostQuick ? this.quickLook(replies[0]) : this.look();
     }
 
-    /** Plays lines. Each reply is a list of lines, or its bytes where it is long. */
+    /** Plays lines. Each reply is a list of lines, or its bytes where it is long, with how many lines it has; of an `explain` its steps are told, too. */
     lines({ lines }) {
-      const replies = [], isQuick = this.count > this.mostQuick && lines.length === 1 && /^ *step /.test(lines[0]);
+      const replies = [], lengths = [], slices = [];
       let last = null;
       for (const line of lines) {
         if (this.session.hasEnded) break;
@@ -151,9 +175,17 @@ const WorkerSide = ((Graph, Asking) => {
         const bytes = this.session.bytes(line), reply = bytes.length > MOST_LINES_READ ? bytes : linesOf(bytes);
         if (reply !== bytes) Asking.addCalls(this.texts, reply);
         replies.push(reply);
+        lengths.push(Told.countLines(bytes));
+        slices.push(wordOf(line) === "explain" ? Asking.sliceIn(linesOf(bytes)) : null);
       }
       const { hasEnded } = this.session;
-      return { replies, hasEnded, look: hasEnded ? last : isQuick ? this.quickLook(replies[0]) : this.look() };
+      return { replies, lengths, slices, hasEnded, look: hasEnded ? last : this.lookAfter(lines, replies) };
+    }
+
+    /** Asks what no line of the user asks for, and what changes nothing: the text of a step's goal, or on what a value or a goal rests. */
+    ask({ line }) {
+      const reply = this.session.hasEnded ? [] : this.session.line(line);
+      return wordOf(line) === "explain" ? { slice: Asking.sliceIn(reply) } : { reply };
     }
 
     get isLate() {
@@ -163,8 +195,9 @@ const WorkerSide = ((Graph, Asking) => {
 
   /** What of an answer can be handed over without being copied. */
   function transferable(answer) {
-    const { replies = [], look } = answer;
-    return [...replies, look && look.come].filter((part) => part instanceof Uint8Array && part.length > 0).map((part) => part.buffer);
+    const { replies = [], look } = answer, causes = look && look.causes ? [look.causes.counts, look.causes.from, look.causes.hows] : [];
+    const parts = look ? [look.come, look.gone, look.goals, look.shelf, ...causes] : [];
+    return [...replies, ...parts].filter((part) => ArrayBuffer.isView(part) && part.length > 0).map((part) => part.buffer);
   }
 
   /** Lets a host tell from time to time how much memory its run has, while the page cannot ask. */
@@ -194,9 +227,10 @@ const WorkerSide = ((Graph, Asking) => {
       load: async ({ bytes }) => { side = new WorkerSide(await loadEngine(bytes)); return {}; },
       open: (message) => side.open(message),
       lines: (message) => side.lines(message),
+      ask: (message) => side.ask(message),
     };
     const tellLate = () => {
-      const late = side.lateLook();
+      const late = side.look();
       post({ late }, transferable({ look: late }));
     };
     return async (message) => {
@@ -218,6 +252,6 @@ const WorkerSide = ((Graph, Asking) => {
     onmessage = ({ data }) => answers(data);
   }
 
-  return Object.assign(WorkerSide, { serve, answerer, change });
-})(typeof require === "undefined" ? Graph : require("./graph.js"), typeof require === "undefined" ? Asking : require("./asking.js"));
+  return Object.assign(WorkerSide, { serve, answerer });
+})(typeof require === "undefined" ? Graph : require("./graph.js"), typeof require === "undefined" ? Asking : require("./asking.js"), typeof require === "undefined" ? Told : require("./told.js"));
 if (typeof module !== "undefined") module.exports = WorkerSide;

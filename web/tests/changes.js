@@ -4,61 +4,20 @@
 
 const test = require("node:test");
 const assert = require("node:assert/strict");
-const fs = require("node:fs");
-const path = require("node:path");
 const { engineOfPage } = require("./engine_of_page.js");
+const { QUERIES, programOf, chance, plainGraph, plainLanes, lineByChance, follow } = require("./chance.js");
 const Graph = require("../graph.js");
 const Lanes = require("../lanes.js");
 const RunModel = require("../run_model.js");
 const WorkerSide = require("../worker_side.js");
 
-const EXAMPLES = path.join(__dirname, "..", "..", "examples");
-const QUERIES = {
-  append: "append([1,2,3,4],[5,6],R)", bill: "bill(12,30,T)", buffer: "produce(1,6,[A,B|E]), consume([A,B|E],E,Out)",
-  deadlock: "after(A,B), after(B,C), after(C,A), A = done", merge: "instream(X), instream(Y), merge(X,Y,Z)", primes: "primes(12,Ps)",
-  quicksort: "quicksort([5,2,8,1,9,3],R)", reverse: "reverse([1,2,3,4],R)", sum: "instream(S), sum(S,0,R)",
-};
 const LINES = 40, SEEDS = 12;
-
-/** Numbers made by chance, the same each time. */
-function chance(seed) {
-  let state = seed;
-  return (most) => {
-    state = (Math.imul(state, 1664525) + 1013904223) >>> 0;
-    return Math.floor(state / 2 ** 32 * most);
-  };
-}
-
-/** All that is to be the same of two graphs. */
-const plainGraph = (graph) => ({
-  steps: graph.steps, edges: graph.edges, depth: graph.steps.map((step) => graph.depth.get(step.number)), deepest: graph.deepestChain,
-  effects: graph.steps.map((step) => graph.effects.get(step.number).map((edge) => edge.to)),
-  bound: graph.steps.flatMap((step) => step.binds.map((binding) => [binding.variable, graph.binderOf(binding.variable), graph.termOf(binding.variable)])),
-  consumers: graph.steps.map((step) => step.makes.map((goal) => graph.consumerOf(goal))),
-});
-const plainLanes = ({ lanes }) => lanes.map((lane) => [lane.name, lane.index, lane.predicates, lane.parent && lane.parent.number, lane.asked && lane.asked.number,
-  lane.steps.map((step) => step.number), lane.goals.map((goal) => goal.name)]);
-
-/** A line that may be lawful or not. */
-function lineByChance(next, model) {
-  const of = (list) => list[next(list.length)], { goals, shelf } = model, { steps } = model.graph;
-  const kinds = [() => `leap ${1 + next(8)}`, () => (goals.length ? `step ${of(goals).name}` : "leap"), () => (steps.length ? `undo ${of(steps).number}` : "leap 3"),
-    () => (steps.length ? `roll ${of(steps).number}` : "leap 2"), () => (shelf.length ? `redo ${of(shelf).number}` : "goals"), () => `in ${1 + next(2)} ${next(9)}`,
-    () => "ask X = [Y|Z], Z = 1", () => (steps.length ? `arrange ${Graph.tidyOrder(model.graph, (number) => number % 3).join(" ")}` : "leap 1")];
-  return of(kinds)();
-}
-
-/** Takes up a change that the worker tells. */
-function follow(model, look) {
-  const lines = new TextDecoder().decode(look.come).split("\n").filter(Boolean);
-  for (const count of model.change(look.kept, lines, look)) assert.ok(count >= 0);
-}
 
 test("after each line the graph and the lanes that were changed are those of the whole record", async () => {
   const { engine } = await engineOfPage();
   let compared = 0;
   for (const [name, query] of Object.entries(QUERIES)) {
-    const program = fs.readFileSync(path.join(EXAMPLES, `${name}.ghc`), "utf8");
+    const program = programOf(name);
     for (let seed = 1; seed <= SEEDS; seed++) {
       const side = new WorkerSide(engine), next = chance(seed * 7919 + name.length), model = new RunModel(program);
       follow(model, side.open({ given: { program, query, history: "" } }).look);
@@ -88,11 +47,12 @@ test("goals that wait for each other in a chain of many thousands are no circle,
   assert.equal(Graph.circleOf(Graph.readGoals(circle)).length, 5001);
 });
 
-test("while the last step of a long run is not told by the record, it is told by its reply and by its causes", async () => {
+test("where the engine knows no `since`, the last step of a long run is told by its reply and by its causes, before the record tells it", async () => {
   const { engine } = await engineOfPage();
   const side = new WorkerSide(engine, { mostQuick: 10 }), model = new RunModel("");
-  const program = fs.readFileSync(path.join(EXAMPLES, "primes.ghc"), "utf8");
+  const program = programOf("primes");
   follow(model, side.open({ given: { program, query: "primes(30,Ps)", history: "" } }).look);
+  side.known.clear();
   follow(model, side.lines({ lines: ["leap 40"] }).look);
   for (let count = 0; count < 10; count++) {
     const ready = model.goals.find((goal) => goal.status === "ready"), told = side.lines({ lines: [`step ${ready.name}`] });
@@ -100,8 +60,8 @@ test("while the last step of a long run is not told by the record, it is told by
     follow(model, told.look);
     const last = model.graph.stepAt(model.graph.count - 1);
     assert.deepEqual(Graph.whyLines(model.graph, last.number), side.session.line(`why ${last.number}`));
-    assert.deepEqual(last.makes, side.record().lines.at(-1).split(" makes ")[1].replace("-", "").split(",").filter(Boolean));
+    assert.deepEqual(last.makes, side.session.line("records").at(-1).split(" makes ")[1].replace("-", "").split(",").filter(Boolean));
   }
-  follow(model, side.lateLook());
+  follow(model, side.look());
   assert.deepEqual(plainGraph(model.graph), plainGraph(Graph.graphOf(Graph.readRecords(side.session.line("records")))));
 });

@@ -1,4 +1,6 @@
 // Tries the page in each headless browser that is there. One that is not there is not tried, and that is said.
+import fs from "node:fs";
+import os from "node:os";
 import path from "node:path";
 import { pathToFileURL, fileURLToPath } from "node:url";
 import test from "node:test";
@@ -16,6 +18,13 @@ const BROWSERS = [{ name: "Chromium", Page: ChromiumPage, isThere: chromiumName(
 export async function open(page, address, size, file = PAGE) {
   if (size) await page.size(...size);
   await page.go(`${file}${address}`, STARTED);
+}
+
+/** A copy of the page, changed by a function of its text. */
+export function pageWith(change) {
+  const folder = fs.mkdtempSync(path.join(os.tmpdir(), "ghcdb-page-")), file = path.join(folder, "page.html");
+  fs.writeFileSync(file, change(fs.readFileSync(FILE, "utf8")));
+  return { file: pathToFileURL(file).href, remove: () => fs.rmSync(folder, { recursive: true }) };
 }
 
 /** Tries the page in each browser that is there. */

@@ -1,10 +1,12 @@
 // Tests of web/ghcdb.html with runs of any length, in a headless Chromium and a headless Firefox: 100,000 steps are drawn while the page goes on,
 // a step is lit with its causes, a line that is at work is stopped. With GHCDB_LONG=1 a run of 1,000,000 steps is tried, too.
+import fs from "node:fs";
 import os from "node:os";
 import assert from "node:assert/strict";
 import { inBrowsers, open } from "./in_browsers.mjs";
 
 const LONGEST_FREEZE = 100, LONGEST_STEP = 100, LONGEST_LIGHT = 500; // milliseconds on a machine that does nothing else
+const MOST_MEMORY = 1000; // MB of the browser with all its processes
 const MOST_ROUNDS = 8; // the least time of some rounds counts, for other work may be done on the machine
 const PRIMES = "#example=primes&query=primes(20000,Ps)";
 
@@ -40,11 +42,23 @@ const WATCH = `(() => {
   return true;
 })()`;
 
+/** The memory of a browser in MB: of each of its processes what it has alone, and its share of what several have. Nothing where the system does not tell. */
+function memoryOf({ browser }) {
+  const told = (pid, file, form) => { try { return (form.exec(fs.readFileSync(`/proc/${pid}/${file}`, "utf8")) || [])[1]; } catch { return undefined; } };
+  if (told("self", "smaps_rollup", /^Pss: +(\d+)/m) === undefined) return 0;
+  const parents = fs.readdirSync("/proc").filter((name) => /^\d+$/.test(name)).map((pid) => [pid, told(pid, "status", /^PPid:\s+(\d+)/m)]), own = new Set([String(browser.pid)]);
+  for (const one of own) for (const [pid, parent] of parents) if (parent === one) own.add(pid);
+  return [...own].reduce((sum, pid) => sum + Number(told(pid, "smaps_rollup", /^Pss: +(\d+)/m) || 0) / 1000, 0);
+}
+
 /** How long something took and the page stood still; `slowness` is at least how many programs want each processor of this machine. */
 async function measured(page, does) {
   const told = await page.value(`measured(() => ${does})`);
   return { ...told, slowness: Math.max(told.slowness, os.loadavg()[0] / os.cpus().length) };
 }
+
+/** The number of a step behind step 60,000 on which no other depends. */
+const LEAF = "(() => { const { graph } = Talk.run; let at = graph.indexOf(60000); while (graph.lastEffect.at(at) !== Graph.NONE) at++; return graph.numbers.at(at); })()";
 
 /** Tries something until a round is as quick as it has to be. */
 async function quickEnough(words, isQuick, does) {
@@ -69,11 +83,15 @@ inBrowsers("a run of 100,000 steps is drawn while the page goes on; a further st
     await new Promise((done) => setTimeout(done, 1500)); // the record of the step before is printed meanwhile
     return measured(page, 'Talk.send("step " + Talk.run.goals.find((goal) => goal.status === "ready").name)');
   });
-  await quickEnough("lighting", ({ took, slowness }) => took <= LONGEST_LIGHT * slowness, () => measured(page, '(Canvas.choose(null), Canvas.choose({ step: 50000 }))'));
+  await quickEnough("an undo", ({ took, freeze, slowness }) => Math.max(took, freeze) <= LONGEST_STEP * slowness, () => measured(page, 'Talk.send(document.getElementById("undo-last").dataset.line)'));
+  await page.value('Talk.send("leap 5")');
+  await quickEnough("an undo of a step in the middle", ({ freeze, slowness }) => freeze <= LONGEST_FREEZE * slowness, () => measured(page, `Talk.send("undo " + ${LEAF})`));
+  await quickEnough("lighting", ({ took, slowness }) => took <= LONGEST_LIGHT * slowness, () => measured(page, '(Canvas.choose(null), Canvas.choose({ step: 50000 }), Overview.settled())'));
   assert.match(await page.value('document.getElementById("overview").getAttribute("aria-valuetext")'), /step 50000: 33333 causes \(blue\), 15001 consequences/);
   const record = 'Service.ask("lines", { lines: ["records"] }).then((told) => new TextDecoder().decode(told.replies[0]).split("\\n").filter(Boolean))';
   await page.value("new Promise((done) => setTimeout(done, 2500))");
   assert.equal(await page.value(`${record}.then((lines) => lines.length === Talk.run.graph.count && lines.every((line, index) => line === Talk.run.graph.told[index]))`), true, "the page's record is the console's");
+  assert.ok(memoryOf(page) < MOST_MEMORY, `${memoryOf(page)} MB`);
 });
 
 inBrowsers("a line that is at work is stopped: the run stands where it stood, the line is told and not saved, and the next one is right", async (page) => {
@@ -92,7 +110,15 @@ inBrowsers("a line that is at work is stopped: the run stands where it stood, th
 if (process.env.GHCDB_LONG === "1") {
   inBrowsers("a run of 1,000,000 steps is shown with true counts", async (page) => {
     await open(page, "", [1440, 900]);
-    await page.value('(Page.begin({ program: "loop :- true | loop.\\n", query: "loop" }), Talk.send("leap"))');
+    await page.value('(Page.begin({ program: "loop :- true | loop.\\n", query: "loop" }), Talk.settled())');
+    await page.value(WATCH);
+    await page.value('(Talk.send("leap"), new Promise((done) => { const look = () => (Talk.busy && Talk.busy.read > 100000 ? done(true) : setTimeout(look, 5)); look(); }))');
+    await page.value("(Talk.stop(), Talk.settled())");
+    assert.equal(await page.value('document.getElementById("count").textContent'), "0 steps, depth 0", "it is stopped while it is read");
+    await quickEnough("the run", ({ freeze, slowness }) => freeze <= LONGEST_FREEZE * slowness, async () => {
+      await page.value('(Page.begin({ program: "loop :- true | loop.\\n", query: "loop" }), Talk.settled())');
+      return measured(page, 'Talk.send("leap")');
+    });
     assert.equal(await page.value('document.getElementById("count").textContent'), "1000000 steps, depth 1000000");
     assert.match(await page.value('document.getElementById("overview").getAttribute("aria-valuetext")'), /of 1000000/);
     assert.equal(await page.value('document.getElementById("undo-last").dataset.line'), "undo 1000000");

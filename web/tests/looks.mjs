@@ -73,6 +73,22 @@ inBrowsers("no text is cut or over another one, nothing reaches beyond the windo
   }
 });
 
+inBrowsers("a cause with a long line stays within the window, and can be read", async (page) => {
+  const refused = { program: `p(X) :- true | ${"X = aaaaaaaaaaaaaa, ".repeat(20)}X == 2.\n`, query: "p(1)" }, noted = { program: `p(Tail) :- true | q(Tai1,${"a,".repeat(90)}b).\nq(${"_,".repeat(91)}_).\n`, query: "p(1)" };
+  for (const [name, size] of Object.entries(SIZES)) {
+    for (const theme of ["light", "dark"]) {
+      await open(page, `#example=bill&theme=${theme}`, size);
+      for (const given of [refused, noted]) {
+        await page.value(`(Page.begin(${JSON.stringify(given)}), Talk.settled())`);
+        const words = `${given === refused ? "refused" : "noted"} on a ${name} window, ${theme}`;
+        assert.equal(await page.value('document.querySelectorAll("#answer .cause").length'), 1, words);
+        assert.deepEqual(await page.value(PARTS), [], words);
+        assert.deepEqual(await page.value(CONTRAST), [], words);
+      }
+    }
+  }
+});
+
 inBrowsers("all of a run fits where that is asked for, and after a run one looks at what is there now", async (page) => {
   await open(page, "#example=tree&query=empty([insert(5),insert(2),insert(8),has(3,A),has(8,B),has(2,C)])&lines=leap", [900, 600]);
   const fits = '(() => { const area = document.getElementById("canvas"); return [area.scrollWidth <= area.clientWidth + 1, area.scrollHeight <= area.clientHeight + 1]; })()';
@@ -82,4 +98,23 @@ inBrowsers("all of a run fits where that is asked for, and after a run one looks
   await open(page, "#example=primes&query=primes(80,Ps)&lines=leap 200", [900, 600]);
   const isThere = '(() => { const goal = document.querySelector("#canvas .goal .body").getBoundingClientRect(), area = document.getElementById("canvas").getBoundingClientRect(); return goal.left > area.left && goal.right < area.right && goal.top > area.top && goal.bottom < area.bottom; })()';
   assert.ok(await page.value(isThere), "the first goal that is there is in sight");
+});
+
+inBrowsers("at 50 steps on a wide window the numbers of the steps are written where they have room, and no room is left unused", async (page) => {
+  for (const wide of [SIZES.wide, [2400, 900]]) {
+    await open(page, "#example=primes&query=primes(30,Ps)&lines=leap 50", wide);
+    const written = await page.value('[...document.querySelectorAll("#canvas .number, #canvas .small")].map((one) => Number(one.textContent)).sort((one, other) => one - other)');
+    assert.deepEqual(written, await page.value('Talk.run.graph.steps.filter((step) => step.kind === "reduce").map((step) => step.number)'));
+    assert.ok(await page.value('document.getElementById("canvas").clientWidth - document.querySelector("#canvas svg").getBoundingClientRect().width') < 250);
+  }
+  const computed = await page.value('Talk.run.graph.steps.filter((step) => step.kind === "assign").map((step) => step.binds[0].term)'), bound = await page.value('[...document.querySelectorAll("#canvas .bound")].map((one) => one.textContent.split("=").pop())');
+  assert.ok(computed.length > 10 && computed.every((value) => bound.includes(value)), `where there is room for large marks, what was computed is written, too: ${bound}`);
+});
+
+inBrowsers("what all stands for is in sight wherever one has scrolled, and a label is not cut twice", async (page) => {
+  await open(page, "#example=primes&query=primes(30,Ps)&lines=leap 50", SIZES.phone);
+  assert.ok(await page.value('document.getElementById("canvas").scrollLeft') > 20);
+  const legend = '[...document.querySelectorAll("#canvas .legend text")].every((one) => { const box = one.getBoundingClientRect(); return box.left >= 0 && box.right <= innerWidth; })';
+  assert.ok(await page.value(legend));
+  assert.ok(!(await page.value('document.querySelector("#canvas .names").textContent')).includes("……"));
 });

@@ -1,25 +1,15 @@
 // Tests of web/ghcdb.html for real work, in a headless Chromium and a headless Firefox, from a file: what is told and where, values explained,
 // lines that are kept, two runs side by side, the program's pane, what is saved, and what one looks for.
-import fs from "node:fs";
-import os from "node:os";
-import path from "node:path";
-import { pathToFileURL } from "node:url";
 import assert from "node:assert/strict";
-import { FILE, inBrowsers, open } from "./in_browsers.mjs";
+import { inBrowsers, open, pageWith } from "./in_browsers.mjs";
 
 const PHONE = [390, 800], WIDE = [1440, 900];
 const text = (id) => `document.getElementById(${JSON.stringify(id)}).textContent`;
 const isSeen = (id) => `(() => { const box = document.getElementById(${JSON.stringify(id)}).getBoundingClientRect(); return box.height > 0 && box.top >= 0 && box.bottom <= innerHeight; })()`;
 const numbers = (selector, name = "step") => `[...document.querySelectorAll(${JSON.stringify(selector)})].map((one) => Number(one.dataset.${name}))`;
 const lines = "[...document.querySelectorAll('#told > .typed')].map((one) => one.textContent.slice(2))";
+const first = (page, script) => page.replace("<script data-file=", () => `<script>${script}</script>\n<script data-file=`);
 const FAILED = "#example=append&query=append([1],[2],R)&lines=step 0.1;ask _1_1 = [7];step 2.1;step 1.2";
-
-/** A copy of the page in which a script comes first. */
-function pageWith(script) {
-  const folder = fs.mkdtempSync(path.join(os.tmpdir(), "ghcdb-page-")), file = path.join(folder, "page.html");
-  fs.writeFileSync(file, fs.readFileSync(FILE, "utf8").replace("<script data-file=", `<script>${script}</script>\n<script data-file=`));
-  return { file: pathToFileURL(file).href, remove: () => fs.rmSync(folder, { recursive: true }) };
-}
 
 inBrowsers("a refusal stands above the picture, also on a phone, and its step is a link", async (page) => {
   for (const size of [WIDE, PHONE]) {
@@ -43,8 +33,32 @@ inBrowsers("a failed goal tells what clashed and which step bound it; an error i
   const program = `${"p(a) :- true | true.\n".repeat(40)}p(b) :- true | q(.\n`;
   await page.value(`(Files.openText(${JSON.stringify(program)}), Talk.settled())`);
   assert.equal(await page.value(text("note")), "Refused: program: F2 syntax at 41:18");
-  assert.equal(await page.value(text("answer")), "Line 41, column 18: this fits nowhere: . behind p(b) :- true | q(.×");
+  assert.equal(await page.value(text("answer")), ["syntax: '(' of line 41, column 17 is not closed  --> program:41:18", "   |", "41 | p(b) :- true | q(.", "   |                  ^= missing: )×"].join("\n"));
   assert.ok(await page.value('(() => { const line = document.querySelector("#program-lines .wrong").getBoundingClientRect(), pane = document.getElementById("program-pane").getBoundingClientRect(); return line.top >= pane.top && line.bottom <= pane.bottom; })()'), "the line is in sight");
+});
+
+inBrowsers("a refused program, query and line are told with their cause, and the place is selected; a variable that stands once is noted", async (page) => {
+  const start = (program, query) => page.value(`(Page.begin(${JSON.stringify({ program, query })}), Talk.settled())`);
+  const selected = (id) => page.value(`(() => { const field = document.getElementById("${id}"); return [field.selectionStart, field.selectionEnd, document.activeElement === field].join(); })()`);
+  const answer = () => page.value(text("answer"));
+  await open(page, "", WIDE);
+  await start("% größe\np(X) :- even(X) | true.\neven(0).\n", "p(0)");
+  assert.match(await answer(), /^not flat, clause 1: even\/1 is no test --> program:2:9[^]*2 \| p\(X\) :- even\(X\) \| true\.\n {2}\| {9}\^\^\^\^= the tests are true, wait\(X\)/);
+  assert.equal(await selected("program"), "16,20,true");
+  await start("p(1).\n", "p(ä)");
+  assert.match(await answer(), /^syntax: this letter is not of the language --> query:1:3/);
+  assert.equal(await selected("query"), "2,3,true");
+  await start("p(1).\n", "q(1)");
+  assert.match(await answer(), /^undefined: no clause has the head q with 1 argument[^]*= defined are: p\/1×$/);
+  await start(`p(${"f(".repeat(70)}1${")".repeat(70)}).\n`, "true");
+  assert.equal(await answer(), "more than 64 brackets are open at one place×");
+  await start("p(1).\n", "p(1)");
+  assert.ok(await page.value('document.getElementById("answer").hidden'), "nothing is told of a program that is right");
+  await page.value('Talk.send("ask Y is 1")');
+  assert.match(await answer(), /^ask Y is 1 was refused: F2 syntax at 1:3syntax: `is` is written := --> ask:1:3[^]*= Y := \.\.×$/);
+  await start("p(Tail) :- true | q(Tai1).\nq(_).\n", "p(1)");
+  assert.match(await answer(), /^note: Tail stands once in clause 1[^]*1 more: Tai1 stands once in clause 1×$/);
+  assert.equal(await page.value('document.getElementById("answer").classList.contains("refused")'), false);
 });
 
 inBrowsers("a bad session, no WebAssembly, refused workers and an engine that stopped are told, and the lines are kept", async (page) => {
@@ -58,11 +72,11 @@ inBrowsers("a bad session, no WebAssembly, refused workers and an engine that st
   await page.click("#again");
   assert.deepEqual(await page.value(lines), ["step 0.1"]);
   assert.deepEqual(await page.value(numbers("#canvas .mark")), [1]);
-  const without = pageWith("delete window.WebAssembly;");
+  const without = pageWith((page) => first(page, "delete window.WebAssembly;"));
   await page.go(without.file, 'document.getElementById("note").textContent !== ""');
   assert.match(await page.value(text("note")), /could not start in this browser: it has no WebAssembly/);
   without.remove();
-  const refused = pageWith('window.Worker = class { constructor() { throw new Error("refused"); } };');
+  const refused = pageWith((page) => first(page, 'window.Worker = class { constructor() { throw new Error("refused"); } };'));
   await open(page, "#example=append&lines=leap", WIDE, refused.file);
   assert.deepEqual(await page.value(numbers("#canvas .mark")), [1, 2, 3, 4]);
   refused.remove();
@@ -186,4 +200,65 @@ inBrowsers("the record is shown up to a step, steps are found, a lane folds to a
   assert.equal(await page.value('document.querySelectorAll("#canvas .mark").length'), 27);
   assert.deepEqual(await page.value('[...Files.pictureText({ theme: "dark", from: 2, to: 5 }).matchAll(/data-step="(\\d+)"/g)].map(([, step]) => Number(step))'), [2, 3, 4, 5]);
   assert.deepEqual(await page.value('Files.pngOf(Files.pictureText({ theme: "dark" })).then((blob) => [blob.type, blob.size > 10000])'), ["image/png", true]);
+});
+
+inBrowsers("above 3,000 steps the counts, the last step, the store and the chosen step are true", async (page) => {
+  await open(page, "#example=primes&query=primes(400,Ps)&lines=leap 5000", WIDE);
+  const told = await page.value('Service.ask("lines", { lines: ["records", "show Ps"] }).then(({ replies }) => replies.map((one) => (Array.isArray(one) ? one : new TextDecoder().decode(one).split("\\n").filter(Boolean))))');
+  const [records, [value]] = told, last = records[4999].split(" ")[0], binding = records.filter((line) => !line.includes(" binds - ")).at(-1);
+  assert.equal(records.length, 5000);
+  assert.match(await page.value(text("count")), /^5000 steps, depth \d+$/);
+  assert.equal(await page.value('document.getElementById("undo-last").dataset.line'), `undo ${last}`);
+  assert.ok(!(await page.value(text("note"))).includes("`"));
+  const rows = await page.value('[...document.querySelectorAll("#store .row")].map((row) => row.textContent)');
+  assert.equal(rows[0].slice(0, 20), value.slice(0, 20));
+  assert.equal(rows[1], binding.replace(/^(\d+) .* binds (_\d+_\d+)=(.*) makes .*$/, "$2 = $3  by $1"));
+  await page.value("Canvas.choose({ step: 2500 })");
+  assert.match(await page.value(text("detail")), /^step 2500: goal /);
+});
+
+inBrowsers("arrows from outside the window end at their steps, tell where they come from, and a click goes there", async (page) => {
+  await open(page, "#example=primes&query=primes(80,Ps)&lines=leap 300", WIDE);
+  const coming = await page.value('[...document.querySelectorAll("#canvas .coming")].map((one) => [Number(one.dataset.from), Number(one.dataset.to)])');
+  const shown = new Set(await page.value(numbers("#canvas .mark")));
+  assert.ok(coming.length > 3);
+  for (const [from, to] of coming) {
+    assert.ok(!shown.has(from) && shown.has(to), `${from} to ${to}`);
+    assert.ok(await page.value(`Talk.run.graph.causes.get(${to}).some((cause) => cause.from === ${from})`));
+  }
+  await page.value('document.querySelector("#canvas .coming path").dispatchEvent(new MouseEvent("click", { bubbles: true }))');
+  assert.deepEqual(await page.value("Canvas.chosen"), { step: coming[0][0] });
+  assert.ok(await page.value(`Boolean(document.querySelector('#canvas .mark.chosen[data-step="${coming[0][0]}"]'))`));
+});
+
+inBrowsers("every number of a step and every name of a goal that a reply tells is a link", async (page) => {
+  await open(page, "#example=bill&query=bill(12,3,T)&lines=step 0.1;step 1.1;goals;records;why 2", WIDE);
+  const links = "[...document.querySelectorAll('#told > .typed')].map((one) => [...one.nextElementSibling.querySelectorAll('.link')].map((link) => link.textContent).join())";
+  assert.deepEqual(await page.value(links), ["1,1.1,1.2,1.3,1.3", "2,2.1", "1.2,1.3,2.1", "1,2", "1"]);
+  await page.click('#told [data-goto="2"]');
+  assert.deepEqual(await page.value("Canvas.chosen"), { step: 2 });
+  await page.click('#told [data-go-goal="1.2"]');
+  assert.match(await page.value(text("menu")), /^Goal 1\.2/);
+  await page.click('#told [data-go-goal="1.1"]');
+  assert.deepEqual(await page.value("Canvas.chosen"), { step: 2 }, "a goal that is gone leads to the step that took it");
+});
+
+inBrowsers("a window that changes its size, a strip that is dragged and a step that is chosen while a run is read do no harm", async (page) => {
+  await open(page, "#example=primes&query=primes(3000,Ps)&lines=leap 30000", WIDE);
+  const fiddle = `(async () => {
+    let isDone = false, looks = 0;
+    Talk.send("leap 30000").then(() => { isDone = true; });
+    while (!isDone) {
+      window.dispatchEvent(new Event("resize"));
+      Canvas.choose({ step: 1 + looks % 20000 });
+      Overview.draw();
+      looks += 1;
+      await new Promise((done) => setTimeout(done, 5));
+    }
+    return looks;
+  })()`;
+  assert.ok(await page.value(fiddle) > 3);
+  await page.value("Overview.settled()");
+  assert.match(await page.value(text("count")), /^60000 steps/);
+  assert.match(await page.value('document.getElementById("overview").getAttribute("aria-valuetext")'), /of 60000/);
 });
