@@ -26,15 +26,15 @@ def environment_of(folder, name, workers):
     return os.environ | {"LD_PRELOAD": str(library), "PAUSE_SEED": str(crc32(name.encode()))}
 
 
-def play(folder, case, lines, workers, history=None):
+def play(folder, case, lines, workers, history=None, settings=None):
     """The replies to the lines, by so many workers, on the history where there is one. Several workers are made to overtake each other,
-    if there is the library for that."""
+    if there is the library for that, under these settings of tests/refuse.c."""
     words = words_of(folder, case, workers)
     if history is not None:
         (folder / "run.history").write_text(history)
         words += ["--load", str(folder / "run.history")]
     given = "".join(f"{line}\n{END}\n" for line in lines)
-    environment = environment_of(folder, case.name, workers)
+    environment = environment_of(folder, case.name, workers) | (settings or {})
     try:
         ended = subprocess.run(words, input=given, capture_output=True, text=True, env=environment, timeout=SECONDS)
     except subprocess.TimeoutExpired:

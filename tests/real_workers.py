@@ -8,6 +8,9 @@ Threads take the turns that they get, so no single run has to show it. Each of t
     runs; in none are there more;
   - halt: in one of at most 10 runs of goals without end, of which one leads to a spied goal, the run stops for that goal at most 2,000
     steps behind the one that made it: where a worker has met a reason to stop, the others do no more than they have in hand.
+
+And where the system refuses threads, the first, the second, the third, or all from one on, a run goes on with those that are there,
+and leaves what one worker leaves.
 """
 import os
 import re
@@ -20,6 +23,7 @@ from playing import play, words_of
 from random_sessions import FLOW, Case
 from refusing import SECONDS
 
+EVER = 2**40
 ENDLESS = "from(N) :- true | M := N + 1, from(M).\n"
 MET = "down([]) :- true | met.\ndown([A|X]) :- true | down(X).\nmet :- true | true.\n"
 
@@ -34,12 +38,13 @@ def show_orders(folder, workers):
     raise Wrong("each of 200 runs took the same steps in the same order, as one thread does")
 
 
-def most_threads(folder, workers):
+def most_threads(folder, workers, settings=None):
     """How many threads there were at once, at the most, in a run of many goals without end. It makes no pauses."""
+    environment = os.environ | (settings or {})
     case = Case("threads", ENDLESS, ", ".join(["from(0)"] * 2 * workers), [], [], False)
     (folder / "lines").write_text("leap 100000\n")
     most, started, lines = 0, time.monotonic(), (folder / "lines").open()
-    with lines, subprocess.Popen(words_of(folder, case, workers), stdin=lines, stdout=subprocess.DEVNULL) as process:
+    with lines, subprocess.Popen(words_of(folder, case, workers), stdin=lines, stdout=subprocess.DEVNULL, env=environment) as process:
         while process.poll() is None:
             most = max(most, len(os.listdir(f"/proc/{process.pid}/task")))
             time.sleep(0.001)
@@ -79,4 +84,28 @@ def show_halt(folder, workers):
     raise Wrong(f"so many steps stand behind the one that made a spied goal, or so each of some runs stopped: {found}")
 
 
-SHOWN = {"orders": show_orders, "threads": show_threads, "halt": show_halt}
+def left_where_refused(folder, workers, first, last):
+    """What a run leaves where the threads from the first to the last of these are refused."""
+    case = Case("refused", FLOW, "fork(8,R)", ["R"], [], True)
+    refused = {"THREADS_FROM": str(first), "THREADS_TO": str(last)}
+    told, shown, records = play(folder, case, ["leap", "show R", "records"], workers, settings=refused)
+    return told.splitlines()[-1], shown, len(records.splitlines())
+
+
+def show_refused(folder, workers):
+    """Whichever threads are refused, a run leaves what one worker leaves."""
+    library = folder.parent / "refuse.so"
+    if not library.exists():
+        return
+    alone = left_where_refused(folder, 1, 0, 0)
+    for first, last in [(1, 1), (2, 2), (3, 3), (1, EVER), (2, EVER)]:
+        found = left_where_refused(folder, workers, first, last)
+        if found != alone:
+            raise Wrong(f"with threads {first} to {last} refused it leaves {found}, and one worker leaves {alone}")
+    if Path("/proc/self/task").is_dir():
+        most = most_threads(folder, workers, {"LD_PRELOAD": str(library), "THREADS_FROM": "1", "THREADS_TO": str(EVER)})
+        if most > 1:
+            raise Wrong(f"with all threads refused there were {most}")
+
+
+SHOWN = {"orders": show_orders, "threads": show_threads, "halt": show_halt, "refused": show_refused}

@@ -4,10 +4,13 @@
 // names a file for what was counted: reads, writes, the bytes written before the call that failed, and then two numbers for each line,
 // its requests and the bytes written before it. Memory may be asked for by several threads: requests are counted atomically. Reads and
 // writes are the first thread's alone, so the line changes only while there is no other. Where PAUSE_SEED is given, one request in eight
-// sleeps first, for up to a tenth of a millisecond: so threads overtake each other.
+// sleeps first, for up to a tenth of a millisecond: so threads overtake each other. Threads THREADS_FROM to THREADS_TO, counted from the
+// first that is asked for, are refused.
 #define _GNU_SOURCE
+#include <dlfcn.h>
 #include <errno.h>
 #include <fcntl.h>
+#include <pthread.h>
 #include <stdint.h>
 #include <stdlib.h>
 #include <sys/mman.h>
@@ -25,6 +28,8 @@ static struct counts {
 } spare, *counts = &spare;
 
 static uint64_t line, written, refused_line = -1, refused_from, refused_to, failing_read, failing_write, pause_seed, pauses;
+static uint64_t threads, threads_from, threads_to;
+static int (*create)(pthread_t *, const pthread_attr_t *, void *(*)(void *), void *);
 static int is_line_read = 1;
 
 static uint64_t number(const char *name, uint64_t without) {
@@ -46,6 +51,9 @@ __attribute__((constructor)) static void start(void) {
     failing_write = number("FAIL_WRITE", 0);
     refused_line = number("REFUSE_LINE", -1);
     pause_seed = number("PAUSE_SEED", 0);
+    threads_from = number("THREADS_FROM", 0);
+    threads_to = number("THREADS_TO", 0);
+    create = dlsym(RTLD_NEXT, "pthread_create");
 }
 
 static void pause_now_and_then(void) {
@@ -109,4 +117,9 @@ ssize_t read(int file, void *bytes, size_t size) {
     size_t count = read_line(bytes, size);
     is_line_read = !count || ((char *)bytes)[count - 1] == '\n';
     return count;
+}
+
+int pthread_create(pthread_t *thread, const pthread_attr_t *how, void *(*run)(void *), void *given) {
+    uint64_t count = __atomic_add_fetch(&threads, 1, __ATOMIC_RELAXED);
+    return threads_from <= count && count <= threads_to ? EAGAIN : create(thread, how, run, given);
 }

@@ -1,5 +1,5 @@
 #!/usr/bin/env python3
-"""Runs the rows and tables of tests/rows/, and the examples of three pages, on the proved program, crates/ghcdb/out/ghcdb, or on the
+"""Runs the rows and tables of tests/rows/, and the examples of some pages, on the proved program, crates/ghcdb/out/ghcdb, or on the
 one that the environment names as GHCDB.
 
     python3 tests/run_rows.py [WORD..]     the files whose names hold one of the words; without words, all
@@ -60,9 +60,13 @@ with which the session begins and, without input, ends with status 0. KIND is `p
 `query`, and then the program is empty; or `history`, and then program and query are those of examples/append.ghc. Lines
 that begin with `#` and empty lines are left out.
 
-The examples of docs/LANGUAGE.md, docs/FORMATS.md and docs/TUTORIAL.md are rows too: each block that begins with `program`
-and `query`, and then has a session; one that begins with `continued` goes on with the session of the block before it, and
-one that begins with `after the first run` with that of the page's first.
+The examples of README.md, and of LANGUAGE.md, FORMATS.md, TUTORIAL.md, RACE.md and TERMINAL.md in docs/, are rows too: each block that
+begins with `program` and `query`, and then has a session; one that begins with `continued` goes on with the session of the block before
+it, and one that begins with `after the first run` with that of the page's first.
+
+A block that begins with `$ ./ghcdb FILE --query "QUERY"` is a session on a file of the repository as a terminal shows it. Its lines
+that begin with `% ` are the terminal's; here they are left out, and with them what is typed and answered by such lines alone. Where
+`% sent: LINE` stands, LINE is given in place of what was typed.
 """
 
 import json
@@ -82,7 +86,9 @@ PROGRAM = Path(os.path.abspath(os.environ.get("GHCDB") or TESTS.parent / "crates
 SECONDS = 60
 TURN_SECONDS = 10
 PROMPT = b"> "
-PAGES = ("LANGUAGE.md", "FORMATS.md", "TUTORIAL.md")
+PAGES = ("README.md", "docs/LANGUAGE.md", "docs/FORMATS.md", "docs/TUTORIAL.md", "docs/RACE.md", "docs/TERMINAL.md")
+AT_TERMINAL = re.compile(rb'\$ \./ghcdb (\S+) --query "(.*)"')
+MARK, SENT = b"% ", b"% sent: "
 
 SINGLE = {
     "program", "example", "file", "query", "options", "words", "input", "in turns", "left open", "session", "schedule", "output", "errors",
@@ -227,8 +233,28 @@ def program_of(lines):
     return b"" if texts == [b"(no clause)"] else b"".join(text + b"\n" for text in texts)
 
 
+def sent_of(turn):
+    """What of a line typed at a terminal and its reply is the console's: a list of lines."""
+    reply = [line for line in turn[1:] if line.startswith(SENT) or not line.startswith(MARK)]
+    if any(line.startswith(SENT) for line in reply):
+        return [line.replace(SENT, PROMPT, 1) if line.startswith(SENT) else line for line in reply]
+    return [turn[0], *reply] if reply else []
+
+
+def terminal_session(lines):
+    """The console's part of a session that is written as a terminal shows it."""
+    starts = [at for at, line in enumerate(lines) if line.startswith(PROMPT)] + [len(lines)]
+    turns = [lines[start:end] for start, end in zip(starts, starts[1:])]
+    return b"".join(line + b"\n" for turn in turns for line in sent_of(turn))
+
+
 def example_of(block, before):
     """The row of an example, where `before` has the rows on which it can go on; none where the block is no example."""
+    at_terminal = AT_TERMINAL.fullmatch(block[0]) if block else None
+    if at_terminal:
+        row = {key: [] for key in LISTED}
+        program = (TESTS.parent / at_terminal[1].decode()).read_bytes()
+        return row | {"program": program, "query": at_terminal[2], "session": terminal_session(block[1:])}
     head, _, session = b"\n".join(block).partition(b"\n\n")
     if head in before:
         told = before[head]
@@ -246,8 +272,9 @@ def read_page(path):
     for number, block in blocks_of(path.read_bytes()):
         row = example_of(block, before)
         if row:
-            before[b"continued"] = row
-            before.setdefault(b"after the first run", row)
+            if not AT_TERMINAL.fullmatch(block[0]):
+                before[b"continued"] = row
+                before.setdefault(b"after the first run", row)
             rows.append((f"{path.relative_to(TESTS.parent)}:{number}", dict(row)))
     for _, row in rows:
         split_session(row)
@@ -424,7 +451,7 @@ def told(name, row):
 def all_rows(words):
     """The rows of the files whose names hold one of the words, or of all, each with its name."""
     paths = sorted(path for path in (TESTS / "rows").rglob("*") if path.suffix in (".row", ".table"))
-    paths += [TESTS.parent / "docs" / page for page in PAGES]
+    paths += [TESTS.parent / page for page in PAGES]
     return [row for path in paths if not words or any(word in path.stem for word in words) for row in rows_of(path)]
 
 

@@ -10,6 +10,8 @@ The reply to a line that was refused memory has to be
   - `F1 no memory`, and all other replies are those of a session without the line; or
   - where the line is a change, its own reply with `F1 no memory` in place of the lines SUSP and FAIL, which are settling's, and all
     other replies are as ever; or
+  - where it is `keep`, the beginning of its own reply, up to some rollback, and then `F1 no memory`; the line behind it is the same
+    again, and its reply is the rest; or
   - where it is a run, a line for each step that it took, by number, or `F1 no memory` in its place, and then `stopped REASON`, or
     `F1 no memory` in its place. `records` before and behind the run tell which steps these are; behind it no line is refused
     memory, and each `show` and `goals` between the last run and the next change is answered as ever.
@@ -82,13 +84,13 @@ STORIES = {
     "append": Story(
         APPEND,
         "append([1],[2],R)",
-        "goals;step 0.1;step 1.1;step 1.2 1;step 3.1;show R;records;why 2;who R;undo 2;shelf;redo 2;undo 1;save;arrange 1 2 3 4;"
+        "goals;step 0.1;step 1.1;step 1.2 1;step 3.1;show R;records;since 2;goal 3;why 2;causes;who R;explain R;undo 2;shelf;redo 2;undo 1;save;arrange 1 2 3 4;"
         "arrange 2 1 3 4;roll 3;goals;roll 1;goals;redo 1;redo 9;records;save 1;save",
     ),
     "waits": Story(
         WAITS,
         "p(X,Y), q(X,Y), X = c, Y = b, X = d",
-        "goals;step 0.3;step 0.4;step 0.5;step 0.1 2;why 3;undo 1;undo 2;goals;roll 2;goals;redo 2;records;shelf",
+        "goals;explain X;clauses 0.2;step 0.3;clauses 0.1;step 0.4;step 0.5;step 0.1 2;why 3;causes;undo 1;undo 2;goals;roll 2;goals;redo 2;records;shelf",
     ),
     "many": Story(
         MANY,
@@ -106,6 +108,11 @@ STORIES = {
         "append([1],[2],R)",
         "step 0.1;ask append(R,[3],Q), true, _1_1 = [7], f(R,_,_2_3) = Q;ask append(R,[3],Q), true, _1_1 = [7], f(R,_) = Q;why 2;goals;"
         "undo 1;step 2.2;undo 3;arrange 2 1;undo 2;redo 2;roll 1;redo 2;shelf;redo 1;redo 2;ask r(R);ask f(;ask;spy append/3;records;save 1;save",
+    ),
+    "keep": Story(
+        MANY,
+        "f(A,B) = f(1,2), p(A,B,3,4), C = D, E = 5, D = 6",
+        "step 0.1;step 0.2;step 0.3;step 0.4;step 0.5;keep C;keep C;shelf;goals;keep B;keep B;records;keep Z;redo 2;redo 1;redo 2;records;save",
     ),
     "words": Story(APPEND, "append([1],[2],R)", "nonsense;step 9.9;show Q;spy foo/1;spy append/3;nospy append/3;skip 9.9;goals;quit"),
     "leap": Story(
@@ -205,6 +212,8 @@ class Case:
             return True
         if self.word(at) in RUNS:
             return self.fits_run(at, got)
+        if self.word(at) == "keep":
+            return self.fits_keep(at, got)
         return self.word(at) in CHANGES and got == plain[:at] + [front(plain[at]) + F1] + plain[at + 1 :]
 
     def fits_run(self, at, got):
@@ -216,6 +225,11 @@ class Case:
             and not any(b"memory" in reply for reply in got[at + 1 :])
             and all(got[n] == plain[n] for n in self.shown())
         )
+
+    def fits_keep(self, at, got):
+        """Whether the replies fit a session in which memory was refused to roll back all that is outside of a slice."""
+        plain, told = self.plain.replies, got[at]
+        return told.endswith(F1) and told[: -len(F1)] + got[at + 1] == plain[at] and got[:at] == plain[:at] and got[at + 2 :] == plain[at + 2 :]
 
     def shown(self):
         """The lines `show` and `goals` behind the last run, up to the next change."""
