@@ -14,6 +14,7 @@ use Rattle.ghc_core.specs.World.{World}
 use Rattle.ghc_core.specs.Core.{Core}
 use Rattle.ghc_core.specs.Room.{Room}
 
+-- the code of a world, from its opening to its journal, which no other world has
 abbrev pub world_code : Coded World
 world_code =
     code_by (Opening × (State × (List Record × (Shelf × (ℕ × List Entry)))))
@@ -22,15 +23,18 @@ world_code =
     (λ p. record { opening = p.0; state = p.1.0; kept = p.1.1.0; shelf = p.1.1.1.0; next = p.1.1.1.1.0; journal = p.1.1.1.1.1 })
     (λ _. refl)
 
+-- the code of a meter, its counts of firings and tries, which no other meter has
 abbrev pub meter_code : Coded Meter
 meter_code = code_by (ℕ × ℕ) (coded× coded_ℕ coded_ℕ) (λ m. (m.firings, m.tries)) (λ p. record { firings = p.0; tries = p.1 }) (λ _. refl)
 
+-- the code of the room in the tables of a core, which no other room has
 abbrev pub room_code : Coded Room
 room_code =
     code_by (StateRoom × (RecordsRoom × (ℕ × (ℕ × ℕ)))) (coded× state_room_code (coded× records_room_code (coded× coded_ℕ (coded× coded_ℕ coded_ℕ))))
     (λ r. (r.state, (r.kept, (r.shelf, (r.journal, r.tries)))))
     (λ p. record { state = p.0; kept = p.1.0; shelf = p.1.1.0; journal = p.1.1.1.0; tries = p.1.1.1.1 }) (λ _. refl)
 
+-- the code of a core, which no other core has: its world, notes, untried goals, counts and room
 abbrev pub core_code : Coded Core
 core_code =
     code_by (World × (NotesByGoal × (GoalNames × (Meter × Room)))) (coded× world_code (coded× notes_code (coded× goal_names_code (coded× meter_code room_code))))

@@ -59,6 +59,7 @@ pub record LacksBehind (P : Program) (spies : List Predicate) (count : ℕ) : Ty
 abbrev pub line_of_entry : Chronicle → ℕ → ℕ
 line_of_entry c n = length c.opening.steps + n + 4
 
+-- the line of a chronicle's text on which a spied predicate stands, with so many other spies before it
 abbrev pub line_of_spy : Chronicle → ℕ → ℕ
 line_of_spy c n = length c.opening.steps + length c.entries + n + 5
 

@@ -11,6 +11,7 @@ use Rattle.ghc_fire.specs.Goals.{Goals}
 use Rattle.ghc_fire.specs.GoalsCode.{goal_name_code}
 use Rattle.ghc_records.specs.Record.{Record}
 
+-- the code of the names of the streams' goals in order, which no other list of names has
 abbrev pub stream_goals_code : Coded (List GoalName)
 stream_goals_code = coded_list goal_name_code
 

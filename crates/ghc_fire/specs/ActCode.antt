@@ -23,11 +23,13 @@ act_parts (given t) = (3, (0, (t, [])))
 act_parts closed = (4, (0, (nil, [])))
 act_parts (asked gs) = (5, (0, (nil, gs)))
 
+-- the act that has these parts
 abbrev pub act_from : ℕ × (ℕ × (Tree × List Goal)) → Act
 act_from p =
     cond (nat_eq p.0 0) (by_clause p.1.0)
     (cond (nat_eq p.0 1) unified (cond (nat_eq p.0 2) assigned (cond (nat_eq p.0 3) (given p.1.1.0) (cond (nat_eq p.0 4) closed (asked p.1.1.1)))))
 
+-- What an act is coded as is read back as that act.
 pub act_back : (a : Act) → act_from (act_parts a) ≡ a
 act_back (by_clause k) = refl
 act_back unified = refl
@@ -36,9 +38,11 @@ act_back (given t) = refl
 act_back closed = refl
 act_back (asked gs) = refl
 
+-- the code of the act of a step, which no other act has
 abbrev pub act_code : Coded Act
 act_code = code_by (ℕ × (ℕ × (Tree × List Goal))) (coded× coded_ℕ (coded× coded_ℕ (coded× tree_code asked_code))) act_parts act_from act_back
 
+-- the code of a proposal, which no other proposal has: its goal, its act and its effect
 abbrev pub proposal_code : Coded Proposal
 proposal_code =
     code_by (GoalName × (Goal × (Act × Effect)))

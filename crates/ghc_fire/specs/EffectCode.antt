@@ -9,6 +9,7 @@ use Rattle.ghc_term.specs.Goal.{Goal}
 use Rattle.ghc_term.specs.GoalCode.{goal_code}
 use Rattle.ghc_fire.specs.Effect.{Effect}
 
+-- the code of what a step reads, binds and makes, which no other effect has
 abbrev pub effect_code : Coded Effect
 effect_code =
     code_by (Variables × (StoreValue × (List Goal × ℕ)))

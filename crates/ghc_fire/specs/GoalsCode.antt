@@ -6,5 +6,6 @@ use Rattle.ghc_term.specs.GoalMap.{goal_name_code}
 use Rattle.ghc_fire.specs.Goals.{Goals}
 pub use Rattle.ghc_term.specs.GoalMap.{goal_name_code}
 
+-- the code of the goals of a state with their names, which no other such map has
 abbrev pub goals_code : Coded Goals
 goals_code = finite.code goal_name_code goal_code

@@ -17,6 +17,7 @@ use Rattle.ghc_flat.specs.Clause.{Clause, Program}
 abbrev pub TestParts : Type 0
 TestParts = VarName ⊎ (VarName ⊎ (VarName ⊎ (VarName ⊎ (Comparison × (Expression × Expression)))))
 
+-- the parts of a guard test, with the kind of the test
 abbrev pub test_parts : Test → TestParts
 test_parts (wait x) = inl x
 test_parts (is_integer x) = inr (inl x)
@@ -24,6 +25,7 @@ test_parts (is_atom x) = inr (inr (inl x))
 test_parts (is_list x) = inr (inr (inr (inl x)))
 test_parts (compare o a b) = inr (inr (inr (inr (o, (a, b)))))
 
+-- the guard test that has these parts
 abbrev pub test_from : TestParts → Test
 test_from (inl x) = wait x
 test_from (inr (inl x)) = is_integer x
@@ -31,6 +33,7 @@ test_from (inr (inr (inl x))) = is_atom x
 test_from (inr (inr (inr (inl x)))) = is_list x
 test_from (inr (inr (inr (inr p)))) = compare p.0 p.1.0 p.1.1
 
+-- What a guard test is coded as is read back as that test.
 pub test_back : (g : Test) → test_from (test_parts g) ≡ g
 test_back (wait x) = refl
 test_back (is_integer x) = refl
@@ -38,12 +41,14 @@ test_back (is_atom x) = refl
 test_back (is_list x) = refl
 test_back (compare o a b) = refl
 
+-- the code of a guard test, which no other test has
 abbrev pub test_code : Coded Test
 test_code =
     code_by TestParts
     (coded⊎ name_code (coded⊎ name_code (coded⊎ name_code (coded⊎ name_code (coded× comparison_code (coded× expression_code expression_code))))))
     test_parts test_from test_back
 
+-- the code of a clause with its name, head, guard and body, which no other clause has
 abbrev pub clause_code : Coded Clause
 clause_code =
     code_by (List ℕ × (List Tree × (List Test × List Goal)))
@@ -52,5 +57,6 @@ clause_code =
     (λ p. record { name = p.0; head = p.1.0; tests = p.1.1.0; body = p.1.1.1 })
     (λ _. refl)
 
+-- the code of a program, its clauses in order, which no other program has
 abbrev pub program_code : Coded Program
 program_code = coded_list clause_code

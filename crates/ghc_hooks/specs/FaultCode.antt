@@ -21,6 +21,7 @@ place_of_limit Print = 7
 place_of_limit Line = 8
 place_of_limit Version = 9
 
+-- the limit at a place among the limits
 abbrev pub limit_at : ℕ → Limit
 limit_at n =
     cond (nat_eq n 0) Text
@@ -34,6 +35,7 @@ limit_at n =
     (cond (nat_eq n 8) Line
     Version))))))))
 
+-- What a limit is written as is read back as that limit.
 pub limit_back : (l : Limit) → limit_at (place_of_limit l) ≡ l
 limit_back Text = refl
 limit_back Clauses = refl
@@ -46,6 +48,7 @@ limit_back Print = refl
 limit_back Line = refl
 limit_back Version = refl
 
+-- the code of limits: two limits with one code are one
 abbrev pub limit_code : Coded Limit
 limit_code = code_by ℕ coded_ℕ place_of_limit limit_at limit_back
 
@@ -53,6 +56,7 @@ limit_code = code_by ℕ coded_ℕ place_of_limit limit_at limit_back
 abbrev pub Told : Type 0
 Told = ℕ × (ℕ × List ℕ)
 
+-- what a refusal tells besides its number
 abbrev pub told_by : Fault → Told
 told_by Memory = (0, (0, []))
 told_by (Syntax line column) = (line, (column, []))
@@ -111,6 +115,7 @@ fault_at n t =
     (cond (nat_eq n 25) Command
     Device))))))))))))))))))))))))
 
+-- What a refusal is written as is read back as that refusal.
 pub fault_back : (f : Fault) → fault_at (fault_number f) (told_by f) ≡ f
 fault_back Memory = refl
 fault_back (Syntax line column) = refl
@@ -139,5 +144,6 @@ fault_back (History line) = refl
 fault_back Command = refl
 fault_back Device = refl
 
+-- the code of refusals: two refusals with one code are one
 abbrev pub fault_code : Coded Fault
 fault_code = code_by (ℕ × Told) (coded× coded_ℕ (coded× coded_ℕ (coded× coded_ℕ (coded_list coded_ℕ)))) (λ f. (fault_number f, told_by f)) (λ p. fault_at p.0 p.1) fault_back

@@ -15,6 +15,7 @@ pub record GoalsByVariable : Type 0 where
   pub several : finite.FinMap name_cmp GoalNames
   pub single : finite.FinMap name_cmp GoalName
 
+-- the goals of the set, or where there is no set the single goal, if any
 abbrev pub goals_in : Option GoalNames → Option GoalName → GoalNames
 goals_in (Some gs) o = gs
 goals_in None (Some g) = set.insert set.empty g
@@ -32,6 +33,7 @@ looks m x g = set.contains (goals_under m x) g
 abbrev pub HasOneMore : VarName → GoalName → GoalsByVariable → GoalsByVariable → Type 0
 HasOneMore x g old new = (y : VarName) (h : GoalName) → IsTrue (looks new y h) ↔ (IsTrue (looks old y h) ⊎ ((y ≡ x) × (h ≡ g)))
 
+-- The goal g stands under x no more, and every other goal stands where it stood.
 abbrev pub HasOneLess : VarName → GoalName → GoalsByVariable → GoalsByVariable → Type 0
 HasOneLess x g old new = (y : VarName) (h : GoalName) → IsTrue (looks new y h) ↔ (IsTrue (looks old y h) × ¬ ((y ≡ x) × (h ≡ g)))
 

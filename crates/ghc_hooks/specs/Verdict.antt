@@ -7,6 +7,7 @@ use Rattle.ghc_hooks.specs.declared.note.Verdict.TheVariants.{Ready, Waiting, Fa
 use Rattle.ghc_hooks.specs.Status.{Status, ready, waiting, failed, streaming}
 use Rattle.ghc_hooks.specs.Notes.{Note}
 
+-- the status that a verdict gives its goal: ready, waiting for variables, or failed for a cause
 abbrev pub status_of : Verdict → Status
 status_of Ready = ready
 status_of (Waiting xs) = waiting xs

@@ -16,6 +16,7 @@ submits_in (Submitted receipt) = 1
 submits_in (Noted receipt) = 0
 submits_in Starved = 0
 
+-- one if the condition holds, else zero
 abbrev pub one_if : Bool → ℕ
 one_if true = 1
 one_if false = 0

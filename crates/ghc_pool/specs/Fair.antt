@@ -5,6 +5,7 @@ use lib.ListN.{get_elem?}
 use Rattle.ghc_term.specs.declared.goal_name.GoalName.{GoalName}
 use Rattle.ghc_pool.specs.declared.rounds.rule.Hand.{Hand}
 
+-- what a pass to a deque has: how many parts, and the names that it put and got
 abbrev pub hand : ℕ → List GoalName → List GoalName → Hand
 hand parts put got = record { parts = parts; put = put; got = got }
 

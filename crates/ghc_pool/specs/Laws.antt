@@ -18,6 +18,7 @@ pub record AddsAtTheEnd (w : World) (steps : List Record) (v : World) : Type 0 w
   pub shelf : v.shelf ≡ w.shelf
   pub opening : v.opening ≡ w.opening
 
+-- Each run adds its steps at the end of the record and of the journal, and leaves the shelf and the opening as they are.
 abbrev pub RunsAddAtTheEnd : Type 0
 RunsAddAtTheEnd =
     (workers : ℕ) (spies : Spies) (root : Option GoalName) (w : World) (before : NotesByGoal) (v : World) (after : NotesByGoal) (steps : List Record) → Takes workers spies root w before steps v after → AddsAtTheEnd w steps v

@@ -85,6 +85,7 @@ module _ (opened : Gv) where
   AreAnswers scope spies steps base front [] = Unit {0}
   AreAnswers scope spies steps base front (x ∷ xs) = IsAnswerOf scope spies steps base front x.0 x.1 × AreAnswers scope spies steps base front xs
 
+-- the place of a step alone if its commit was accepted, else no place
 abbrev pub places_if : Bool → ℕ → List ℕ
 places_if true place = place ∷ []
 places_if false place = []

@@ -21,6 +21,7 @@ use Rattle.ghc_pool.specs.Fair.{weigh}
 abbrev pub work_of : Worker → Work
 work_of w = record { offered = w.offered; taken = w.taken; left = w.left; stop = w.stop }
 
+-- what each worker did, in the order of the workers
 abbrev pub works : List Worker → List Work
 works [] = []
 works (w ∷ ws) = work_of w ∷ works ws
@@ -133,12 +134,15 @@ abbrev pub over : (Worker → ℕ) → List Worker → ℕ
 over f [] = 0
 over f (w ∷ ws) = f w + over f ws
 
+-- the names that the worker put into its own deque, weighed
 abbrev pub put_of : (GoalName → ℕ) → Worker → ℕ
 put_of h w = weigh h (worker_view w.owner).put
 
+-- the names that the worker got out of its own deque, weighed
 abbrev pub got_of : (GoalName → ℕ) → Worker → ℕ
 got_of h w = weigh h (worker_view w.owner).got
 
+-- the names that the worker stole from the others' deques, weighed
 abbrev pub stolen_of : (GoalName → ℕ) → Worker → ℕ
 stolen_of h w = stolen h w.victims.items
 
@@ -151,15 +155,19 @@ abbrev pub total_work : (Work → ℕ) → List Work → ℕ
 total_work f [] = 0
 total_work f (k ∷ ks) = f k + total_work f ks
 
+-- the names that a worker offered, weighed
 abbrev pub offered_in : (GoalName → ℕ) → Work → ℕ
 offered_in h k = weigh h k.offered.items
 
+-- the names that a worker took and answered, weighed
 abbrev pub taken_in : (GoalName → ℕ) → Work → ℕ
 taken_in h k = weigh h (names k.taken.items)
 
+-- the names that a worker left, weighed
 abbrev pub left_in : (GoalName → ℕ) → Work → ℕ
 left_in h k = weigh h k.left.items
 
+-- how many submits the answers to a worker's names tell of
 abbrev pub submits_by : Work → ℕ
 submits_by k = submits k.taken.items
 

@@ -28,18 +28,22 @@ abbrev mutual
 abbrev pub widest_call : Call → ℕ
 widest_call c = max (count c.arguments) (widest_of c.arguments)
 
+-- the most arguments of a call or of a structure in the goal
 abbrev pub widest_goal : Goal → ℕ
 widest_goal (call c) = widest_call c
 widest_goal (unify s t) = max (widest s) (widest t)
 widest_goal (assign _ _) = 0
 
+-- the most arguments of a call or of a structure in the test; a comparison has none
 abbrev pub widest_test : Test → ℕ
 widest_test (plain g) = widest_goal g
 widest_test (compare _ _ _) = 0
 
+-- the most arguments of a call or of a structure in any of the goals
 abbrev pub widest_goals : List Goal → ℕ
 widest_goals gs = largest widest_goal gs
 
+-- the most arguments of a call or of a structure in head, guards and body of a clause
 abbrev pub widest_clause : Clause → ℕ
 widest_clause c = max (widest_call c.head) (max (largest widest_test c.guard) (widest_goals c.body))
 
@@ -71,18 +75,22 @@ names_in (named v) = v ∷ []
 names_in (product _ a b) = names_in a ++ names_in b
 names_in (sum _ a b) = names_in a ++ names_in b
 
+-- the variables of a goal as they stand there
 abbrev pub names_of_goal : Goal → List (List ℕ)
 names_of_goal (call c) = names_of c.arguments
 names_of_goal (unify s t) = names s ++ names t
 names_of_goal (assign v e) = v ∷ names_in e
 
+-- the variables of a guard's test as they stand there
 abbrev pub names_of_test : Test → List (List ℕ)
 names_of_test (plain g) = names_of_goal g
 names_of_test (compare a _ b) = names_in a ++ names_in b
 
+-- the variables of goals as they stand there, those of one goal after those of another
 abbrev pub names_of_goals : List Goal → List (List ℕ)
 names_of_goals gs = flat_map names_of_goal gs
 
+-- the variables of a clause as they stand in its head, its guards and its body
 abbrev pub names_of_clause : Clause → List (List ℕ)
 names_of_clause c = names_of c.head.arguments ++ flat_map names_of_test c.guard ++ names_of_goals c.body
 
@@ -104,6 +112,7 @@ levels (named _) = 0
 levels (product _ a b) = max (levels a) (levels b) + 1
 levels (sum _ a b) = max (levels a) (levels b) + 1
 
+-- How deep the operators of a goal stand inside one another: only an assignment has any.
 abbrev pub levels_of_goal : Goal → ℕ
 levels_of_goal (call _) = 0
 levels_of_goal (unify _ _) = 0

@@ -60,39 +60,47 @@ abbrev mutual
 abbrev pub call_of : List ℕ → Arguments → List Token → tree.Call
 call_of f a ts = record { left = length (token.Name f ∷ arguments a ts); name = f; arguments = arguments_of a }
 
+-- a call, an equation or an assignment as a goal, in front of these tokens
 abbrev pub item_of : Item → List Token → tree.Goal
 item_of (goal f a) ts = tree.call (call_of f a ts)
 item_of (unify s t) ts = tree.unify (tree_of s) (tree_of t)
 item_of (assign v e) ts = tree.assign v (value_of e)
 
+-- a goal or a comparison as a test of a guard, in front of these tokens
 abbrev pub test_of : Test → List Token → tree.Test
 test_of (plain_test i) ts = tree.plain (item_of i ts)
 test_of (compare a o b) ts = tree.compare (value_of a) o (value_of b)
 
+-- the tests of a guard in order, in front of these tokens
 abbrev pub tests_of : Tests → List Token → List tree.Test
 tests_of (last_test t) ts = test_of t ts ∷ []
 tests_of (next_test t x) ts = test_of t (token.Mark Comma ∷ tests x ts) ∷ tests_of x ts
 
+-- the goals of a body in order, in front of these tokens
 abbrev pub goals_of : Body → List Token → List tree.Goal
 goals_of (last i) ts = item_of i ts ∷ []
 goals_of (next i b) ts = item_of i (token.Mark Comma ∷ body b ts) ∷ goals_of b ts
 
+-- the guard and the body of a rule, whose full stop stands in front of these tokens
 abbrev pub right_of : Right → List Token → tree.Right
 right_of (unguarded b) ts = record { guard = []; body = goals_of b (token.Mark Stop ∷ ts) }
 right_of (guarded t b) ts =
     let behind = token.Mark Stop ∷ ts in
     record { guard = tests_of t (token.Mark Bar ∷ body b behind); body = goals_of b behind }
 
+-- a fact or a rule, in front of these tokens; a fact has no guard and no body goals
 abbrev pub clause_of : Clause → List Token → tree.Clause
 clause_of (fact f a) ts = record { head = call_of f a (token.Mark Stop ∷ ts); guard = []; body = [] }
 clause_of (rule f a r) ts =
     let right_side = right_of r ts in
     record { head = call_of f a (token.Mark Define ∷ right r ts); guard = right_side.guard; body = right_side.body }
 
+-- the clauses of a program in order, in front of these tokens
 abbrev pub clauses_of : Program → List Token → List tree.Clause
 clauses_of done ts = []
 clauses_of (clauses c p) ts = clause_of c (program p ts) ∷ clauses_of p ts
 
+-- the goals of a query in order, in front of these tokens
 abbrev pub query_of : Query → List Token → List tree.Goal
 query_of (plain b) ts = goals_of b ts
 query_of (stopped b) ts = goals_of b (token.Mark Stop ∷ ts)

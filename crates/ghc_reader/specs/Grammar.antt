@@ -62,19 +62,23 @@ mutual
     summand : Factors → Expression
     summands : Factors → Sum → Expression → Expression
 
+-- a goal: a call, an equation of two terms, or an assignment of an expression to a variable
 pub data Item : Type 0 where
   goal : List ℕ → Arguments → Item
   unify : Term → Term → Item
   assign : List ℕ → Expression → Item
 
+-- a test of a guard: a goal, or a comparison of two expressions
 pub data Test : Type 0 where
   plain_test : Item → Test
   compare : Expression → Comparison → Expression → Test
 
+-- the tests of a guard, one or more, with commas between them
 pub data Tests : Type 0 where
   last_test : Test → Tests
   next_test : Test → Tests → Tests
 
+-- the goals of a body or a query, one or more, with commas between them
 pub data Body : Type 0 where
   last : Item → Body
   next : Item → Body → Body
@@ -84,14 +88,17 @@ pub data Right : Type 0 where
   unguarded : Body → Right
   guarded : Tests → Body → Right
 
+-- a clause: a fact, which is a head alone, or a rule, which has `:-` after its head
 pub data Clause : Type 0 where
   fact : List ℕ → Arguments → Clause
   rule : List ℕ → Arguments → Right → Clause
 
+-- a program: its clauses in order, or none at all
 pub data Program : Type 0 where
   done : Program
   clauses : Clause → Program → Program
 
+-- a query: its goals, without or with a full stop after them
 pub data Query : Type 0 where
   plain : Body → Query
   stopped : Body → Query
@@ -157,38 +164,47 @@ abbrev mutual
   expression (summand p) ts = product p ts
   expression (summands p o e) ts = product p (token.Sum o ∷ expression e ts)
 
+-- the tokens of a goal, and then ts
 abbrev pub item : Item → List Token → List Token
 item (goal f a) ts = token.Name f ∷ arguments a ts
 item (unify s t) ts = term s (token.Mark Equals ∷ term t ts)
 item (assign v e) ts = token.Variable v ∷ token.Mark Assign ∷ expression e ts
 
+-- the tokens of a goal or a comparison in a guard, and then ts
 abbrev pub test : Test → List Token → List Token
 test (plain_test i) ts = item i ts
 test (compare a o b) ts = expression a (token.Comparison o ∷ expression b ts)
 
+-- the tokens of a guard's tests with commas between them, and then ts
 abbrev pub tests : Tests → List Token → List Token
 tests (last_test t) ts = test t ts
 tests (next_test t x) ts = test t (token.Mark Comma ∷ tests x ts)
 
+-- the tokens of goals with commas between them, and then ts
 abbrev pub body : Body → List Token → List Token
 body (last i) ts = item i ts
 body (next i b) ts = item i (token.Mark Comma ∷ body b ts)
 
+-- the tokens that stand after `:-`, up to the full stop and with it, and then ts
 abbrev pub right : Right → List Token → List Token
 right (unguarded b) ts = body b (token.Mark Stop ∷ ts)
 right (guarded t b) ts = tests t (token.Mark Bar ∷ body b (token.Mark Stop ∷ ts))
 
+-- the tokens of a fact or a rule, with its full stop, and then ts
 abbrev pub clause : Clause → List Token → List Token
 clause (fact f a) ts = token.Name f ∷ arguments a (token.Mark Stop ∷ ts)
 clause (rule f a r) ts = token.Name f ∷ arguments a (token.Mark Define ∷ right r ts)
 
+-- the tokens of all clauses of a program, and then ts
 abbrev pub program : Program → List Token → List Token
 program done ts = ts
 program (clauses c p) ts = clause c (program p ts)
 
+-- the tokens of a query's goals, with its full stop if it has one, and then ts
 abbrev pub query : Query → List Token → List Token
 query (plain b) ts = body b ts
 query (stopped b) ts = body b (token.Mark Stop ∷ ts)
 
+-- the tokens of an input term, and then ts
 abbrev pub input : Input → List Token → List Token
 input i ts = term i.term ts

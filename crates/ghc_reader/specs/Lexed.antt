@@ -35,6 +35,7 @@ token_of_bytes Variable bs = Some (token.Variable bs)
 token_of_bytes Integer bs = Some (token.Integer (signed_digits_value 10 bs))
 token_of_bytes (Symbol s) bs = Some (token_of_symbol s)
 
+-- the token that a piece is; a blank and a comment are none
 abbrev pub token_of : Piece → Option Token
 token_of p = token_of_bytes p.kind p.bytes
 
@@ -78,6 +79,7 @@ IsRefusedToken Refused (Some (token.Variable bs)) = IsReserved bs
 IsRefusedToken Allowed (Some (token.Variable bs)) = IsTooGreat bs
 IsRefusedToken reserved t = ⊥
 
+-- The piece is a token, and that token is refused.
 abbrev pub IsRefused : Reserved → Piece → Type 0
 IsRefused reserved p = IsRefusedToken reserved (token_of p)
 
@@ -94,6 +96,7 @@ abbrev pub place_of_token : Option Token → Place → List Place → List Place
 place_of_token None place places = places
 place_of_token (Some t) place places = place ∷ places
 
+-- the places of those pieces that are tokens, where the first piece stands at this place
 abbrev pub token_places : Place → List Piece → List Place
 token_places place [] = []
 token_places place (p ∷ ps) = place_of_token (token_of p) place (token_places (place_behind place p.bytes) ps)
@@ -145,5 +148,6 @@ pub record IsReadOnce (reserved : Reserved) (text : List ℕ) : Type 0 where
   pub never_both : (tokens : List Token) (places : List Place) (place : Place) → IsLexed reserved text tokens places → IsBadAt reserved text place → ⊥
   pub one_bad_byte : (place place' : Place) → IsBadAt reserved text place → IsBadAt reserved text place' → place ≡ place'
 
+-- Every text has at most one reading: its tokens with their places, or its first bad byte.
 abbrev pub NoTextIsReadTwice : Type 0
 NoTextIsReadTwice = (reserved : Reserved) (text : List ℕ) → IsReadOnce reserved text

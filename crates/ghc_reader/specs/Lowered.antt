@@ -84,6 +84,7 @@ module _ (C : List ℕ → VarName → Type 0) where
 abbrev pub SaysValue : Names → Value → Expression → Type 0
 SaysValue names a e = SaysValueBy (IsCalled names) a e
 
+-- The goal w says what the parse tree says, where the variables have these names.
 abbrev pub SaysGoal : Names → Goal → goal.Goal → Type 0
 SaysGoal names g w = SaysGoalBy (IsCalled names) g w
 

@@ -13,42 +13,52 @@ abbrev pub EndsArguments : Arguments → Option Token → Type 0
 EndsArguments without o = o ≢ Some (token.Mark Open)
 EndsArguments (within a) o = ⊤
 
+-- The token after the term doesn't go on with it: no `(` stands after a name without arguments.
 abbrev pub EndsTerm : Term → Option Token → Type 0
 EndsTerm (variable v) o = ⊤
 EndsTerm (integer n) o = ⊤
 EndsTerm (call f a) o = EndsArguments a o
 EndsTerm (list r) o = ⊤
 
+-- The token after the terms doesn't go on with them: it is no comma, and no part of the last term.
 abbrev pub EndsTerms : Terms → Option Token → Type 0
 EndsTerms (one t) o = EndsTerm t o × (o ≢ Some (token.Mark Comma))
 EndsTerms (more t a) o = EndsTerms a o
 
+-- Any token may stand after a list, which a bracket closes.
 abbrev pub EndsRest : Rest → Option Token → Type 0
 EndsRest r o = ⊤
 
+-- Any token may stand after an operand: a variable, an integer or an expression in brackets.
 abbrev pub EndsOperand : Operand → Option Token → Type 0
 EndsOperand u o = ⊤
 
+-- The token after the product doesn't go on with it: it is neither `*` nor `/` nor `mod`.
 abbrev pub EndsProduct : Factors → Option Token → Type 0
 EndsProduct p o = (k : Product) → o ≢ Some (token.Product k)
 
+-- The token after the expression doesn't go on with it: it is no arithmetic operator.
 pub record EndsExpression (e : Expression) (o : Option Token) : Type 0 where
   pub product : (k : Product) → o ≢ Some (token.Product k)
   pub sum : (k : Sum) → o ≢ Some (token.Sum k)
 
+-- The token after the goal doesn't go on with it; after a call, it makes no equation of it either.
 abbrev pub EndsItem : Item → Option Token → Type 0
 EndsItem (goal f a) o = EndsArguments a o × (o ≢ Some (token.Mark Equals))
 EndsItem (unify s t) o = EndsTerm t o
 EndsItem (assign v e) o = EndsExpression e o
 
+-- The token after the body doesn't go on with it: it is no comma, and no part of the last goal.
 abbrev pub EndsBody : Body → Option Token → Type 0
 EndsBody (last i) o = EndsItem i o × (o ≢ Some (token.Mark Comma))
 EndsBody (next i b) o = EndsBody b o
 
+-- The token after the test doesn't go on with its goal or with the right side of its comparison.
 abbrev pub EndsTest : Test → Option Token → Type 0
 EndsTest (plain_test i) o = EndsItem i o
 EndsTest (compare a k b) o = EndsExpression b o
 
+-- The token after the tests doesn't go on with them: it is no comma, and no part of the last test.
 abbrev pub EndsTests : Tests → Option Token → Type 0
 EndsTests (last_test t) o = EndsTest t o × (o ≢ Some (token.Mark Comma))
 EndsTests (next_test t x) o = EndsTests x o
@@ -57,6 +67,7 @@ EndsTests (next_test t x) o = EndsTests x o
 abbrev pub EndsRight : Right → Option Token → Type 0
 EndsRight r o = ⊤
 
+-- Any token may stand after a clause, which a full stop ends.
 abbrev pub EndsClause : Clause → Option Token → Type 0
 EndsClause c o = ⊤
 

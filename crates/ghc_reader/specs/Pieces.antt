@@ -9,6 +9,7 @@ use Rattle.ghc_reader.specs.declared.lexer.front.Front.{Front}
 use Rattle.ghc_reader.specs.declared.lexer.front.Kind.{Kind}
 use Rattle.ghc_reader.specs.declared.lexer.front.Kind.TheVariants.{Blank, Comment, Name, Variable, Integer, Symbol}
 
+-- a piece of a text: its bytes, and whether they are a blank, a comment or which kind of token
 pub record Piece : Type 0 where
   pub kind : Kind
   pub bytes : List ℕ

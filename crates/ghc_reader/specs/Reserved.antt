@@ -49,6 +49,7 @@ misplaced_query_goal _ = []
 abbrev pub misplaced_body : List Goal → List ℕ
 misplaced_body gs = flat_map misplaced_goal gs
 
+-- the places of a query's streams whose tail is no variable, in the order of the text
 abbrev pub misplaced_query : List Goal → List ℕ
 misplaced_query gs = flat_map misplaced_query_goal gs
 
@@ -56,6 +57,7 @@ misplaced_query gs = flat_map misplaced_query_goal gs
 abbrev pub misplaced_clause : Clause → List ℕ
 misplaced_clause c = place_if (is_reserved c.head) c.head ++ misplaced_body c.body
 
+-- the places of reserved heads and of streams in bodies, in the order of the text
 abbrev pub misplaced_program : List Clause → List ℕ
 misplaced_program cs = flat_map misplaced_clause cs
 

@@ -46,6 +46,7 @@ pub record Right : Type 0 where
   pub guard : List Test
   pub body : List Goal
 
+-- a clause: its head, the tests of its guard and the goals of its body; either list may be empty
 pub record Clause : Type 0 where
   pub head : Call
   pub guard : List Test

@@ -31,6 +31,7 @@ pub record Kind : Type 1 where
   pub reserved : Reserved
   pub measured : Bool
 
+-- the kind of text that lists the clauses of a program
 abbrev pub a_program : Kind
 a_program = record {
   Derivation = Program;
@@ -43,6 +44,7 @@ a_program = record {
   measured = true;
 }
 
+-- the kind of text that has the goals of a query
 abbrev pub a_query : Kind
 a_query = record {
   Derivation = Query;
@@ -68,6 +70,7 @@ asked measured amount = record {
   measured = measured;
 }
 
+-- the kind of text that asks for goals in mid-run, its length and its depth tested
 abbrev pub an_ask : Kind
 an_ask = asked true of_ask
 
@@ -75,6 +78,7 @@ an_ask = asked true of_ask
 abbrev pub a_body : Kind
 a_body = asked false of_query
 
+-- the kind of text that is an input term, in which no variable stands
 abbrev pub a_term : Kind
 a_term = record {
   Derivation = Input;
@@ -179,5 +183,6 @@ pub record IsAnsweredOnce (K : Kind) (text : List ℕ) : Type 0 where
   pub never_both : (a : K.Seen) (f : Fault) → IsRead K text a → IsRefusal K text f → ⊥
   pub one_refusal : (f g : Fault) → IsRefusal K text f → IsRefusal K text g → f ≡ g
 
+-- A text of any kind has at most one answer: its tree or its refusal.
 abbrev pub NoTextIsAnsweredTwice : Type 0
 NoTextIsAnsweredTwice = (text : List ℕ) → IsAnsweredOnce a_program text × IsAnsweredOnce a_query text × IsAnsweredOnce a_term text × IsAnsweredOnce an_ask text × IsAnsweredOnce a_body text

@@ -16,6 +16,7 @@ pub record WrittenAsk : Type 0 where
   pub goals : List Goal
   pub named : List (Option VarName)
 
+-- the code of what is asked for in mid-run, which no two different requests share
 abbrev pub ask_code : Coded WrittenAsk
 ask_code =
     code_by (List Goal × List (Option VarName)) (coded× (coded_list goal_code) (coded_list (coded_option name_code))) (λ a. (a.goals, a.named))

@@ -16,24 +16,30 @@ use Rattle.ghc_reader.specs.Written.{WrittenClause, WrittenQuery}
 abbrev pub GuardParts : Type 0
 GuardParts = Goal ⊎ (Comparison × (Expression × Expression))
 
+-- the goal that a guard is, or its comparison and both sides
 abbrev pub guard_parts : Guard → GuardParts
 guard_parts (item g) = inl g
 guard_parts (comparison o a b) = inr (o, (a, b))
 
+-- the guard that is made of these parts
 abbrev pub guard_from : GuardParts → Guard
 guard_from (inl g) = item g
 guard_from (inr p) = comparison p.0 p.1.0 p.1.1
 
+-- Each guard is the one that is made of its own parts.
 pub guard_back : (g : Guard) → guard_from (guard_parts g) ≡ g
 guard_back (item g) = refl
 guard_back (comparison o a b) = refl
 
+-- the code of a guard, which no two different guards share
 abbrev pub guard_code : Coded Guard
 guard_code = code_by GuardParts (coded⊎ goal_code (coded× comparison_code (coded× expression_code expression_code))) guard_parts guard_from guard_back
 
+-- the code of a list of names, which no two different lists share
 abbrev pub name_list_code : Coded (List (List ℕ))
 name_list_code = coded_list (coded_list coded_ℕ)
 
+-- the code of a clause as it is written, which no two different clauses share
 abbrev pub clause_code : Coded WrittenClause
 clause_code =
     code_by (List ℕ × (List Tree × (List Guard × (List Goal × List (List ℕ)))))
@@ -42,9 +48,11 @@ clause_code =
     (λ p. record { name = p.0; head = p.1.0; guards = p.1.1.0; body = p.1.1.1.0; variables = p.1.1.1.1 })
     (λ _. refl)
 
+-- the code of a program as it is written, which no two different programs share
 abbrev pub source_code : Coded (List WrittenClause)
 source_code = coded_list clause_code
 
+-- the code of a query as it is written, which no two different queries share
 abbrev pub query_code : Coded WrittenQuery
 query_code =
     code_by (List Goal × List (List ℕ)) (coded× (coded_list goal_code) name_list_code) (λ q. (q.goals, q.variables))

@@ -22,6 +22,7 @@ chronicle_of opening journal spies next = record { opening = opening; entries = 
 abbrev pub entry_limit : ℕ
 entry_limit = 4000000000
 
+-- the greatest number of spies that a chronicle may have
 abbrev pub spy_limit : ℕ
 spy_limit = 100000000
 

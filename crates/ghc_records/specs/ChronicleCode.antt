@@ -8,9 +8,11 @@ use Rattle.ghc_records.specs.HistoryCode.{history_code}
 use Rattle.ghc_records.specs.RecordCode.{journal_code}
 use Rattle.ghc_records.specs.Chronicle.{Chronicle}
 
+-- the code of a spied predicate, its name and arity, which no other predicate has
 abbrev pub predicate_code : Coded Predicate
 predicate_code = code_by (List ℕ × ℕ) (coded× (coded_list coded_ℕ) coded_ℕ) (λ p. (p.name, p.arity)) (λ p. record { name = p.0; arity = p.1 }) (λ _. refl)
 
+-- the code of a chronicle, which no other chronicle has
 abbrev pub chronicle_code : Coded Chronicle
 chronicle_code =
     code_by (History × (List Entry × (List Predicate × ℕ))) (coded× history_code (coded× journal_code (coded× (coded_list predicate_code) coded_ℕ)))

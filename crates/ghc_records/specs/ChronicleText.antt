@@ -25,6 +25,7 @@ opening_line next count = codes "opening " ++ (decimal count ++ (codes " " ++ de
 abbrev pub entries_line : ℕ → List ℕ
 entries_line count = codes "entries " ++ decimal count
 
+-- the line before the spies of a chronicle, with their count
 abbrev pub spies_line : ℕ → List ℕ
 spies_line count = codes "spies " ++ decimal count
 

@@ -5,5 +5,6 @@ use Rattle.ghc_records.specs.Journal.{Step}
 use Rattle.ghc_records.specs.History.{History}
 use Rattle.ghc_records.specs.RecordCode.{step_code}
 
+-- the code of a history, its steps and the next number, which no other history has
 abbrev pub history_code : Coded History
 history_code = code_by (List Step × ℕ) (coded× (coded_list step_code) coded_ℕ) (λ h. (h.steps, h.next)) (λ p. record { steps = p.0; next = p.1 }) (λ _. refl)

@@ -48,5 +48,6 @@ room_beside (Some newest) = 0
 abbrev pub IsChangedAt : PlacesByNumber → PlacesByNumber → ℕ → Option ℕ → Type 0
 IsChangedAt old new k o = (finite.get new k ≡ o) × ((n : ℕ) → n ≢ k → finite.get new n ≡ finite.get old n)
 
+-- The strays are exactly those of the slots, each under its number with its place.
 abbrev pub AreStraysOf : SlotList → PlacesByNumber → Type 0
 AreStraysOf slots strays = (n p : ℕ) → (finite.get strays n ≡ Some p) ↔ HasStrayIn slots p n

@@ -38,10 +38,12 @@ AreAllEmpty ts = (t : Table (List ℕ)) → In t ts → t.held ≡ []
 abbrev pub HasGrown : List (Table (List ℕ)) → List (Table (List ℕ)) → Type 0
 HasGrown old new = (more : List (Table (List ℕ))) × (new ≡ old ++ more) × AreAllEmpty more
 
+-- the step numbers that a table has, none where there is no table
 abbrev pub numbers_in : Option (Table (List ℕ)) → List ℕ
 numbers_in None = []
 numbers_in (Some t) = t.held
 
+-- how many more step numbers a table takes without memory, zero where there is no table
 abbrev pub room_in : Option (Table (List ℕ)) → ℕ
 room_in None = 0
 room_in (Some t) = t.room

@@ -13,6 +13,7 @@ use Rattle.ghc_term.specs.Code.{name_code, tree_code}
 abbrev pub Entries : Type 0
 Entries = List (VarName × Tree)
 
+-- the code of entries: two lists of bindings with one code are one
 abbrev pub entries_code : Coded Entries
 entries_code = coded_list (coded× name_code tree_code)
 

@@ -16,6 +16,7 @@ abbrev mutual
   codes_of none = gnil
   codes_of (more t ts) = gcons (code_of t) (codes_of ts)
 
+-- Two variables of one step and one place are one.
 pub var_inj : (x y : VarName) → x.step ≡ y.step → x.place ≡ y.place → x ≡ y
 var_inj x y p q i = record { step = p i; place = q i }
 
@@ -37,8 +38,10 @@ mutual
   injs (more t ts) none e = cc
   injs (more t ts) (more u us) e = let p : t ≡ u = inj t u (cc) in let q : ts ≡ us = injs ts us (cc) in cc
 
+-- the code of trees: two trees with one code are one
 abbrev pub tree_code : Coded Tree
 tree_code = record { code = code_of; inj = inj }
 
+-- the code of variables: two variables with one code are one
 abbrev pub name_code : Coded VarName
 name_code = code_by (ℕ × ℕ) (coded× coded_ℕ coded_ℕ) (λ x. (x.step, x.place)) (λ p. record { step = p.0; place = p.1 }) (λ _. refl)

@@ -17,6 +17,7 @@ IsCall (variable _) = ⊥
 IsCall (integer _) = ⊥
 IsCall (node _ _) = Unit {0}
 
+-- the goal that a shape holds: a call as its tree, any other goal as its two parts
 abbrev pub goal_of : Shape → Goal
 goal_of (Call t) = call_of t
 goal_of (Unify t u) = unify t u

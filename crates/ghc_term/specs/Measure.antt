@@ -36,6 +36,7 @@ abbrev pub nesting_at : Place → Tree → ℕ
 nesting_at Alone t = nesting t
 nesting_at Rest t = rest_nesting t
 
+-- A term that has room at its place leaves this much of it, and one that has none leaves nothing.
 abbrev pub MeasuredAt : Place → Tree → ℕ → Room → Option Room → Type 0
 MeasuredAt place t depth room left = Measured (IsInGrammar t) (nodes t) (bytes_at place t) (nesting_at place t) depth room left
 
@@ -44,6 +45,7 @@ abbrev pub bytes_of_all : Trees → ℕ
 bytes_of_all none = 0
 bytes_of_all (more t ts) = 1 + length (term_text t) + bytes_of_all ts
 
+-- Arguments that have room together leave this much of it, and those that have none leave nothing.
 abbrev pub MeasuredAll : Trees → ℕ → Room → Option Room → Type 0
 MeasuredAll ts depth room left = Measured (AllInGrammar ts) (nodes_of_all ts) (bytes_of_all ts) (deepest ts) depth room left
 

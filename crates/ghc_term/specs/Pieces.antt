@@ -31,6 +31,7 @@ abbrev pub pieces_text : (Tree → Tree) → List Piece → List ℕ
 pieces_text r [] = []
 pieces_text r (p ∷ ps) = pieces_text r ps ++ piece_text r p
 
+-- the measure of a list of trees, with one more for each of them
 abbrev pub total : (Tree → ℕ) → List Tree → ℕ
 total w [] = 0
 total w (t ∷ ts) = suc (w t) + total w ts
@@ -44,16 +45,20 @@ pub record IsMeasure (S : VarName → Option Tree) (w : Tree → ℕ) : Type 0 w
 abbrev pub term_size : (Tree → ℕ) → Tree → ℕ
 term_size w t = 2 * w t + 1
 
+-- how much is left to do for the rest of a list
 abbrev pub rest_size : (Tree → ℕ) → Tree → ℕ
 rest_size w t = 2 * w t + 3
 
+-- how much is left to do for arguments
 abbrev pub arguments_size : (Tree → ℕ) → List Tree → ℕ
 arguments_size w ts = 2 * total w ts + 1
 
+-- how much is left to do for an expression
 abbrev pub expression_size : (Tree → ℕ) → Expression → ℕ
 expression_size w (leaf t) = term_size w t
 expression_size w (operation _ e f) = expression_size w e + expression_size w f + 8
 
+-- how much is left to do for a piece
 abbrev pub piece_size : (Tree → ℕ) → Piece → ℕ
 piece_size w (Term t) = term_size w t.now
 piece_size w (Rest t) = rest_size w t.now
@@ -62,6 +67,7 @@ piece_size w (Mark mark) = 1
 piece_size w (Expr e) = expression_size w e.now + 1
 piece_size w (Operand e) = expression_size w e.now + 3
 
+-- how much is left to do for all pieces together
 abbrev pub pieces_size : (Tree → ℕ) → List Piece → ℕ
 pieces_size w [] = 0
 pieces_size w (p ∷ ps) = piece_size w p + pieces_size w ps

@@ -4,6 +4,7 @@ use Rattle.ghc_term.specs.Tree.{Tree, variable, integer, node, trees, atom}
 use Rattle.ghc_term.specs.declared.view.TermView.{TermView}
 use Rattle.ghc_term.specs.declared.view.TermView.TheVariants.{Var, Int, Atom, Struct}
 
+-- the tree that a view lends: a variable, an integer, an atom, or a structure
 abbrev pub shown : TermView → Tree
 shown (Var x) = variable x
 shown (Int k) = integer k

@@ -24,5 +24,6 @@ in_order (Three a xs) = xs
 in_order (Listed v) = v.items
 in_order (Tabled b) = b.value.keys
 
+-- the code of lists of variables: two lists with one code are one
 abbrev pub variable_list_code : Coded (List VarName)
 variable_list_code = coded_list name_code

@@ -22,6 +22,7 @@ closed_of (Others is_closed _) = is_closed
 abbrev pub KnowsClosed : Arguments → Type 0
 KnowsClosed a = IsTrue (closed_of a) ↔ AreClosed (trees (items_of a))
 
+-- the tree that one level of a term, with the arguments in it, stands for
 abbrev pub tree_of : Shape → Tree
 tree_of (Var x) = variable x
 tree_of (Int k) = integer k

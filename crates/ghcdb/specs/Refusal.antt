@@ -4,6 +4,7 @@ use Rattle.ghc_term.specs.Fault.{fault_text}
 use Rattle.ghcdb.specs.RefusedPart.{prefix_of}
 use Rattle.ghcdb.specs.declared.refusal.Refusal.{Refusal}
 
+-- the byte that ends a line
 abbrev pub line_feed : ℕ
 line_feed = 10
 
