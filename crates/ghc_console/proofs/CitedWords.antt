@@ -1,8 +1,8 @@
 -- The words of other crates and of the definitions that the proofs cite, from one place.
-pub use Rattle.ghc_console.specs.Answered.{AsksForRun, HasRun, IsAnsweredBy, IsCommandAnsweredBy, ServesSo, leap_asks, skip_asks}
+pub use Rattle.ghc_console.specs.inner.Answered.{AsksForRun, HasRun, IsAnsweredBy, IsCommandAnsweredBy, ServesSo, leap_asks, skip_asks}
 pub use Rattle.ghc_console.specs.AskedFor.{IsReadAskFor}
 pub use Rattle.ghc_console.specs.Commands.{arrange_with, command_of, command_of_words, step_with}
-pub use Rattle.ghc_console.specs.Device.{Counts, WritesFront}
+pub use Rattle.ghc_console.specs.inner.Device.{Counts, WritesFront}
 pub use Rattle.ghc_console.specs.Firing.{Fires, FiresInObeying, firings_in, firings_of, firings_of_obeying, runs_in, runs_of}
 pub use Rattle.ghc_console.specs.LineMemory.{BeginsWithNumber, TakesMemory, for_numbers}
 pub use Rattle.ghc_console.specs.Lines.{line_feeds, line_of, lines_of, onto, rows_of}
@@ -14,10 +14,10 @@ pub use Rattle.ghc_console.specs.ScheduleReplies.{Hears, IsAskedOf, IsDoneBy, Is
 pub use Rattle.ghc_console.specs.ScheduleText.{ArePlayedOut, BrokenOff, Schedule, WritesSchedule, hand_count, nothing_more, part_of_records, part_of_reply, then_begun, then_whole, told_at_end, with_hands}
 pub use Rattle.ghc_console.specs.Session.{Began, Served, Session, Tells, at_end, broken, ends, goes_on, nothing_yet, went_on}
 pub use Rattle.ghc_console.specs.SessionState.{HasClauseFor, SessionState, state_of}
-pub use Rattle.ghc_console.specs.Told.{IsJustChanged}
+pub use Rattle.ghc_console.specs.inner.Told.{IsJustChanged}
 pub use Rattle.ghc_console.specs.VariableNamed.{IsGivenName, IsVariableNamed, numbered_of, variable_numbered, variable_of_parts}
 pub use Rattle.ghc_console.specs.Words.{behind, from_space, goal_name_of, goal_named, goal_of_parts, in_front, is_printable, is_variable, number_of, numbers_of, unindented, words_of}
-pub use Rattle.ghc_console.specs.WritesTold.{WritesTold}
+pub use Rattle.ghc_console.specs.inner.WritesTold.{WritesTold}
 pub use Rattle.ghc_console.specs.declared.answered.Answered.{Answered}
 pub use Rattle.ghc_console.specs.declared.answered.Answered.TheVariants.{Asks, Ends, Told}
 pub use Rattle.ghc_console.specs.declared.command.LineCommand.{LineCommand}
@@ -62,10 +62,10 @@ pub use Rattle.ghc_records.specs.HistoryText.{history_text}
 pub use Rattle.ghc_records.specs.Orders.{AreDistinct}
 pub use Rattle.ghc_records.specs.Record.{Record, numbers}
 pub use Rattle.ghc_records.specs.Replay.{IsVariableOf}
-pub use Rattle.ghc_records.specs.Slots.{SlotList, held_in}
+pub use Rattle.ghc_records.specs.inner.Slots.{SlotList, held_in}
 pub use Rattle.ghc_records.specs.StepText.{record_text}
 pub use Rattle.ghc_term.proofs.ListsLemmas.{in_at, in_right, not_both}
-pub use Rattle.ghc_term.specs.Code.{var_inj}
+pub use Rattle.ghc_term.specs.inner.Code.{var_inj}
 pub use Rattle.ghc_term.specs.Goal.{Goal}
 pub use Rattle.ghc_term.specs.InputTerm.{is_name_byte}
 pub use Rattle.ghc_term.specs.Lists.{In}

@@ -9,7 +9,7 @@ use Rattle.ghc_records.proofs.OrderLemmas.{number_in, number_of, picks_once}
 use Rattle.ghc_records.proofs.PickLemmas.{picks_in, picks_has}
 use Rattle.ghc_depend.specs.Deletion.{IsPartedBy}
 use Rattle.ghc_console.specs.Keeping.{RollsBack, not_kept, rolls, RollBack, none_yet, and_next, TellsKept, kept_line, rolled_all, rolled_some}
-use Rattle.ghc_console.specs.KeepingCode.{AddsRollback, AddsRollbacks, AddsSomeRollbacks}
+use Rattle.ghc_console.specs.inner.KeepingCode.{AddsRollback, AddsRollbacks, AddsSomeRollbacks}
 use Rattle.ghc_console.specs.Replies.{RepliesToKeep, keeps, keeps_nothing}
 
 -- records are picked as their numbers are

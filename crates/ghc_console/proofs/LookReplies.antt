@@ -5,7 +5,7 @@ use Rattle.std.specs.FinMap as finite
 use Rattle.std.proofs.lemmas.List.{take_all, take_more}
 use Rattle.std.proofs.lemmas.List.Folds.{concat-append}
 use Rattle.ghc_fire.specs.Goals.{Goals}
-use Rattle.ghc_records.specs.Slots.{HasNumberIn}
+use Rattle.ghc_records.specs.inner.Slots.{HasNumberIn}
 use Rattle.ghc_console.specs.TextLines.{text_or_none}
 use Rattle.ghc_console.specs.Looks.{RepliesToClauses, RepliesToSince, TellsCausesAt, TellsCausesOf, TellsClause, TellsClausesFor, tells_since}
 use Rattle.ghc_console.proofs.RecordLines.{drop_at}

@@ -1,5 +1,3 @@
-pub mod Device
-pub mod Script
 pub mod Lines
 pub mod Reading
 pub mod Words
@@ -14,14 +12,11 @@ pub mod Looks
 pub mod Explaining
 pub mod RunReplies
 pub mod Keeping
-pub mod KeepingCode
 pub mod KeepLaws
-pub mod WritesTold
 pub mod Replies
-pub mod Told
 pub mod Session
-pub mod Answered
 pub mod ScheduleLines
 pub mod ScheduleReplies
 pub mod ScheduleText
 pub mod Firing
+pub mod inner

@@ -14,7 +14,7 @@ use Rattle.ghc_flat.specs.Clause.{Clause, Program, IsClause}
 use Rattle.ghc_flat.specs.Numbers.{AreNumbersFor}
 use Rattle.ghc_match.specs.Match.{Outcome, HasOutcome, refuses, waits, accepts}
 use Rattle.ghc_records.specs.Record.{Record}
-use Rattle.ghc_records.specs.Slots.{SlotList, StandsIn}
+use Rattle.ghc_records.specs.inner.Slots.{SlotList, StandsIn}
 use Rattle.ghc_records.specs.Journal.{step_of}
 use Rattle.ghc_records.specs.StepText.{step_text, variables_text}
 use Rattle.ghc_depend.specs.Depend.{IsKeptAs, IsNotKept}

@@ -15,7 +15,7 @@ use Rattle.ghc_reader.specs.Tests.{a_term, an_ask, IsRefusal}
 use Rattle.ghc_reader.specs.Read.{IsReadTerm}
 use Rattle.ghc_fire.specs.Attempt.{proposes, refused}
 use Rattle.ghc_fire.specs.Proposal.{Proposal}
-use Rattle.ghc_records.specs.Slots.{SlotList, StandsIn}
+use Rattle.ghc_records.specs.inner.Slots.{SlotList, StandsIn}
 use Rattle.ghc_records.specs.Record.{Record, Shelf, numbers}
 use Rattle.ghc_records.specs.Journal.{step_of}
 use Rattle.ghc_records.specs.StepText.{record_text, step_text}

@@ -3,7 +3,7 @@ ghost use Rattle.std.specs.Prelude.{◌≡◌, ◌≤◌, false, [], List, ℕ, 
 ghost use Rattle.ghc_console.specs.Commands.{command_of};
 ghost use Rattle.ghc_console.specs.Firing.{Fires, runs_of};
 ghost use Rattle.ghc_console.specs.Reading.{LineSays, line_limit};
-ghost use Rattle.ghc_console.specs.Answered.{IsAnsweredBy, IsCommandAnsweredBy};
+ghost use Rattle.ghc_console.specs.inner.Answered.{IsAnsweredBy, IsCommandAnsweredBy};
 ghost use Rattle.ghc_console.specs.Replies.{IsReply, Replies, refusal};
 ghost use Rattle.ghc_console.specs.SessionState.{LeavesSpies, state_of};
 

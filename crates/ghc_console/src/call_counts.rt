@@ -18,7 +18,7 @@ pub struct CallCounts<L: Ledger> {
 
 impl<L: Ledger> Model for CallCounts<L> {
     ghost use Rattle.std.specs.Prelude.{◌≡◌, ◌<◌, nat_lt};
-    ghost use Rattle.ghc_console.specs.Device.{Counted};
+    ghost use Rattle.ghc_console.specs.inner.Device.{Counted};
 
     ghost Value = { Counted };
 

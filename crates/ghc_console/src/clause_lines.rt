@@ -1,7 +1,7 @@
 // The reply that tells what each clause says to a goal.
 ghost use Rattle.std.specs.Prelude.{◌≡◌, ◌++◌, [], OnOk, string_bytes};
 ghost use Rattle.ghc_term.specs.Store.{value_at};
-ghost use Rattle.ghc_match.specs.Told.{outcome_of};
+ghost use Rattle.ghc_match.specs.inner.Told.{outcome_of};
 ghost use Rattle.ghc_console.specs.Looks.{RepliesToClauses, TellsClauses, outcome_text};
 
 use crate::reply::refused;

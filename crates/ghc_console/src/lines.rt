@@ -3,7 +3,7 @@ ghost use Rattle.std.specs.Prelude.{◌≡◌, ◌<◌, [], length, IfOk, OnOk, 
 ghost use Rattle.std.specs.Io.{ReadsAtMost, WritesAtMost};
 ghost use Rattle.std.specs.Io.Buffered.{writer_buffer, writer_contents, writer_inner};
 ghost use Rattle.std.specs.Io.KnownBytes.{Keeps, ReadConsumes, WriteAppends, append_known};
-ghost use Rattle.ghc_console.specs.Device.{Counts, EndsWith, Gives, StaysBroken};
+ghost use Rattle.ghc_console.specs.inner.Device.{Counts, EndsWith, Gives, StaysBroken};
 
 use crate::call_counts::CallCounts;
 use crate::device::{Broken, Device};
@@ -21,7 +21,7 @@ pub struct Lines<R: Read, W: Write + Drop, L: Ledger> {
 
 impl<R: Read, W: Write + Drop, L: Ledger> Model for Lines<R, W, L> {
     ghost use Rattle.std.specs.Io.Buffered.{writer_buffer, writer_contents, writer_inner};
-    ghost use Rattle.ghc_console.specs.Device.{LinesValue};
+    ghost use Rattle.ghc_console.specs.inner.Device.{LinesValue};
 
     ghost Value = { LinesValue };
 

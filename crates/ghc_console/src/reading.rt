@@ -1,7 +1,7 @@
 // Reading lines from a device.
 ghost use Rattle.std.specs.Prelude.{◌≡◌, ◌≢◌, ◌∷◌, ◌++◌, ◌+◌, ◌<◌, All, IfSome, IfNone, List, ℕ, [], length, ◌==◌, false, take, drop, IfOk, OnOk, Option};
 ghost use Rattle.std.specs.Io.KnownBytes.{IsAtEnd, Keeps, prepend_known};
-ghost use Rattle.ghc_console.specs.Device.{Counts};
+ghost use Rattle.ghc_console.specs.inner.Device.{Counts};
 ghost use Rattle.ghc_console.specs.Reading.{AsksAtNeed, CountsGiven, HasGathered, IsMadeOf, IsNextLine, TakesFront};
 
 use crate::device::{Broken, Device};

@@ -1,7 +1,7 @@
 // Rollbacks one after another, each told on a line.
 ghost use Rattle.std.specs.Prelude.{◌≡◌, ◌+◌, ◌≤◌, ◌++◌, [], OnErr, OnOk, length, string_bytes, string_capacity, string_len};
 ghost use Rattle.ghc_console.specs.Keeping.{TellsKept, kept_line};
-ghost use Rattle.ghc_console.specs.KeepingCode.{AddsRollback, AddsRollbacks, AddsSomeRollbacks};
+ghost use Rattle.ghc_console.specs.inner.KeepingCode.{AddsRollback, AddsRollbacks, AddsSomeRollbacks};
 
 use crate::obey_reply::gone;
 use ghc_core::{Change, Core, Going};

@@ -1,9 +1,9 @@
 // The lines of runs, which are written one at a time.
 ghost use Rattle.std.specs.Prelude.{◌≡◌, ◌++◌, ◌∷◌, [], map, OnOk, string_bytes};
 ghost use Rattle.std.specs.Io.KnownBytes.{Keeps};
-ghost use Rattle.ghc_console.specs.Device.{Counts};
+ghost use Rattle.ghc_console.specs.inner.Device.{Counts};
 ghost use Rattle.ghc_console.specs.RunReplies.{IsAdded, last_of, run_lines, step_line, stop_line, stop_text};
-ghost use Rattle.ghc_console.specs.WritesTold.{WritesTold};
+ghost use Rattle.ghc_console.specs.inner.WritesTold.{WritesTold};
 
 use crate::device::{Broken, Device, write_all};
 use ghc_core::Core;

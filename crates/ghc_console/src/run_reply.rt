@@ -1,6 +1,6 @@
 // The commands that run: they take steps until there is a reason to stop.
 ghost use Rattle.std.specs.Prelude.{◌≡◌, [], List, ℕ, IfOk, string_bytes};
-ghost use Rattle.ghc_console.specs.Answered.{IsCommandAnsweredBy};
+ghost use Rattle.ghc_console.specs.inner.Answered.{IsCommandAnsweredBy};
 ghost use Rattle.ghc_console.specs.RunReplies.{AreLinesTold, IsAdded, TellsRun, last_of, mode_of, run_lines};
 ghost use Rattle.ghc_console.specs.SessionState.{state_of};
 ghost use Rattle.ghc_console.specs.declared.command.LineCommand.TheVariants.{Skip as skip};

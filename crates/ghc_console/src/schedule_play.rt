@@ -2,7 +2,7 @@
 ghost use Rattle.std.specs.Prelude.{◌≡◌, Some, MatchResult};
 ghost use Rattle.std.specs.Io.KnownBytes.{Keeps};
 ghost use Rattle.ghc_core.specs.EventCode.{reply_of};
-ghost use Rattle.ghc_console.specs.Device.{WritesFront};
+ghost use Rattle.ghc_console.specs.inner.Device.{WritesFront};
 ghost use Rattle.ghc_console.specs.Lines.{lines_of};
 ghost use Rattle.ghc_console.specs.Replies.{records_text};
 ghost use Rattle.ghc_console.specs.ScheduleReplies.{reply_text};

@@ -2,8 +2,8 @@
 ghost use Rattle.std.specs.Prelude.{◌≡◌, ℕ, ◌+◌, ◌<◌, ◌≤◌, true, false, not, min, [], List, length, take, drop, ◌++◌, Ok, IfOk, is_ok, Some, vec_len};
 ghost use Rattle.std.specs.Io.{StopsAt, ReadsAtMost, WritesAtMost};
 ghost use Rattle.std.specs.Io.KnownBytes.{Keeps, ReadConsumes, WriteAppends};
-ghost use Rattle.ghc_console.specs.Device.{Counts, EndsWith, Gives};
-ghost use Rattle.ghc_console.specs.Script.{after_call, fails_next};
+ghost use Rattle.ghc_console.specs.inner.Device.{Counts, EndsWith, Gives};
+ghost use Rattle.ghc_console.specs.inner.Script.{after_call, fails_next};
 
 use crate::call_counts::CallCounts;
 use crate::device::{Broken, Device};
@@ -24,7 +24,7 @@ pub struct Script<L: Ledger> {
 
 impl<L: Ledger> Model for Script<L> {
     ghost use Rattle.std.specs.Prelude.{ℕ, ◌≤◌, drop, vec_len};
-    ghost use Rattle.ghc_console.specs.Script.{ScriptValue};
+    ghost use Rattle.ghc_console.specs.inner.Script.{ScriptValue};
 
     ghost Value = { ScriptValue };
 

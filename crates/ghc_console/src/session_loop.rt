@@ -1,9 +1,9 @@
 // The session: lines are read, and their replies written.
 ghost use Rattle.std.specs.Prelude.{◌≡◌, ◌+◌, ◌-◌, ◌≤◌, ℕ, List, [], IfErr, IfOk, IfSome, OnOk, MatchResult};
 ghost use Rattle.std.specs.Io.KnownBytes.{Keeps};
-ghost use Rattle.ghc_console.specs.Answered.{HasRun, IfAsksForRun, ServesSo};
+ghost use Rattle.ghc_console.specs.inner.Answered.{HasRun, IfAsksForRun, ServesSo};
 ghost use Rattle.ghc_console.specs.Commands.{command_of};
-ghost use Rattle.ghc_console.specs.Device.{Counts, WritesFront};
+ghost use Rattle.ghc_console.specs.inner.Device.{Counts, WritesFront};
 ghost use Rattle.ghc_console.specs.Firing.{Fires, firings_in, runs_in};
 ghost use Rattle.ghc_console.specs.Lines.{lines_of};
 ghost use Rattle.ghc_console.specs.Reading.{LineSays};

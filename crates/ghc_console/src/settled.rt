@@ -8,7 +8,7 @@ ghost use Rattle.ghc_core.specs.Change.{CanChange, Changes, IsBoundBy};
 ghost use Rattle.ghc_trace.specs.Disturbed.{AreDisturbed};
 ghost use Rattle.ghc_trace.specs.Laws.{IsSettled, Brings};
 ghost use Rattle.ghc_console.specs.Replies.{Settled};
-ghost use Rattle.ghc_console.specs.Told.{IsJustChanged};
+ghost use Rattle.ghc_console.specs.inner.Told.{IsJustChanged};
 
 use ghc_core::{Change, Core};
 use ghc_trace::{Disturbed, notes_tell_news};

@@ -3,9 +3,9 @@ pub use Rattle.ghc_core.specs.Answers.{Answers, AnswersEach, Asks, AsksFor, Fail
 pub use Rattle.ghc_core.specs.Anyway.{HoldsNoGoal, IsNotAskedAnyway, IsNotCommittedAnyway, IsNotProposedAnyway}
 pub use Rattle.ghc_core.specs.Arrangement.{Arrangement}
 pub use Rattle.ghc_core.specs.Asked.{IsAskedFor}
-pub use Rattle.ghc_core.specs.AskedAgain.{CanBeAsked, CanBeAskedFor}
+pub use Rattle.ghc_core.specs.inner.AskedAgain.{CanBeAsked, CanBeAskedFor}
 pub use Rattle.ghc_core.specs.AskedGoals.{AskFails, HasClauseFor, HasUndefined, IsOfAsk, NameKnown}
-pub use Rattle.ghc_core.specs.Carried.{AreAllCarriedBack, AreCarried, AreCarriedBack, AreCarriedOver, AreDropped, AreMarked, Consumed, ConsumedToTry, IsBound, IsGiven, IsToTry, MadeToTry}
+pub use Rattle.ghc_core.specs.inner.Carried.{AreAllCarriedBack, AreCarried, AreCarriedBack, AreCarriedOver, AreDropped, AreMarked, Consumed, ConsumedToTry, IsBound, IsGiven, IsToTry, MadeToTry}
 pub use Rattle.ghc_core.specs.Change.{AreTakenAway, CanChange, Changes, GoWithIt, IsBoundBy, entry_of_going, with_coming, with_order, without_steps}
 pub use Rattle.ghc_core.specs.CommandCode.{command_of}
 pub use Rattle.ghc_core.specs.Core.{AreExactIn, Core, IsCommitted, IsConsistent, IsFaceOf, IsNotedFaceOf, IsStanding, Stays, choice_of, next_record, record_as}
@@ -25,7 +25,7 @@ pub use Rattle.ghc_core.specs.Reached.{AreNamesOf, IsSound, Reaches, by_change, 
 pub use Rattle.ghc_core.specs.Refusals.{CanUndo, HasConsequence, IsShelvedWith, IsToldWhere, LacksGoal, OrElse, RedoFails, UndoFails}
 pub use Rattle.ghc_core.specs.Resume.{ArePredicatesOf, CarriesOut, CarriesOutEach, IsCarriedOut, IsOpened, IsPredicateOf, IsRefusedEntry, LacksBehind, Resumes, StopsBehind, chronicle_of_world, line_of_entry, line_of_spy, no_entry, no_spy, opening_of, resumes}
 pub use Rattle.ghc_core.specs.Settling.{AreKept, AreNoted, IsNoteOf, IsNoted, tried_often}
-pub use Rattle.ghc_core.specs.StreamGoals.{TellStreams, all_told_back, first_made, name_of, opened, renamed, stream_of, told, told_back, with_name}
+pub use Rattle.ghc_core.specs.inner.StreamGoals.{TellStreams, all_told_back, first_made, name_of, opened, renamed, stream_of, told, told_back, with_name}
 pub use Rattle.ghc_core.specs.Streams.{IsStreamAt, IsStreamStep, StreamFails}
 pub use Rattle.ghc_core.specs.World.{Hands, HasRoom, IsFull, IsHand, IsKnown, IsNextStep, IsReplay, Opens, Proposal, World, emptied, no_hands, with_hand, with_step}
 pub use Rattle.ghc_core.specs.declared.change.Change.{Change}
@@ -70,7 +70,7 @@ pub use Rattle.ghc_fire.specs.Instance.{made, replace_in_goal}
 pub use Rattle.ghc_fire.specs.Laws.{EffectIsOne, HasNoVariableOf}
 pub use Rattle.ghc_fire.specs.Meter.{fired, tried}
 pub use Rattle.ghc_fire.specs.Proposal.{numbered, under}
-pub use Rattle.ghc_fire.specs.Tail.{IsTailBound}
+pub use Rattle.ghc_fire.specs.inner.Tail.{IsTailBound}
 pub use Rattle.ghc_fire.specs.declared.act.Act.{Act}
 pub use Rattle.ghc_fire.specs.declared.act.Act.TheVariants.{Asked, Assigned, ByClause, Closed, Given, Unified}
 pub use Rattle.ghc_fire.specs.declared.meter.Meter.{Meter}
@@ -115,7 +115,7 @@ pub use Rattle.ghc_records.proofs.States.{bound_at, made_or_old}
 pub use Rattle.ghc_records.proofs.StreamLemmas.{OneEach, after_one_each, made_at, query_one_each, run_one_each, stream_made}
 pub use Rattle.ghc_records.specs.Chronicle.{Chronicle, entry_limit, next_after, next_behind}
 pub use Rattle.ghc_records.specs.ChronicleText.{TellsChronicle}
-pub use Rattle.ghc_records.specs.EntryCode.{entry_of}
+pub use Rattle.ghc_records.specs.inner.EntryCode.{entry_of}
 pub use Rattle.ghc_records.specs.History.{History, IsHistory, loaded_opening}
 pub use Rattle.ghc_records.specs.HistoryText.{SaysAct, SaysStep}
 pub use Rattle.ghc_records.specs.Journal.{Entry, Item, Opening, Step, entered, history, opening_journal, redid, reordered, rolled, step_of, took, undid}
@@ -124,10 +124,10 @@ pub use Rattle.ghc_records.specs.Numbers.{IsStepNumber, kept_limit, number_limit
 pub use Rattle.ghc_records.specs.Orders.{AreDistinct, Picks, leave, nothing}
 pub use Rattle.ghc_records.specs.Record.{Fires, HasStepEffect, IsThere, Record, Shelf, State, after, numbers, with_makes, without_goal}
 pub use Rattle.ghc_records.specs.Replay.{AreKnownIn, HaveStepNumbers, IsVariableOf, MakesVariable, NameWhatIsKnown, Replays, Runs, query_state}
-pub use Rattle.ghc_records.specs.Slots.{SlotList, StandsIn, held_in}
+pub use Rattle.ghc_records.specs.inner.Slots.{SlotList, StandsIn, held_in}
 pub use Rattle.ghc_records.specs.State.{AreTakenBack, ConsumesGoal, IsTakenBack}
 pub use Rattle.ghc_records.specs.UseIndex.{HasRoomToKeep, RecordsTables}
-pub use Rattle.ghc_records.specs.WrittenEntryCode.{said_by}
+pub use Rattle.ghc_records.specs.inner.WrittenEntryCode.{said_by}
 pub use Rattle.ghc_records.specs.declared.predicate.Predicate.{Predicate}
 pub use Rattle.ghc_records.specs.declared.written_entry.WrittenEntry.{WrittenEntry}
 pub use Rattle.ghc_term.proofs.Chains.{leads_once}
@@ -144,9 +144,9 @@ pub use Rattle.ghc_term.proofs.SetsLemmas.{any_in, has_member, holds_nothing, in
 pub use Rattle.ghc_term.proofs.Total.{chain}
 pub use Rattle.ghc_term.specs.Answered.{Answered}
 pub use Rattle.ghc_term.specs.Bindings.{IsAcyclic, Leads, here, name_cmp, now, through}
-pub use Rattle.ghc_term.specs.Code.{var_inj}
+pub use Rattle.ghc_term.specs.inner.Code.{var_inj}
 pub use Rattle.ghc_term.specs.Goal.{Goal, assign, call, stream, unify}
-pub use Rattle.ghc_term.specs.GoalCode.{goal_code}
+pub use Rattle.ghc_term.specs.inner.GoalCode.{goal_code}
 pub use Rattle.ghc_term.specs.Lists.{In}
 pub use Rattle.ghc_term.specs.Store.{StoreValue, value_at}
 pub use Rattle.ghc_term.specs.Tree.{IsClosed, IsValue, Tree, cons, integer, nil, variable}

@@ -13,7 +13,7 @@ use Rattle.ghc_core.specs.World.{World, with_step}
 use Rattle.ghc_core.specs.Room.{Room}
 use Rattle.ghc_core.specs.Proposes.{IsCommitOf}
 use Rattle.ghc_core.specs.Reached.{Reaches}
-use Rattle.ghc_core.specs.StreamGoals.{TellStreams}
+use Rattle.ghc_core.specs.inner.StreamGoals.{TellStreams}
 
 -- A core is the world that it is in, the noted outcomes of its goals, the goals that are untried, the counts of what it fired and tried, and its room, which no other clause speaks of.
 pub record Core : Type 0 where

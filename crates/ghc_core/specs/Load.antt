@@ -9,7 +9,7 @@ use Rattle.ghc_records.specs.Numbers.{kept_limit}
 use Rattle.ghc_records.specs.Record.{State, Record, numbers, after, Fires}
 use Rattle.ghc_records.specs.Replay.{query_state, Runs}
 use Rattle.ghc_records.specs.Journal.{Step, step_of, took}
-use Rattle.ghc_records.specs.Slots.{SlotList, StandsIn}
+use Rattle.ghc_records.specs.inner.Slots.{SlotList, StandsIn}
 use Rattle.ghc_records.specs.History.{History, loaded_opening}
 use Rattle.ghc_core.specs.World.{World, IsKnown, Opens}
 

@@ -4,7 +4,7 @@ use Rattle.std.specs.Coded.{Coded, code_by, coded×, coded_ℕ}
 use Rattle.std.specs.Ordering.{nat_cmp}
 use Rattle.std.specs.FinMap as finite
 use Rattle.ghc_term.specs.declared.fault.Fault.{Fault}
-use Rattle.ghc_fire.specs.ActCode.{proposal_code}
+use Rattle.ghc_fire.specs.inner.ActCode.{proposal_code}
 use Rattle.ghc_records.specs.Journal.{Entry}
 use Rattle.ghc_core.specs.World.{Proposal, Hands, World}
 use Rattle.ghc_core.specs.Events.{Event, Reply, held, stepped, noted, undone, arranged, refused}

@@ -30,7 +30,7 @@ pub struct Arrangement {
 
 impl Model for Arrangement {
     ghost use Rattle.ghc_core.specs.Arrangement.{Arrangement};
-    ghost use Rattle.ghc_core.specs.ArrangementCode.{arrangement_code};
+    ghost use Rattle.ghc_core.specs.inner.ArrangementCode.{arrangement_code};
 
     ghost Value = { Arrangement };
 

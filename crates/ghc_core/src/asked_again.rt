@@ -4,7 +4,7 @@ ghost use Rattle.ghc_fire.specs.Asked.{own_variables, made_from, effect_of_askin
 ghost use Rattle.ghc_fire.specs.declared.act.Act.TheVariants.{Asked as asks};
 ghost use Rattle.ghc_records.specs.Journal.{step_of};
 ghost use Rattle.ghc_records.specs.Record.{Record as record_spec};
-ghost use Rattle.ghc_core.specs.AskedAgain.{CanBeAskedFor, CanBeAsked};
+ghost use Rattle.ghc_core.specs.inner.AskedAgain.{CanBeAskedFor, CanBeAsked};
 ghost use Rattle.ghc_core.specs.World.{IsNextStep, HasRoom};
 
 use crate::ask::is_defined;

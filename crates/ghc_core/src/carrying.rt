@@ -5,7 +5,7 @@ ghost use Rattle.ghc_term.specs.declared.goal_name.GoalName.{GoalName};
 ghost use Rattle.ghc_flat.specs.Flat.{is_stream};
 ghost use Rattle.ghc_hooks.specs.Tries.{AreSpared, AreWoken};
 ghost use Rattle.ghc_records.specs.Replay.{MakesGoal};
-ghost use Rattle.ghc_core.specs.Carried.{IsBound, IsGiven, Consumed, AreDropped, AreMarked, AreCarriedOver, AreCarriedBack, IsToTry, ConsumedToTry};
+ghost use Rattle.ghc_core.specs.inner.Carried.{IsBound, IsGiven, Consumed, AreDropped, AreMarked, AreCarriedOver, AreCarriedBack, IsToTry, ConsumedToTry};
 
 use ghc_hooks::Tries;
 use ghc_records::Record;

@@ -48,7 +48,7 @@ impl Drop for Core {
 impl Model for Core {
     ghost use Rattle.ghc_records.specs.History.{loaded_opening};
     ghost use Rattle.ghc_core.specs.Core.{Core, IsConsistent};
-    ghost use Rattle.ghc_core.specs.CoreCode.{core_code};
+    ghost use Rattle.ghc_core.specs.inner.CoreCode.{core_code};
 
     ghost Value = { Core };
 

@@ -7,7 +7,7 @@ ghost use Rattle.ghc_records.specs.History.{IsHistory};
 ghost use Rattle.ghc_records.specs.Chronicle.{entry_limit, spy_limit};
 ghost use Rattle.ghc_core.specs.Counting.{after_firings, firings_of_entries};
 ghost use Rattle.ghc_core.specs.Resume.{CarriesOutEach, StopsBehind, ArePredicatesOf, LacksBehind, Resumes};
-ghost use Rattle.ghc_records.specs.WrittenEntryCode.{said_by};
+ghost use Rattle.ghc_records.specs.inner.WrittenEntryCode.{said_by};
 
 use crate::ask::is_defined;
 use crate::core_state::Core;

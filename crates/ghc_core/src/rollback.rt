@@ -3,7 +3,7 @@ ghost use Rattle.std.specs.Prelude.{◌≡◌, ◌⊎◌, [], ℕ, List, IfOk, I
 ghost use Rattle.ghc_term.specs.Lists.{In};
 ghost use Rattle.ghc_hooks.specs.Notes.{AreLeft};
 ghost use Rattle.ghc_records.specs.Record.{Record as record_spec, numbers};
-ghost use Rattle.ghc_records.specs.EntryCode.{entry_of};
+ghost use Rattle.ghc_records.specs.inner.EntryCode.{entry_of};
 ghost use Rattle.ghc_depend.specs.Depend.{IsKeptAs, IsNotKept};
 ghost use Rattle.ghc_depend.specs.Deletion.{IsBoundIn};
 ghost use Rattle.ghc_depend.specs.Kept.{IsSplitAt};
@@ -32,7 +32,7 @@ pub struct Rollback {
 
 impl Model for Rollback {
     ghost use Rattle.ghc_core.specs.Gone.{Gone};
-    ghost use Rattle.ghc_core.specs.GoneCode.{gone_code};
+    ghost use Rattle.ghc_core.specs.inner.GoneCode.{gone_code};
 
     ghost Value = { Gone };
 

@@ -7,8 +7,8 @@ ghost use Rattle.ghc_records.specs.Orders.{AreDistinct, Picks};
 ghost use Rattle.ghc_records.specs.Record.{Record as record_spec};
 ghost use Rattle.ghc_records.specs.State.{IsTakenBack, AreTakenBack};
 ghost use Rattle.ghc_depend.specs.Kept.{with_shelved};
-ghost use Rattle.ghc_core.specs.Carried.{Consumed, AreCarriedBack, AreAllCarriedBack};
-ghost use Rattle.ghc_core.specs.StreamGoals.{told_back, all_told_back};
+ghost use Rattle.ghc_core.specs.inner.Carried.{Consumed, AreCarriedBack, AreAllCarriedBack};
+ghost use Rattle.ghc_core.specs.inner.StreamGoals.{told_back, all_told_back};
 
 use crate::carrying::carry_back;
 use crate::stream_goals::StreamGoals;

@@ -5,7 +5,7 @@ ghost use Rattle.ghc_fire.specs.declared.act.Act.TheVariants.{Asked as asked};
 ghost use Rattle.ghc_records.specs.History.{IsHistory};
 ghost use Rattle.ghc_records.specs.Journal.{step_of};
 ghost use Rattle.ghc_records.specs.Record.{Record as record_spec, numbers};
-ghost use Rattle.ghc_records.specs.Slots.{StandsIn};
+ghost use Rattle.ghc_records.specs.inner.Slots.{StandsIn};
 ghost use Rattle.ghc_core.specs.Load.{AsksForGoals, AskForGoals, KeepsSlot, history_of};
 
 use crate::core_state::Core;

@@ -1,6 +1,6 @@
 // The name of the goal of each stream, kept in step with the goals.
 ghost use Rattle.std.specs.Prelude.{◌≡◌, length, IfOk};
-ghost use Rattle.ghc_core.specs.StreamGoals.{told, told_back, opened, renamed, stream_of, first_made as first_made_by};
+ghost use Rattle.ghc_core.specs.inner.StreamGoals.{told, told_back, opened, renamed, stream_of, first_made as first_made_by};
 
 use crate::carrying::is_stream;
 use ghc_records::Record;
@@ -17,7 +17,7 @@ pub struct StreamGoals {
 impl Model for StreamGoals {
     ghost use Rattle.std.specs.Prelude.{List};
     ghost use Rattle.ghc_term.specs.declared.goal_name.GoalName.{GoalName};
-    ghost use Rattle.ghc_core.specs.StreamGoals.{stream_goals_code};
+    ghost use Rattle.ghc_core.specs.inner.StreamGoals.{stream_goals_code};
 
     ghost Value = { List GoalName };
 
@@ -53,7 +53,7 @@ fn first_made(step: &Record) -> Option<GoalName>
 }
 
 impl StreamGoals {
-    ghost use Rattle.ghc_core.specs.StreamGoals.{name_of, with_name};
+    ghost use Rattle.ghc_core.specs.inner.StreamGoals.{name_of, with_name};
 
     /// The goals of the streams of a query, before any step, of which there are as many as counted: one look at each.
     pub fn of_query(alloc: Global, goals: &[Goal], count: u32) -> Result<StreamGoals, AllocError>

@@ -11,7 +11,7 @@ ghost use Rattle.ghc_core.specs.CommandCode.{command_of};
 ghost use Rattle.ghc_core.specs.Counting.{after_firings, firings_of_command, firings_of_entry};
 ghost use Rattle.ghc_core.specs.Resume.{CarriesOut, IsRefusedEntry};
 ghost use Rattle.ghc_core.specs.World.{World as world_spec, IsNextStep, HasRoom};
-ghost use Rattle.ghc_records.specs.WrittenEntryCode.{said_by};
+ghost use Rattle.ghc_records.specs.inner.WrittenEntryCode.{said_by};
 ghost use Rattle.ghc_core.specs.declared.change.Change.{Change as change_spec};
 
 use crate::command::Command;

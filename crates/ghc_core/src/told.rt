@@ -1,8 +1,8 @@
 // The chronicle that tells a core.
 ghost use Rattle.std.specs.Prelude.{◌≡◌, ◌+◌, ◌<◌, ◌++◌, drop, length, map, IfOk, OnOk};
-ghost use Rattle.ghc_records.specs.EntryCode.{entry_of};
+ghost use Rattle.ghc_records.specs.inner.EntryCode.{entry_of};
 ghost use Rattle.ghc_core.specs.Resume.{chronicle_of_world, opening_of};
-ghost use Rattle.ghc_records.specs.WrittenEntryCode.{said_by};
+ghost use Rattle.ghc_records.specs.inner.WrittenEntryCode.{said_by};
 
 use crate::core_state::Core;
 use crate::taken_again::numbers_again;

@@ -4,7 +4,7 @@ use Rattle.std.specs.FinSet as set
 use Rattle.std.specs.Ordering.{nat_cmp}
 use Rattle.std.specs.BTreeMap.{BTreeMap, get, is_at}
 use Rattle.std.specs.Map.{lookup}
-use Rattle.ghc_depend.specs.Sources.{IsPlaceOfOne, AreFilled, PutsLeast, AreLeastReads}
+use Rattle.ghc_depend.specs.inner.Sources.{IsPlaceOfOne, AreFilled, PutsLeast, AreLeastReads}
 use Rattle.ghc_depend.proofs.Causes.{IsLeastOf, least_passed, least_taken, least_is, least_none, stands_before}
 use Rattle.ghc_depend.proofs.Finding.{same_value}
 

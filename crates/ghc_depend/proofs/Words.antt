@@ -6,7 +6,7 @@ pub use Rattle.ghc_depend.specs.Facts.{AppendDepends, AppendOrders, WakingDepend
 pub use Rattle.ghc_depend.specs.Kept.{IsSplitAt, IsWithout, Keeps, taken_numbers, with_shelved}
 pub use Rattle.ghc_depend.specs.Lawful.{AreInTime, IsFirstMissing, IsFirstNeeded, IsFirstTooEarly, IsFirstWrong, IsInOrder, IsInTime, IsLawful, IsNoFurther, IsOfKept, IsOrderOf, IsTooEarly, IsUnlawful, StandsBehind, missing, too_early, wrong}
 pub use Rattle.ghc_depend.specs.Laws.{ConsequencesHaveOneAnswer, GoneComeBack, KeepsIsOne, LawOfDeletion, LawfulOrderKeepsReplay, NeighboursChangePlaces, OrdersAreDecided, OrdersHaveOneAnswer, RollKeepsReplay, UndoKeepsReplay, WithoutStepsIsOne}
-pub use Rattle.ghc_depend.specs.Places.{IsFirstAmong, IsPlaceOfUser}
+pub use Rattle.ghc_depend.specs.inner.Places.{IsFirstAmong, IsPlaceOfUser}
 pub use Rattle.ghc_depend.specs.declared.cause.Cause.TheVariants.{Made, Named, Read}
 pub use Rattle.ghc_fire.proofs.Asking.{asks_once}
 pub use Rattle.ghc_fire.proofs.GoalNames.{goal_total, same_goal, same_parts, goal_antisymmetric}
@@ -37,7 +37,7 @@ pub use Rattle.ghc_records.specs.Journal.{Entry, Opening, redid, reordered, roll
 pub use Rattle.ghc_records.specs.Orders.{AreDistinct, Picks, Precedes, leave, nothing}
 pub use Rattle.ghc_records.specs.Record.{Fires, HasStepEffect, IsThere, Record, Shelf, State, after, numbers, with_makes, without_goal}
 pub use Rattle.ghc_records.specs.Replay.{AreKnownIn, HaveStepNumbers, Replays, Runs, query_state}
-pub use Rattle.ghc_records.specs.Slots.{HasNumberIn, SlotList, StandsIn, held_in}
+pub use Rattle.ghc_records.specs.inner.Slots.{HasNumberIn, SlotList, StandsIn, held_in}
 pub use Rattle.ghc_records.specs.State.{IsTakenBack}
 pub use Rattle.ghc_records.specs.UseIndex.{StepBinds, StepDependsOn}
 pub use Rattle.ghc_term.proofs.Chains.{leads_agree, leads_once, reaches_more}

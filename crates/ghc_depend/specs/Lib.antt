@@ -1,10 +1,9 @@
 pub mod Depend
-pub mod Places
 pub mod Cause
 pub mod Deletion
 pub mod Slices
-pub mod Sources
 pub mod Lawful
 pub mod Kept
 pub mod Facts
 pub mod Laws
+pub mod inner

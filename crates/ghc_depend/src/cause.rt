@@ -2,10 +2,10 @@
 ghost use Rattle.std.specs.Prelude.{◌≡◌, ◌≢◌, ◌↔◌, slice_get, Some, IsTrue, IfSome, IfNone};
 ghost use Rattle.ghc_term.specs.declared.var_name.VarName.{VarName};
 ghost use Rattle.ghc_records.specs.Record.{Record};
-ghost use Rattle.ghc_records.specs.Slots.{StandsIn};
+ghost use Rattle.ghc_records.specs.inner.Slots.{StandsIn};
 ghost use Rattle.ghc_depend.specs.Depend.{MakesGoal, MakesVariable, Consumes, Binds, ReadsFrom, NamesFrom, IsKeptAs, Uses};
 ghost use Rattle.ghc_depend.specs.Cause.{CanWait, WasThereBefore, IsBoundBehind, ReadsBehind, IsWokenBy, IsLeastRead, IsLeastNamed, IsDirect};
-ghost use Rattle.ghc_depend.specs.Sources.{AreLeastReads, AreSources};
+ghost use Rattle.ghc_depend.specs.inner.Sources.{AreLeastReads, AreSources};
 
 use crate::sources::{Sources, lesser};
 use ghc_fire::Act;

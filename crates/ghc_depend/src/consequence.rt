@@ -3,7 +3,7 @@ ghost use Rattle.std.specs.Prelude.{◌≡◌, ◌⊎◌, ◌↔◌, ◌≤◌, 
 ghost use Rattle.ghc_term.specs.Lists.{In};
 ghost use Rattle.ghc_records.specs.Record.{Record, numbers};
 ghost use Rattle.ghc_depend.specs.Depend.{Follows, IsKeptAs, AreConsequencesOf, IsFirstConsequence};
-ghost use Rattle.ghc_depend.specs.Places.{IsFirstAmong, IsPlaceOfUser};
+ghost use Rattle.ghc_depend.specs.inner.Places.{IsFirstAmong, IsPlaceOfUser};
 
 use ghc_records::Records;
 use std::alloc::{AllocError, Global};

@@ -4,7 +4,7 @@ ghost use Rattle.ghc_term.specs.Lists.{In};
 ghost use Rattle.ghc_term.specs.declared.fault.Fault.{Fault};
 ghost use Rattle.ghc_records.specs.Orders.{AreDistinct};
 ghost use Rattle.ghc_records.specs.Record.{Record, numbers};
-ghost use Rattle.ghc_records.specs.Slots.{StandsIn};
+ghost use Rattle.ghc_records.specs.inner.Slots.{StandsIn};
 ghost use Rattle.ghc_depend.specs.Lawful.{IsOfKept, IsFirstWrong, IsFirstMissing, StandsBehind, IsNoFurther};
 
 use ghc_records::Records;

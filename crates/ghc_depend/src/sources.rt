@@ -3,7 +3,7 @@ ghost use Rattle.std.specs.Prelude.{◌≢◌, IfOk, OnOk, IfSome, IfNone, ◌�
 ghost use Rattle.std.specs.Ordering.{ord_min};
 ghost use Rattle.ghc_term.specs.Bindings.{name_cmp};
 ghost use Rattle.ghc_records.specs.Uses.{Binds, MakesGoal, MakesVariable};
-ghost use Rattle.ghc_depend.specs.Sources.{IsPlaceOfOne, PutsLeast, AreLeastReads, AreLeastNames, AreSources};
+ghost use Rattle.ghc_depend.specs.inner.Sources.{IsPlaceOfOne, PutsLeast, AreLeastReads, AreLeastNames, AreSources};
 
 use crate::cause::makes_goal;
 use ghc_records::{Record, Records};

@@ -2,16 +2,16 @@
 pub use Rattle.ghc_fire.specs.Asked.{AreAskable, Asks, IsAsk, NameNoneOf, asked_as, asked_of, called, called_by, effect_of_asking, made_from, named_so, own_variables, renumbered}
 pub use Rattle.ghc_fire.specs.Attempt.{Answer, AssignmentAnswers, CallAnswers, ChoiceAnswers, IsLeast, SomeAccepts, SomeWaitsFor, UnificationAnswers, proposes, refused}
 pub use Rattle.ghc_fire.specs.Attempted.{AttemptsAt, IsProposed}
-pub use Rattle.ghc_fire.specs.Calls.{HasVerdict}
+pub use Rattle.ghc_fire.specs.inner.Calls.{HasVerdict}
 pub use Rattle.ghc_fire.specs.Effect.{Assigns, Closes, Effect, Feeds, HasEffect, IsOnChainsOf, ReadsTail, Reduces, Unites, no_step}
-pub use Rattle.ghc_fire.specs.EffectCode.{effect_code}
+pub use Rattle.ghc_fire.specs.inner.EffectCode.{effect_code}
 pub use Rattle.ghc_fire.specs.Facts.{AppendRun, BoundTailTakesNothing, InputAndClose, InputReadsAlias, list_1, list_2, partial_list}
 pub use Rattle.ghc_fire.specs.Goals.{Goals, goal_cmp}
 pub use Rattle.ghc_fire.specs.Instance.{becomes, body_made, made, place_in, replace_in_expression, replace_in_goal}
 pub use Rattle.ghc_fire.specs.Laws.{AttemptHasOneAnswer, AttemptIsExact, AttemptIsOfWhatIsLookedAt, ComesFrom, EachActHasAnEffectOrNone, EachAttemptHasAnAnswer, EachEffectIsDecided, EffectBindsAndReads, EffectIsLocal, EffectIsOne, EffectKeepsAcyclic, EffectUnderANumber, EffectUnderEachNumber, EffectVariables, IsMadeBy, ProposalAsAStep, ProposalIsEffect}
 pub use Rattle.ghc_fire.specs.Proposal.{Proposal, numbered, under}
-pub use Rattle.ghc_fire.specs.Renaming.{AreBehindHead, operated, plugged, renamed, replacement}
-pub use Rattle.ghc_fire.specs.Tail.{IsTailBound}
+pub use Rattle.ghc_fire.specs.inner.Renaming.{AreBehindHead, operated, plugged, renamed, replacement}
+pub use Rattle.ghc_fire.specs.inner.Tail.{IsTailBound}
 pub use Rattle.ghc_fire.specs.declared.act.Act.{Act}
 pub use Rattle.ghc_fire.specs.declared.act.Act.TheVariants.{Assigned, ByClause, Closed, Given, Unified}
 pub use Rattle.ghc_fire.specs.declared.instances.terms.Front.{Front}
@@ -34,9 +34,9 @@ pub use Rattle.ghc_match.proofs.SetsOf.{either_set, listed_set, own_set}
 pub use Rattle.ghc_match.proofs.Values.{ends_once, leaf_reaches, number_once, number_there, number_waits_not, passes_reaches, value_looks}
 pub use Rattle.ghc_match.specs.Looked.{ExpressionReaches, GoalLooksAt}
 pub use Rattle.ghc_match.specs.Match.{Accepts, AreAlike, HasOutcome, HeadFits, LooksAt, Outcome, Refuses, StandsFor, WaitsFor, accepts, refuses}
-pub use Rattle.ghc_match.specs.Meeting.{Gains}
+pub use Rattle.ghc_match.specs.inner.Meeting.{Gains}
 pub use Rattle.ghc_match.specs.Position.{At, EndsIn, down, unbound}
-pub use Rattle.ghc_match.specs.Told.{outcome_laid, value_of}
+pub use Rattle.ghc_match.specs.inner.Told.{outcome_laid, value_of}
 pub use Rattle.ghc_match.specs.Value.{HasValue, Number, Value, bad, computed, number, of_integer, of_variable, waits}
 pub use Rattle.ghc_reader.specs.WrittenAsk.{IsWellPut, WrittenAsk}
 pub use Rattle.ghc_term.proofs.Bind.{binding_acyclic}
@@ -53,15 +53,15 @@ pub use Rattle.ghc_term.proofs.Trees.{height_front, height_item, height_last}
 pub use Rattle.ghc_term.proofs.Walks.{at_value}
 pub use Rattle.ghc_term.specs.Bindings.{Comes, IsAcyclic, Leads, Reaches, along, at_free, at_integer, at_node, here, name_cmp, now, on, through, with_binding}
 pub use Rattle.ghc_term.specs.Expression.{Expression, leaf, operation}
-pub use Rattle.ghc_term.specs.ExpressionView.{depth_of}
+pub use Rattle.ghc_term.specs.inner.ExpressionView.{depth_of}
 pub use Rattle.ghc_term.specs.Goal.{Goal, assign, call, stream, unify}
-pub use Rattle.ghc_term.specs.GoalShape.{IsCall, call_of}
+pub use Rattle.ghc_term.specs.inner.GoalShape.{IsCall, call_of}
 pub use Rattle.ghc_term.specs.Lists.{In}
 pub use Rattle.ghc_term.specs.Sets.{Variables}
 pub use Rattle.ghc_term.specs.Store.{StoreValue, value_at}
 pub use Rattle.ghc_term.specs.Tree.{AreClosed, IsClosed, IsValue, Occurs, OccursIn, Tree, Trees, cons, integer, list_of, more, nil, node, none, trees, variable}
 pub use Rattle.ghc_term.specs.Variables.{firsts, variables, variables_of_all, variables_of_expression, variables_of_goal, variables_of_goals}
-pub use Rattle.ghc_term.specs.View.{height, height_of_all}
+pub use Rattle.ghc_term.specs.inner.View.{height, height_of_all}
 pub use Rattle.ghc_term.specs.declared.fault.Fault.{Fault}
 pub use Rattle.ghc_term.specs.declared.fault.Fault.TheVariants.{Arithmetic, Clash, Cycle, Memory, NoClause, NoGoal, NoMatch, Waits}
 pub use Rattle.ghc_term.specs.declared.goal_name.GoalName.{GoalName}

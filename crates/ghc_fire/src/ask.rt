@@ -36,7 +36,7 @@ impl Model for Ask {
     ghost use Rattle.ghc_term.specs.Goal.{Goal};
     ghost use Rattle.ghc_fire.specs.Effect.{no_step};
     ghost use Rattle.ghc_fire.specs.Asked.{AreAskable, own_variables, made_from};
-    ghost use Rattle.ghc_fire.specs.AskedCode.{asked_code};
+    ghost use Rattle.ghc_fire.specs.inner.AskedCode.{asked_code};
 
     ghost Value = { List Goal };
 

@@ -34,7 +34,7 @@ impl Model for Asked {
     ghost use Rattle.ghc_term.specs.Goal.{Goal};
     ghost use Rattle.ghc_term.specs.Variables.{variables_of_goals, firsts};
     ghost use Rattle.ghc_flat.specs.Flat.{most_goals};
-    ghost use Rattle.ghc_fire.specs.AskedCode.{asked_code};
+    ghost use Rattle.ghc_fire.specs.inner.AskedCode.{asked_code};
 
     ghost Value = { List Goal };
 

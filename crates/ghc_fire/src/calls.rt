@@ -3,7 +3,7 @@ ghost use Rattle.std.specs.Prelude.{◌≡◌, ◌⊎◌, length, Err, IfOk, IfE
 ghost use Rattle.ghc_term.specs.Store.{value_at};
 ghost use Rattle.ghc_fire.specs.Attempt.{proposes, refused, CallAnswers, ChoiceAnswers};
 ghost use Rattle.ghc_fire.specs.Effect.{no_step};
-ghost use Rattle.ghc_fire.specs.Calls.{HasVerdict};
+ghost use Rattle.ghc_fire.specs.inner.Calls.{HasVerdict};
 
 use crate::act::Act;
 use crate::effect::Effect;

@@ -32,7 +32,7 @@ impl Drop for Effect {
 
 impl Model for Effect {
     ghost use Rattle.ghc_fire.specs.Effect.{Effect};
-    ghost use Rattle.ghc_fire.specs.EffectCode.{effect_code};
+    ghost use Rattle.ghc_fire.specs.inner.EffectCode.{effect_code};
 
     ghost Value = { Effect };
 

@@ -3,7 +3,7 @@ ghost use Rattle.std.specs.Prelude.{OnOk};
 ghost use Rattle.ghc_term.specs.Lists.{In};
 ghost use Rattle.ghc_term.specs.Expression.{leaf};
 ghost use Rattle.ghc_term.specs.Store.{value_at};
-ghost use Rattle.ghc_match.specs.Meeting.{Gains};
+ghost use Rattle.ghc_match.specs.inner.Meeting.{Gains};
 ghost use Rattle.ghc_fire.specs.Effect.{IsOnChainsOf};
 
 use ghc_term::{Expr, ExprView, Store, Term, VarName, Variables};

@@ -21,7 +21,7 @@ impl Drop for Goals {
 impl Model for Goals {
     ghost use Rattle.ghc_term.specs.Table.{Table, table_code};
     ghost use Rattle.ghc_fire.specs.Goals.{Goals};
-    ghost use Rattle.ghc_fire.specs.GoalsCode.{goals_code};
+    ghost use Rattle.ghc_fire.specs.inner.GoalsCode.{goals_code};
 
     ghost Value = { Table Goals };
 

@@ -5,7 +5,7 @@ ghost use Rattle.ghc_term.specs.Tree.{Tree};
 ghost use Rattle.ghc_fire.specs.Instance.{replace_in_goal, body_made};
 ghost use Rattle.ghc_fire.specs.Proposal.{numbered};
 ghost use Rattle.ghc_fire.specs.Asked.{called_by};
-ghost use Rattle.ghc_fire.specs.Renaming.{AreBehindHead, replacement};
+ghost use Rattle.ghc_fire.specs.inner.Renaming.{AreBehindHead, replacement};
 
 mod expressions;
 mod leaves;

@@ -1,6 +1,6 @@
 // Goals that a step makes, in one shared piece, and handles of single ones.
 ghost use Rattle.std.specs.Prelude.{◌≡◌, ◌<◌, [], ◌∷◌, length, IfOk};
-ghost use Rattle.ghc_fire.specs.Made.{goal_at};
+ghost use Rattle.ghc_fire.specs.inner.Made.{goal_at};
 
 use ghc_term::Goal;
 use std::alloc::{AllocError, Global};
@@ -26,8 +26,8 @@ enum Piece {
 impl Model for Made {
     ghost use Rattle.std.specs.Prelude.{List};
     ghost use Rattle.ghc_term.specs.Goal.{Goal};
-    ghost use Rattle.ghc_fire.specs.Made.{goals_in};
-    ghost use Rattle.ghc_fire.specs.AskedCode.{asked_code};
+    ghost use Rattle.ghc_fire.specs.inner.Made.{goals_in};
+    ghost use Rattle.ghc_fire.specs.inner.AskedCode.{asked_code};
 
     ghost Value = { List Goal };
 
@@ -46,8 +46,8 @@ pub struct MadeGoal {
 impl Model for MadeGoal {
     ghost use Rattle.std.specs.Prelude.{◌<◌, length};
     ghost use Rattle.ghc_term.specs.Goal.{Goal};
-    ghost use Rattle.ghc_term.specs.GoalCode.{goal_code};
-    ghost use Rattle.ghc_fire.specs.Made.{goal_at};
+    ghost use Rattle.ghc_term.specs.inner.GoalCode.{goal_code};
+    ghost use Rattle.ghc_fire.specs.inner.Made.{goal_at};
 
     ghost Value = { Goal };
 

@@ -29,7 +29,7 @@ impl Drop for Proposal {
 
 impl Model for Proposal {
     ghost use Rattle.ghc_fire.specs.Proposal.{Proposal};
-    ghost use Rattle.ghc_fire.specs.ActCode.{proposal_code};
+    ghost use Rattle.ghc_fire.specs.inner.ActCode.{proposal_code};
 
     ghost Value = { Proposal };
 

@@ -2,7 +2,7 @@
 ghost use Rattle.std.specs.Prelude.{◌≡◌, IfOk, IfSome, IfNone};
 ghost use Rattle.ghc_term.specs.Store.{value_at};
 ghost use Rattle.ghc_fire.specs.Effect.{Feeds, Closes};
-ghost use Rattle.ghc_fire.specs.Tail.{IsOpenAt, IsTailBound};
+ghost use Rattle.ghc_fire.specs.inner.Tail.{IsOpenAt, IsTailBound};
 
 use crate::effect::Effect;
 use crate::made::Made;

@@ -1,11 +1,11 @@
 -- The words of other crates and of the definitions that the proofs cite, from one place.
 pub use Rattle.ghc_flat.specs.Checked.{AllCalls, AreFaultless, AreMadeOf, CheckIsExact, HasClause, IsAcceptedAs, IsClauseFault, IsFault, IsFaultless, IsFirstCallWithout, IsFirstFault, IsFirstTwice, IsFlatGuard, IsFlatWritten, IsLinearWritten, IsMadeOf, IsNamed, IsNotFlat, IsRepeated, MakeTests, QueryFaultsAreTold}
 pub use Rattle.ghc_flat.specs.Clause.{Clause, Program, Query}
-pub use Rattle.ghc_flat.specs.Counting.{AreAmong, CountsTo, IsAmong, MakesAmong, Rises}
+pub use Rattle.ghc_flat.specs.inner.Counting.{AreAmong, CountsTo, IsAmong, MakesAmong, Rises}
 pub use Rattle.ghc_flat.specs.Flat.{AreDefined, AreDistinct, IsFlat, IsLinear, IsPredefined, IsProgram, IsQuery, IsWellMade, MakesTests}
-pub use Rattle.ghc_flat.specs.Index.{AreSound, IsIndexOf, Knows, numbers_at}
+pub use Rattle.ghc_flat.specs.inner.Index.{AreSound, IsIndexOf, Knows, numbers_at}
 pub use Rattle.ghc_flat.specs.Numbers.{AreNumbersFor, is_same_key, keys_of_program, keys_of_written, numbers_from}
-pub use Rattle.ghc_flat.specs.Refused.{IsRefusedAs, refused_of_query}
+pub use Rattle.ghc_flat.specs.inner.Refused.{IsRefusedAs, refused_of_query}
 pub use Rattle.ghc_flat.specs.Samples.{asked}
 pub use Rattle.ghc_flat.specs.Variables.{firsts, fresh_variables, leaf_variables, variables, variables_of_all, variables_of_clause, variables_of_goals, variables_of_list, variables_of_test, variables_of_tests}
 pub use Rattle.ghc_flat.specs.declared.index.Index.{Index}
@@ -20,14 +20,14 @@ pub use Rattle.ghc_term.proofs.ListsLemmas.{at_of_in, compare_splits, in_at, in_
 pub use Rattle.ghc_term.proofs.SetsLemmas.{any_in, in_any}
 pub use Rattle.ghc_term.proofs.Trees.{height_front, height_item, height_last}
 pub use Rattle.ghc_term.specs.Bindings.{name_cmp}
-pub use Rattle.ghc_term.specs.Code.{var_inj}
+pub use Rattle.ghc_term.specs.inner.Code.{var_inj}
 pub use Rattle.ghc_term.specs.Expression.{Expression, leaf}
-pub use Rattle.ghc_term.specs.ExpressionView.{depth_of}
+pub use Rattle.ghc_term.specs.inner.ExpressionView.{depth_of}
 pub use Rattle.ghc_term.specs.Goal.{Goal, assign, call, stream, unify}
-pub use Rattle.ghc_term.specs.GoalShown.{shown}
+pub use Rattle.ghc_term.specs.inner.GoalShown.{shown}
 pub use Rattle.ghc_term.specs.Lists.{In}
 pub use Rattle.ghc_term.specs.Tree.{Tree, integer, node, trees, variable}
-pub use Rattle.ghc_term.specs.View.{height, height_of_all}
+pub use Rattle.ghc_term.specs.inner.View.{height, height_of_all}
 pub use Rattle.ghc_term.specs.declared.comparison.Comparison.{Comparison}
 pub use Rattle.ghc_term.specs.declared.fault.Fault.{Fault}
 pub use Rattle.ghc_term.specs.declared.fault.Fault.TheVariants.{Memory, Repeated, Undefined}

@@ -1,10 +1,7 @@
 pub mod Clause
-pub mod ClauseCode
 pub mod Variables
 pub mod Flat
 pub mod Checked
-pub mod Counting
 pub mod Numbers
-pub mod Index
 pub mod Samples
-pub mod Refused
+pub mod inner

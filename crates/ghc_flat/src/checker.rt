@@ -7,9 +7,9 @@ ghost use Rattle.ghc_reader.specs.Written.{AreWellWritten, IsWellWritten, AreNar
 ghost use Rattle.ghc_flat.specs.Flat.{IsWellMade};
 ghost use Rattle.ghc_flat.specs.Variables.{variables_of_list};
 ghost use Rattle.ghc_flat.specs.Checked.{IsMadeOf, AreMadeOf, IsAcceptedAs, IsRepeated, AllCalls, IsFirstCallWithout, IsClauseFault, IsFirstFault, IsFault};
-ghost use Rattle.ghc_flat.specs.Refused.{IsRefusedAs};
-ghost use Rattle.ghc_flat.specs.Counting.{Rises};
-ghost use Rattle.ghc_flat.specs.Index.{Knows, AreSound};
+ghost use Rattle.ghc_flat.specs.inner.Refused.{IsRefusedAs};
+ghost use Rattle.ghc_flat.specs.inner.Counting.{Rises};
+ghost use Rattle.ghc_flat.specs.inner.Index.{Knows, AreSound};
 
 use crate::clause::Clause;
 use crate::counting::count_terms;

@@ -36,14 +36,14 @@ impl Drop for Clause {
 impl Model for Clause {
     ghost use Rattle.std.specs.Prelude.{◌≡◌, length};
     ghost use Rattle.ghc_flat.specs.Clause.{Clause};
-    ghost use Rattle.ghc_flat.specs.ClauseCode.{clause_code};
+    ghost use Rattle.ghc_flat.specs.inner.ClauseCode.{clause_code};
 
     ghost Value = { Clause };
 
     ghost coded = { clause_code };
 
     ghost use Rattle.ghc_flat.specs.Flat.{IsWellMade};
-    ghost use Rattle.ghc_flat.specs.Counting.{Rises};
+    ghost use Rattle.ghc_flat.specs.inner.Counting.{Rises};
     ghost use Rattle.ghc_flat.specs.Variables.{variables_of_list, fresh_variables};
 
     ghost view = { λ c. record { name = c.name; head = c.head.items; tests = c.tests.items; body = c.body.items } };

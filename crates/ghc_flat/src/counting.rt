@@ -1,6 +1,6 @@
 // Counting the variables of a head, which are numbered in the order in which they stand there until one comes again.
 ghost use Rattle.std.specs.Prelude.{◌≡◌, ◌≢◌, ◌↔◌, [], ◌∷◌, IsTrue};
-ghost use Rattle.ghc_flat.specs.Counting.{CountsTo, IsAmong, AreAmong};
+ghost use Rattle.ghc_flat.specs.inner.Counting.{CountsTo, IsAmong, AreAmong};
 ghost use Rattle.ghc_flat.specs.Variables.{variables, variables_of_list, leaf_variables};
 ghost use Rattle.ghc_term.specs.Expression.{leaf};
 

@@ -7,7 +7,7 @@ ghost use Rattle.ghc_term.specs.Lists.{In};
 ghost use Rattle.ghc_reader.specs.declared.written.Guard.{Guard as WrittenGuard};
 ghost use Rattle.ghc_reader.specs.declared.written.Guard.TheVariants.{Item as item};
 ghost use Rattle.ghc_flat.specs.declared.test.Test.{Test as GuardTest};
-ghost use Rattle.ghc_flat.specs.Counting.{MakesAmong, AreAmong};
+ghost use Rattle.ghc_flat.specs.inner.Counting.{MakesAmong, AreAmong};
 ghost use Rattle.ghc_flat.specs.Checked.{MakeTests};
 ghost use Rattle.ghc_flat.specs.Variables.{variables_of_test};
 

@@ -23,7 +23,7 @@ impl Drop for Arities {
 }
 
 impl Arities {
-    ghost use Rattle.ghc_flat.specs.Index.{numbers_of_arity};
+    ghost use Rattle.ghc_flat.specs.inner.Index.{numbers_of_arity};
     ghost use Rattle.std.specs.Prelude.{nat_eq};
 
     fn new(alloc: Global) -> Arities
@@ -95,7 +95,7 @@ fn found<'a>(names: &'a IndexMap<Name, Arities>, name: &Name) -> Option<&'a Arit
 }
 
 impl Index {
-    ghost use Rattle.ghc_flat.specs.Index.{numbers_at, IsIndexOf};
+    ghost use Rattle.ghc_flat.specs.inner.Index.{numbers_at, IsIndexOf};
     ghost use Rattle.ghc_flat.specs.Numbers.{is_same_key, keys_of_written};
 
     // The index of the clauses, which are numbered from 1: a look-up for each of them.

@@ -23,14 +23,14 @@ impl Drop for Program {
 
 impl Model for Program {
     ghost use Rattle.ghc_flat.specs.Clause.{Program as program};
-    ghost use Rattle.ghc_flat.specs.ClauseCode.{program_code};
+    ghost use Rattle.ghc_flat.specs.inner.ClauseCode.{program_code};
 
     ghost Value = { program };
 
     ghost coded = { program_code };
 
     ghost use Rattle.ghc_flat.specs.Flat.{IsProgram};
-    ghost use Rattle.ghc_flat.specs.Index.{IsIndexOf};
+    ghost use Rattle.ghc_flat.specs.inner.Index.{IsIndexOf};
     ghost use Rattle.ghc_flat.specs.Numbers.{keys_of_program};
 
     ghost view = { λ p. p.clauses.items };

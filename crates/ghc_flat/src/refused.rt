@@ -1,6 +1,6 @@
 // Which of the two texts a refusal of the checker is of.
 ghost use Rattle.std.specs.Prelude.{◌≡◌};
-ghost use Rattle.ghc_flat.specs.Refused.{fault_of, refused_of_query};
+ghost use Rattle.ghc_flat.specs.inner.Refused.{fault_of, refused_of_query};
 
 use ghc_term::Fault;
 

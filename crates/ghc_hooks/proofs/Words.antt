@@ -17,15 +17,15 @@ pub use Rattle.ghc_flat.specs.Flat.{IsProgram, is_stream}
 pub use Rattle.ghc_flat.specs.Numbers.{AreNumbersFor}
 pub use Rattle.ghc_flat.specs.Variables.{leaf_variables}
 pub use Rattle.ghc_hooks.specs.Face.{ClauseSays, Face, GoalNames, IsFace, IsHookedOn, StandsAs, pair_cmp}
-pub use Rattle.ghc_hooks.specs.FaceCode.{HookPairs, OutcomesByClause, StatusesByGoal}
-pub use Rattle.ghc_hooks.specs.FewGoals.{goals_held}
-pub use Rattle.ghc_hooks.specs.Found.{outcomes_found}
-pub use Rattle.ghc_hooks.specs.Kinds.{kind_of}
+pub use Rattle.ghc_hooks.specs.inner.FaceCode.{HookPairs, OutcomesByClause, StatusesByGoal}
+pub use Rattle.ghc_hooks.specs.inner.FewGoals.{goals_held}
+pub use Rattle.ghc_hooks.specs.inner.Found.{outcomes_found}
+pub use Rattle.ghc_hooks.specs.inner.Kinds.{kind_of}
 pub use Rattle.ghc_hooks.specs.Laws.{EachGoalHasAStatus, ExactNotesAwaitWhatIsLookedAt, ExactNotesStayExact, FaceIsOne, GoalsWaitForWhatTheyLookAt, LookedIsOfWhatIsLookedAt, SettledNotesShowTheFace, StatusIsOfWhatIsLookedAt, StatusIsOne}
-pub use Rattle.ghc_hooks.specs.Looks.{AreUnblocked, FitEachOther, GoalsByVariable, HasOneLess, HasOneMore, TakesIn, goals_in, goals_under, looks}
+pub use Rattle.ghc_hooks.specs.inner.Looks.{AreUnblocked, FitEachOther, GoalsByVariable, HasOneLess, HasOneMore, TakesIn, goals_in, goals_under, looks}
 pub use Rattle.ghc_hooks.specs.NotedFace.{IsNotedAs, IsNotedFace, IsStreamGoal}
 pub use Rattle.ghc_hooks.specs.Notes.{AgreeOnLooked, AreExact, IsExact, IsNotedOn, Note, NotesByGoal}
-pub use Rattle.ghc_hooks.specs.Parts.{HaveBesides, HaveOnly, HooksBesides, IsOfKind, SaysToCall, TellsHooks, TellsOutcomes, TellsPool, TellsStatuses, WaitsBy}
+pub use Rattle.ghc_hooks.specs.inner.Parts.{HaveBesides, HaveOnly, HooksBesides, IsOfKind, SaysToCall, TellsHooks, TellsOutcomes, TellsPool, TellsStatuses, WaitsBy}
 pub use Rattle.ghc_hooks.specs.Reached.{OneReaches, TakesUp, leaves}
 pub use Rattle.ghc_hooks.specs.Status.{Awaits, HasStatus, IsNoWait, Status, failed, is_failed, is_ready, is_stream_goal, is_waiting, ready, streaming, waiting}
 pub use Rattle.ghc_hooks.specs.Tries.{AreSpared, AreWoken, HasLookedAt, IsUnblocked, Tries}
@@ -44,9 +44,9 @@ pub use Rattle.ghc_match.proofs.SetsOf.{SetOf, below_set, no_set, restated_set}
 pub use Rattle.ghc_match.proofs.Values.{ends_once, leaf_reaches, number_waits_not, passes_reaches}
 pub use Rattle.ghc_match.specs.Looked.{ExpressionReaches, GoalLooksAt}
 pub use Rattle.ghc_match.specs.Match.{Accepts, HasOutcome, LooksAt, Outcome, Refuses, WaitsFor, accepts, refuses}
-pub use Rattle.ghc_match.specs.Meeting.{Gains}
+pub use Rattle.ghc_match.specs.inner.Meeting.{Gains}
 pub use Rattle.ghc_match.specs.Position.{EndsIn}
-pub use Rattle.ghc_match.specs.Told.{outcome_of, told, value_of}
+pub use Rattle.ghc_match.specs.inner.Told.{outcome_of, told, value_of}
 pub use Rattle.ghc_match.specs.Value.{HasValue, Value, Wants, bad, number, waits}
 pub use Rattle.ghc_match.specs.declared.trying.Tried.{Tried}
 pub use Rattle.ghc_term.proofs.Decided.{some_decided, true_decided}
@@ -65,7 +65,7 @@ pub use Rattle.ghc_term.specs.Expression.{Expression, leaf, operation}
 pub use Rattle.ghc_term.specs.Goal.{Goal, assign, call, stream, unify}
 pub use Rattle.ghc_term.specs.GoalMap.{names_of}
 pub use Rattle.ghc_term.specs.Lists.{In}
-pub use Rattle.ghc_term.specs.Seen.{value_list}
+pub use Rattle.ghc_term.specs.inner.Seen.{value_list}
 pub use Rattle.ghc_term.specs.Sets.{IsSetOf, Variables}
 pub use Rattle.ghc_term.specs.Store.{StoreValue, value_at}
 pub use Rattle.ghc_term.specs.Table.{Table}

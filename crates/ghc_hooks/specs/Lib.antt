@@ -2,15 +2,8 @@ pub mod Status
 pub mod Face
 pub mod Notes
 pub mod NotedFace
-pub mod Found
-pub mod Kinds
-pub mod FaceCode
-pub mod Parts
 pub mod Laws
 pub mod Tries
 pub mod Verdict
-pub mod Looks
-pub mod FewGoals
-pub mod FaultCode
-pub mod TriesCode
 pub mod Reached
+pub mod inner

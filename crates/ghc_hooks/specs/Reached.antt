@@ -6,7 +6,7 @@ use Rattle.ghc_term.specs.Tree.{Tree}
 use Rattle.ghc_term.specs.Expression.{Expression, leaf, operation}
 use Rattle.ghc_term.specs.Lists.{In}
 use Rattle.ghc_term.specs.Bindings.{Reaches}
-use Rattle.ghc_term.specs.Seen.{value_list}
+use Rattle.ghc_term.specs.inner.Seen.{value_list}
 use Rattle.ghc_term.specs.Sets.{Variables}
 
 -- the leaves of an expression, from left to right

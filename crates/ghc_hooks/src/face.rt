@@ -47,7 +47,7 @@ impl<'a> Drop for Face<'a> {
 
 impl<'a> Model for Face<'a> {
     ghost use Rattle.ghc_hooks.specs.Face.{Face};
-    ghost use Rattle.ghc_hooks.specs.FaceCode.{face_code};
+    ghost use Rattle.ghc_hooks.specs.inner.FaceCode.{face_code};
 
     ghost Value = { Face };
 
@@ -58,7 +58,7 @@ impl<'a> Model for Face<'a> {
 
 impl<'a> Face<'a> {
     ghost use Rattle.std.specs.Prelude.{option_copied};
-    ghost use Rattle.ghc_match.specs.Told.{outcome_of};
+    ghost use Rattle.ghc_match.specs.inner.Told.{outcome_of};
     ghost use Rattle.ghc_hooks.specs.Face.{IsFace};
 
     /// The face of the state, found from scratch: each goal is tried, and each clause for a call once more, and what that

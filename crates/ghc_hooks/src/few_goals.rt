@@ -23,13 +23,13 @@ enum Few {
 
 impl Model for FewGoals {
     ghost use Rattle.ghc_hooks.specs.Face.{GoalNames};
-    ghost use Rattle.ghc_hooks.specs.TriesCode.{goal_names_code};
+    ghost use Rattle.ghc_hooks.specs.inner.TriesCode.{goal_names_code};
 
     ghost Value = { GoalNames };
 
     ghost coded = { goal_names_code };
 
-    ghost use Rattle.ghc_hooks.specs.FewGoals.{goals_held};
+    ghost use Rattle.ghc_hooks.specs.inner.FewGoals.{goals_held};
 
     ghost view = { λ f. goals_held f.held };
 }

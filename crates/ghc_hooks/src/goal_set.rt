@@ -16,7 +16,7 @@ impl Model for GoalSet {
     ghost use Rattle.ghc_term.specs.GoalMap.{names_of};
     ghost use Rattle.ghc_term.specs.Table.{Table, table_code};
     ghost use Rattle.ghc_hooks.specs.Face.{GoalNames};
-    ghost use Rattle.ghc_hooks.specs.TriesCode.{goal_names_code};
+    ghost use Rattle.ghc_hooks.specs.inner.TriesCode.{goal_names_code};
 
     ghost Value = { Table GoalNames };
 

@@ -6,7 +6,7 @@ ghost use Rattle.ghc_term.specs.Store.{value_at};
 ghost use Rattle.ghc_term.specs.declared.var_name.VarName.{VarName};
 ghost use Rattle.ghc_flat.specs.Flat.{IsLinear};
 ghost use Rattle.ghc_match.specs.Match.{Accepts, WaitsFor, LooksAt};
-ghost use Rattle.ghc_match.specs.Meeting.{Gains};
+ghost use Rattle.ghc_match.specs.inner.Meeting.{Gains};
 ghost use Rattle.ghc_hooks.specs.Status.{ready, waiting, failed};
 
 use crate::note::Note;

@@ -21,8 +21,8 @@ pub struct Looks {
 
 impl Model for Looks {
     ghost use Rattle.std.specs.FinMap as finite;
-    ghost use Rattle.ghc_hooks.specs.Looks.{GoalsByVariable};
-    ghost use Rattle.ghc_hooks.specs.TriesCode.{goals_by_variable_code};
+    ghost use Rattle.ghc_hooks.specs.inner.Looks.{GoalsByVariable};
+    ghost use Rattle.ghc_hooks.specs.inner.TriesCode.{goals_by_variable_code};
 
     ghost Value = { GoalsByVariable };
 
@@ -37,7 +37,7 @@ impl Looks {
     ghost use Rattle.ghc_term.specs.Lists.{In};
     ghost use Rattle.ghc_term.specs.declared.goal_name.GoalName.{GoalName};
     ghost use Rattle.ghc_term.specs.declared.var_name.VarName.{VarName};
-    ghost use Rattle.ghc_hooks.specs.Looks.{goals_under, looks, HasOneMore, HasOneLess};
+    ghost use Rattle.ghc_hooks.specs.inner.Looks.{goals_under, looks, HasOneMore, HasOneLess};
 
     // No goals, which take no memory.
     pub fn new(alloc: Global) -> Looks

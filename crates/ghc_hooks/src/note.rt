@@ -26,7 +26,7 @@ pub struct Note {
 
 impl Model for Note {
     ghost use Rattle.ghc_hooks.specs.Notes.{Note};
-    ghost use Rattle.ghc_hooks.specs.TriesCode.{note_code};
+    ghost use Rattle.ghc_hooks.specs.inner.TriesCode.{note_code};
 
     ghost Value = { Note };
 

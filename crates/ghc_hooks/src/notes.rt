@@ -15,7 +15,7 @@ pub struct Notes {
 impl Model for Notes {
     ghost use Rattle.ghc_term.specs.Table.{Table, table_code};
     ghost use Rattle.ghc_hooks.specs.Notes.{NotesByGoal};
-    ghost use Rattle.ghc_hooks.specs.TriesCode.{notes_code};
+    ghost use Rattle.ghc_hooks.specs.inner.TriesCode.{notes_code};
 
     ghost Value = { Table NotesByGoal };
 

@@ -5,7 +5,7 @@ ghost use Rattle.ghc_term.specs.Store.{value_at};
 ghost use Rattle.ghc_term.specs.Sets.{IsSetOf};
 ghost use Rattle.ghc_hooks.specs.Reached.{leaves, OneReaches, TakesUp};
 ghost use Rattle.ghc_match.specs.Looked.{ExpressionReaches};
-ghost use Rattle.ghc_match.specs.Meeting.{Gains};
+ghost use Rattle.ghc_match.specs.inner.Meeting.{Gains};
 
 use ghc_term::{Expr, ExprView, Store, Term, TermView, VarName, Variables};
 use std::alloc::{AllocError, Global};

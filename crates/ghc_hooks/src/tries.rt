@@ -4,7 +4,7 @@ ghost use Rattle.std.specs.FinMap as finite;
 ghost use Rattle.std.specs.FinSet as set;
 ghost use Rattle.ghc_hooks.specs.Status.{IsNoWait};
 ghost use Rattle.ghc_hooks.specs.Verdict.{status_of};
-ghost use Rattle.ghc_hooks.specs.Looks.{TakesIn};
+ghost use Rattle.ghc_hooks.specs.inner.Looks.{TakesIn};
 
 use crate::goal_set::GoalSet;
 use crate::looks::Looks;
@@ -28,8 +28,8 @@ impl Model for Tries {
     ghost use Rattle.std.specs.Prelude.{◌-◌};
     ghost use Rattle.std.specs.FinMap as finite;
     ghost use Rattle.ghc_hooks.specs.Tries.{Tries};
-    ghost use Rattle.ghc_hooks.specs.TriesCode.{tries_code};
-    ghost use Rattle.ghc_hooks.specs.Looks.{FitEachOther, AreUnblocked};
+    ghost use Rattle.ghc_hooks.specs.inner.TriesCode.{tries_code};
+    ghost use Rattle.ghc_hooks.specs.inner.Looks.{FitEachOther, AreUnblocked};
 
     ghost Value = { Tries };
 

@@ -7,19 +7,19 @@ pub use Rattle.ghc_flat.specs.Samples.{asked, both_atoms, store, v}
 pub use Rattle.ghc_flat.specs.Variables.{leaf_variables, variables, variables_of_all, variables_of_list, variables_of_test}
 pub use Rattle.ghc_flat.specs.declared.test.Test.{Test}
 pub use Rattle.ghc_flat.specs.declared.test.Test.TheVariants.{Compare, IsInteger, Wait}
-pub use Rattle.ghc_match.specs.Ends.{ChainEnds, EndsAt, StandsAndEnds, TellsEnd}
+pub use Rattle.ghc_match.specs.inner.Ends.{ChainEnds, EndsAt, StandsAndEnds, TellsEnd}
 pub use Rattle.ghc_match.specs.Facts.{StructureIsNoNumber, WaitsOnTwo}
-pub use Rattle.ghc_match.specs.First.{FirstEnds}
-pub use Rattle.ghc_match.specs.Guarding.{GuardLooksAt, IsSaid, OneSaysNo, OneWants, PassedFrom, StandsAndPasses}
+pub use Rattle.ghc_match.specs.inner.First.{FirstEnds}
+pub use Rattle.ghc_match.specs.inner.Guarding.{GuardLooksAt, IsSaid, OneSaysNo, OneWants, PassedFrom, StandsAndPasses}
 pub use Rattle.ghc_match.specs.Laws.{EachClauseHasAnOutcome, EachExpressionHasAValue, OutcomeIsOfWhatIsLookedAt, OutcomesExclude, ValueLooksAtItsTerms, ValuesExclude}
 pub use Rattle.ghc_match.specs.Looked.{ExpressionReaches}
 pub use Rattle.ghc_match.specs.Match.{Accepts, AreAlike, Compares, GuardSaysNo, GuardWants, HasOutcome, HeadFits, HeadHas, HeadWants, Holds, HoldsBy, IsAtom, IsList, LooksAt, Mismatch, Outcome, Refuses, SaysNo, StandsAt, StandsFor, TestWants, WaitsFor, accepts, refuses, waits}
-pub use Rattle.ghc_match.specs.Meeting.{Asks, Clashes, Gains, HeadLooksAt, Opens, Passed, arguments, standing}
-pub use Rattle.ghc_match.specs.Places.{ahead_in, ahead_of, all_ahead}
+pub use Rattle.ghc_match.specs.inner.Meeting.{Asks, Clashes, Gains, HeadLooksAt, Opens, Passed, arguments, standing}
+pub use Rattle.ghc_match.specs.inner.Places.{ahead_in, ahead_of, all_ahead}
 pub use Rattle.ghc_match.specs.Position.{At, EndsIn, down, here, unbound}
-pub use Rattle.ghc_match.specs.Small.{ComparesOf, ComputesOf, IsAsked, spelled}
-pub use Rattle.ghc_match.specs.Stands.{HasNoneBefore, laid_over, with_one}
-pub use Rattle.ghc_match.specs.Tasks.{IsWorth, Makes, steps, steps_of}
+pub use Rattle.ghc_match.specs.inner.Small.{ComparesOf, ComputesOf, IsAsked, spelled}
+pub use Rattle.ghc_match.specs.inner.Stands.{HasNoneBefore, laid_over, with_one}
+pub use Rattle.ghc_match.specs.inner.Tasks.{IsWorth, Makes, steps, steps_of}
 pub use Rattle.ghc_match.specs.Value.{Computes, HasValue, Number, Wants, bad, computed, number, of_integer, of_variable}
 pub use Rattle.ghc_match.specs.declared.guard.Says.{Says}
 pub use Rattle.ghc_match.specs.declared.guard.Says.TheVariants.{No, Waits, Yes}
@@ -41,11 +41,11 @@ pub use Rattle.ghc_term.proofs.SetsLemmas.{holds_nothing, member, no_member, one
 pub use Rattle.ghc_term.proofs.Total.{chain, walk, walk_step}
 pub use Rattle.ghc_term.proofs.Walks.{at_value}
 pub use Rattle.ghc_term.specs.Bindings.{Comes, IsAcyclic, Leads, Passes, Reaches, along, at_free, at_integer, at_node, name_cmp, now, on, through}
-pub use Rattle.ghc_term.specs.Code.{var_inj}
+pub use Rattle.ghc_term.specs.inner.Code.{var_inj}
 pub use Rattle.ghc_term.specs.Expression.{Expression, leaf, operation}
 pub use Rattle.ghc_term.specs.Lists.{In}
 pub use Rattle.ghc_term.specs.Sets.{IsSetOf, Variables}
-pub use Rattle.ghc_term.specs.Shown.{HasArgument, shown}
+pub use Rattle.ghc_term.specs.inner.Shown.{HasArgument, shown}
 pub use Rattle.ghc_term.specs.Store.{StoreValue, value_at}
 pub use Rattle.ghc_term.specs.Tree.{IsValue, Tree, Trees, atom, integer, list_of, more, node, none, trees, variable}
 pub use Rattle.ghc_term.specs.declared.comparison.Comparison.{Comparison}

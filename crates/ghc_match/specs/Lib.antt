@@ -2,14 +2,6 @@ pub mod Position
 pub mod Value
 pub mod Match
 pub mod Looked
-pub mod Ends
-pub mod Tasks
-pub mod Meeting
-pub mod Guarding
-pub mod Small
-pub mod Told
 pub mod Laws
 pub mod Facts
-pub mod First
-pub mod Places
-pub mod Stands
+pub mod inner

@@ -2,7 +2,7 @@
 ghost use Rattle.std.specs.Prelude.{◌≡◌, ◌↔◌, IsTrue};
 ghost use Rattle.ghc_term.specs.Tree.{IsValue};
 ghost use Rattle.ghc_match.specs.Match.{AreAlike, IsInteger, IsAtom, IsList};
-ghost use Rattle.ghc_match.specs.Meeting.{arguments};
+ghost use Rattle.ghc_match.specs.inner.Meeting.{arguments};
 
 use ghc_term::{Term, TermView};
 

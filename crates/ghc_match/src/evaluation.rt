@@ -4,7 +4,7 @@ ghost use Rattle.ghc_term.specs.Store.{value_at};
 ghost use Rattle.ghc_term.specs.Sets.{IsSetOf};
 ghost use Rattle.ghc_match.specs.Position.{EndsIn};
 ghost use Rattle.ghc_match.specs.Value.{Wants, HasValue};
-ghost use Rattle.ghc_match.specs.Told.{value_of};
+ghost use Rattle.ghc_match.specs.inner.Told.{value_of};
 
 use crate::leaves::push_leaves;
 use crate::number::integer_of;

@@ -3,7 +3,7 @@ ghost use Rattle.std.specs.Prelude.{IsTrue, List, Option, option_copied};
 ghost use Rattle.ghc_term.specs.declared.var_name.VarName.{VarName};
 ghost use Rattle.ghc_term.specs.Tree.{Tree};
 ghost use Rattle.ghc_term.specs.Store.{value_at};
-ghost use Rattle.ghc_match.specs.First.{FirstEnds};
+ghost use Rattle.ghc_match.specs.inner.First.{FirstEnds};
 ghost use Rattle.ghc_match.specs.Match.{Refuses};
 
 use crate::alike::{are_alike, is_value};

@@ -5,9 +5,9 @@ ghost use Rattle.ghc_term.specs.Tree.{variable};
 ghost use Rattle.ghc_term.specs.Store.{value_at};
 ghost use Rattle.ghc_flat.specs.Variables.{variables_of_test};
 ghost use Rattle.ghc_match.specs.Value.{Wants};
-ghost use Rattle.ghc_match.specs.Ends.{StandsAndEnds};
-ghost use Rattle.ghc_match.specs.Meeting.{Gains};
-ghost use Rattle.ghc_match.specs.Guarding.{StandsAndPasses, PassedFrom, IsSaid, OneSaysNo, OneWants, GuardLooksAt};
+ghost use Rattle.ghc_match.specs.inner.Ends.{StandsAndEnds};
+ghost use Rattle.ghc_match.specs.inner.Meeting.{Gains};
+ghost use Rattle.ghc_match.specs.inner.Guarding.{StandsAndPasses, PassedFrom, IsSaid, OneSaysNo, OneWants, GuardLooksAt};
 
 use crate::leaves::push_leaves;
 use crate::passing::follow_noting;

@@ -4,9 +4,9 @@ ghost use Rattle.ghc_term.specs.Store.{value_at};
 ghost use Rattle.ghc_term.specs.Sets.{IsSetOf};
 ghost use Rattle.ghc_flat.specs.Flat.{IsLinear};
 ghost use Rattle.ghc_match.specs.Match.{StandsFor, Mismatch, HeadWants};
-ghost use Rattle.ghc_match.specs.Meeting.{Gains, Clashes, Asks, Passed, standing, Opens, HeadLooksAt};
-ghost use Rattle.ghc_match.specs.Places.{ahead_in};
-ghost use Rattle.ghc_match.specs.Told.{HasShownNothing};
+ghost use Rattle.ghc_match.specs.inner.Meeting.{Gains, Clashes, Asks, Passed, standing, Opens, HeadLooksAt};
+ghost use Rattle.ghc_match.specs.inner.Places.{ahead_in};
+ghost use Rattle.ghc_match.specs.inner.Told.{HasShownNothing};
 ghost use Rattle.ghc_term.specs.declared.var_name.VarName.{VarName};
 ghost use Rattle.ghc_term.specs.Tree.{Tree, variable};
 

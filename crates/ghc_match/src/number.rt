@@ -1,8 +1,8 @@
 // The integer that an expression is worth.
 ghost use Rattle.std.specs.Prelude.{◌+◌, ◌<◌, ◌∷◌, IfOk, OnOk, reverse};
 ghost use Rattle.ghc_term.specs.Expression.{leaf, operation};
-ghost use Rattle.ghc_match.specs.Ends.{EndsAt};
-ghost use Rattle.ghc_match.specs.Tasks.{IsWorth, AppliesToLast, GoesOn, steps_of, steps};
+ghost use Rattle.ghc_match.specs.inner.Ends.{EndsAt};
+ghost use Rattle.ghc_match.specs.inner.Tasks.{IsWorth, AppliesToLast, GoesOn, steps_of, steps};
 
 use crate::arithmetic::apply;
 use crate::scope::{End, Scope, end_of};

@@ -2,8 +2,8 @@
 ghost use Rattle.std.specs.Prelude.{IfOk, OnOk};
 ghost use Rattle.ghc_term.specs.Store.{value_at};
 ghost use Rattle.ghc_term.specs.Bindings.{Passes};
-ghost use Rattle.ghc_match.specs.Ends.{ChainEnds};
-ghost use Rattle.ghc_match.specs.Meeting.{Gains};
+ghost use Rattle.ghc_match.specs.inner.Ends.{ChainEnds};
+ghost use Rattle.ghc_match.specs.inner.Meeting.{Gains};
 
 use ghc_term::{Store, Term, TermView, Variables};
 use std::alloc::AllocError;

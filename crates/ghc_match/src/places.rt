@@ -1,7 +1,7 @@
 // Places of a head beside the goal's, gone through from the last one to the first.
 ghost use Rattle.std.specs.Prelude.{◌≡◌, ◌++◌, [], OnOk};
 ghost use Rattle.std.specs.List.{zip};
-ghost use Rattle.ghc_match.specs.Places.{ahead_in, all_ahead, TakesLast};
+ghost use Rattle.ghc_match.specs.inner.Places.{ahead_in, all_ahead, TakesLast};
 
 use ghc_term::Term;
 use std::alloc::AllocError;

@@ -1,6 +1,6 @@
 // Where variables end: those of a goal, and those of a clause whose head meets one.
 ghost use Rattle.ghc_term.specs.Store.{value_at};
-ghost use Rattle.ghc_match.specs.Ends.{ChainEnds, EndsAt, TellsEnd};
+ghost use Rattle.ghc_match.specs.inner.Ends.{ChainEnds, EndsAt, TellsEnd};
 
 use crate::stands::Stands;
 use ghc_term::{Store, Term, TermView, VarName};

@@ -6,10 +6,10 @@ ghost use Rattle.ghc_term.specs.Expression.{leaf, operation};
 ghost use Rattle.ghc_term.specs.Store.{value_at};
 ghost use Rattle.ghc_flat.specs.Variables.{leaf_variables, variables_of_test};
 ghost use Rattle.ghc_match.specs.Value.{Wants};
-ghost use Rattle.ghc_match.specs.Ends.{StandsAndEnds};
-ghost use Rattle.ghc_match.specs.Meeting.{Gains};
-ghost use Rattle.ghc_match.specs.Guarding.{StandsAndPasses, PassedFrom, IsSaid};
-ghost use Rattle.ghc_match.specs.Small.{spelled, IsAsked, ComputesOf, ComparesOf};
+ghost use Rattle.ghc_match.specs.inner.Ends.{StandsAndEnds};
+ghost use Rattle.ghc_match.specs.inner.Meeting.{Gains};
+ghost use Rattle.ghc_match.specs.inner.Guarding.{StandsAndPasses, PassedFrom, IsSaid};
+ghost use Rattle.ghc_match.specs.inner.Small.{spelled, IsAsked, ComputesOf, ComparesOf};
 
 use crate::arithmetic::{apply, compares};
 use crate::guard::Says;

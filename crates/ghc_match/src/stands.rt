@@ -2,7 +2,7 @@
 ghost use Rattle.std.specs.Prelude.{◌≡◌, ◌≤◌, length, IfOk, OnOk, option_copied};
 ghost use Rattle.std.specs.FinMap as finite;
 ghost use Rattle.ghc_term.specs.Store.{value_at};
-ghost use Rattle.ghc_match.specs.Stands.{laid_over};
+ghost use Rattle.ghc_match.specs.inner.Stands.{laid_over};
 
 use ghc_term::{Bindings, Term, VarName};
 use std::alloc::{AllocError, Global};
@@ -41,7 +41,7 @@ fn share_few(few: &[Option<&Term>], others: Bindings) -> Result<Bindings, AllocE
 
 impl<'a> Model for Stands<'a> {
     ghost use Rattle.ghc_term.specs.Store.{StoreValue, store_code};
-    ghost use Rattle.ghc_match.specs.Stands.{laid_over, HasNoneBefore};
+    ghost use Rattle.ghc_match.specs.inner.Stands.{laid_over, HasNoneBefore};
 
     ghost Value = { StoreValue };
 

@@ -2,8 +2,8 @@
 ghost use Rattle.std.specs.Prelude.{◌↔◌, IfOk, IsTrue};
 ghost use Rattle.ghc_term.specs.Store.{value_at};
 ghost use Rattle.ghc_match.specs.Match.{HoldsBy};
-ghost use Rattle.ghc_match.specs.Ends.{StandsAndEnds};
-ghost use Rattle.ghc_match.specs.Guarding.{TellsValue};
+ghost use Rattle.ghc_match.specs.inner.Ends.{StandsAndEnds};
+ghost use Rattle.ghc_match.specs.inner.Guarding.{TellsValue};
 
 use crate::alike::{is_atom, is_integer, is_list};
 use crate::arithmetic::compares;

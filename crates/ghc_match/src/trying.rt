@@ -4,9 +4,9 @@ ghost use Rattle.ghc_term.specs.Store.{value_at};
 ghost use Rattle.ghc_term.specs.Sets.{IsSetOf};
 ghost use Rattle.ghc_flat.specs.Flat.{IsLinear};
 ghost use Rattle.ghc_match.specs.Match.{LooksAt, HasOutcome};
-ghost use Rattle.ghc_match.specs.Meeting.{Gains};
-ghost use Rattle.ghc_match.specs.Guarding.{GuardLooksAt};
-ghost use Rattle.ghc_match.specs.Told.{HasShownNothing, outcome_of, outcome_laid};
+ghost use Rattle.ghc_match.specs.inner.Meeting.{Gains};
+ghost use Rattle.ghc_match.specs.inner.Guarding.{GuardLooksAt};
+ghost use Rattle.ghc_match.specs.inner.Told.{HasShownNothing, outcome_of, outcome_laid};
 
 use crate::guard::{Says, try_guard};
 use crate::head::{Met, match_head};

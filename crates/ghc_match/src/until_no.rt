@@ -6,10 +6,10 @@ ghost use Rattle.ghc_term.specs.Store.{value_at};
 ghost use Rattle.ghc_term.specs.Tree.{Tree};
 ghost use Rattle.ghc_flat.specs.Flat.{IsLinear};
 ghost use Rattle.ghc_match.specs.Match.{StandsFor, Mismatch, HeadWants};
-ghost use Rattle.ghc_match.specs.Ends.{StandsAndEnds};
-ghost use Rattle.ghc_match.specs.Meeting.{Gains, HeadLooksAt};
-ghost use Rattle.ghc_match.specs.Guarding.{OneSaysNo, OneWants, GuardLooksAt};
-ghost use Rattle.ghc_match.specs.Told.{HasShownNothing, IsAnswer};
+ghost use Rattle.ghc_match.specs.inner.Ends.{StandsAndEnds};
+ghost use Rattle.ghc_match.specs.inner.Meeting.{Gains, HeadLooksAt};
+ghost use Rattle.ghc_match.specs.inner.Guarding.{OneSaysNo, OneWants, GuardLooksAt};
+ghost use Rattle.ghc_match.specs.inner.Told.{HasShownNothing, IsAnswer};
 
 use crate::guard::{Says, try_test};
 use crate::head::{Met, visit};

@@ -43,20 +43,20 @@ pub use Rattle.ghc_hooks.specs.Notes.{AreLeft, IsUntried, Note, NotesByGoal}
 pub use Rattle.ghc_hooks.specs.Status.{HasStatus, Status, failed, is_failed, is_stream_goal, ready, streaming, waiting}
 pub use Rattle.ghc_hooks.specs.Tries.{IsUnblocked}
 pub use Rattle.ghc_hooks.specs.Verdict.{status_of}
-pub use Rattle.ghc_pool.specs.Answers.{IsReason, Taken, one_if, submits_in}
-pub use Rattle.ghc_pool.specs.Fair.{Balanced, IdleIsEmpty, all_parts, hand, total, weigh}
-pub use Rattle.ghc_pool.specs.Gathered.{AreDrained, AreDrainedTo, ArePending, AreReady, AreReleased, AreTold, FirstBegins, HaveGivenBack, HaveParts, HavePartsFrom, IsAbsorbed, IsDrained, IsPending, IsReady, all_victims, own_deques}
+pub use Rattle.ghc_pool.specs.inner.Answers.{IsReason, Taken, one_if, submits_in}
+pub use Rattle.ghc_pool.specs.inner.Fair.{Balanced, IdleIsEmpty, all_parts, hand, total, weigh}
+pub use Rattle.ghc_pool.specs.inner.Gathered.{AreDrained, AreDrainedTo, ArePending, AreReady, AreReleased, AreTold, FirstBegins, HaveGivenBack, HaveParts, HavePartsFrom, IsAbsorbed, IsDrained, IsPending, IsReady, all_victims, own_deques}
 pub use Rattle.ghc_pool.specs.Laws.{AddsAtTheEnd, RunsAddAtTheEnd, RunsReduce}
-pub use Rattle.ghc_pool.specs.Meeting.{HasStepped, IsMet, IsNotedReady, IsNotedWaiting, TookInQuestion, WasTaken, WasTried}
+pub use Rattle.ghc_pool.specs.inner.Meeting.{HasStepped, IsMet, IsNotedReady, IsNotedWaiting, TookInQuestion, WasTaken, WasTried}
 pub use Rattle.ghc_pool.specs.Modes.{root_of}
-pub use Rattle.ghc_pool.specs.Opened.{AreCounted, AreFresh, AreFreshFrom, AreHandfuls, AreJobs, AreNew, AreStarting, HasWorked, IsCounted, IsFresh, IsHandful, IsJob, IsStarting, Owner, Works, deques_of, passes_in, workers_in}
-pub use Rattle.ghc_pool.specs.Plans.{GoesOnWithout, IsDecidedAs, IsNoteStop, IsSettlingStop, IsSubmitStop}
+pub use Rattle.ghc_pool.specs.inner.Opened.{AreCounted, AreFresh, AreFreshFrom, AreHandfuls, AreJobs, AreNew, AreStarting, HasWorked, IsCounted, IsFresh, IsHandful, IsJob, IsStarting, Owner, Works, deques_of, passes_in, workers_in}
+pub use Rattle.ghc_pool.specs.inner.Plans.{GoesOnWithout, IsDecidedAs, IsNoteStop, IsSettlingStop, IsSubmitStop}
 pub use Rattle.ghc_pool.specs.Runs.{AsksForNoStop, CanGoOn, HasFailed, HasMetNoFailure, Holds, IsInQuestion, IsNotedFailed, IsRunStep, IsSpiedIn, Runs, RunsIn, Takes, all_taken, and_step, and_tries, at_start, has_failed, is_full, is_quiet, is_spied, starved}
-pub use Rattle.ghc_pool.specs.Stops.{AreFed, AreJudged, AreOpen, AreWell, GoesOn, IsJudged, IsOpen, IsSpent, IsWell, OneAsks, WentOn, joined}
-pub use Rattle.ghc_pool.specs.Stretches.{TakesAtMost}
-pub use Rattle.ghc_pool.specs.Survey.{AreListed, IsStopped, StandsTo}
-pub use Rattle.ghc_pool.specs.Told.{AreAnswers, AreFedAnswers, Asks, Covers, IsAnswerOf, IsAskedBy, IsInScope, IsNotedFor, IsPassAfter, IsSpiedGoal, IsStarved, IsStarvedGoal, IsUnspiedStep, StandsIn, places_if, places_in, step_places}
-pub use Rattle.ghc_pool.specs.Workers.{AreVictims, DidNothing, HasRoomToAnswer, HasRoomToOffer, IsAble, IsOfferedOrStopped, IsRoomier, IsVictim, Keeps, KeepsRoom, Work, deques, got_of, in_of, left_in, names, offered_in, out_of, over, put_of, stolen, stolen_of, submits, submits_by, submits_of, taken_in, total_work, work_of, works}
+pub use Rattle.ghc_pool.specs.inner.Stops.{AreFed, AreJudged, AreOpen, AreWell, GoesOn, IsJudged, IsOpen, IsSpent, IsWell, OneAsks, WentOn, joined}
+pub use Rattle.ghc_pool.specs.inner.Stretches.{TakesAtMost}
+pub use Rattle.ghc_pool.specs.inner.Survey.{AreListed, IsStopped, StandsTo}
+pub use Rattle.ghc_pool.specs.inner.Told.{AreAnswers, AreFedAnswers, Asks, Covers, IsAnswerOf, IsAskedBy, IsInScope, IsNotedFor, IsPassAfter, IsSpiedGoal, IsStarved, IsStarvedGoal, IsUnspiedStep, StandsIn, places_if, places_in, step_places}
+pub use Rattle.ghc_pool.specs.inner.Workers.{AreVictims, DidNothing, HasRoomToAnswer, HasRoomToOffer, IsAble, IsOfferedOrStopped, IsRoomier, IsVictim, Keeps, KeepsRoom, Work, deques, got_of, in_of, left_in, names, offered_in, out_of, over, put_of, stolen, stolen_of, submits, submits_by, submits_of, taken_in, total_work, work_of, works}
 pub use Rattle.ghc_pool.specs.declared.answer.Answer.{Answer}
 pub use Rattle.ghc_pool.specs.declared.answer.Answer.TheVariants.{Noted, Starved, Submitted}
 pub use Rattle.ghc_pool.specs.declared.answer.RoundStop.{RoundStop}
@@ -75,10 +75,10 @@ pub use Rattle.ghc_pool.specs.declared.stop.Stop.{Stop}
 pub use Rattle.ghc_pool.specs.declared.survey.Standing.TheVariants.{Failed, Idle, Ready}
 pub use Rattle.ghc_records.specs.Journal.{Entry, Item, Opening, entered, history, step_of, took}
 pub use Rattle.ghc_records.specs.Record.{Record}
-pub use Rattle.ghc_records.specs.RecordCode.{opening_code}
+pub use Rattle.ghc_records.specs.inner.RecordCode.{opening_code}
 pub use Rattle.ghc_shared.proofs.CoreCrosses.{core_pass_send, shared_core_sync}
 pub use Rattle.ghc_shared.proofs.PlacesOnce.{weight-one}
-pub use Rattle.ghc_shared.specs.Calls.{IsAnswerTo, IsProposal, code_of, holding, receipt_of}
+pub use Rattle.ghc_shared.specs.inner.Calls.{IsAnswerTo, IsProposal, code_of, holding, receipt_of}
 pub use Rattle.ghc_shared.specs.Passes.{AreAll, Known, newcomers}
 pub use Rattle.ghc_shared.specs.Places.{AreEachOnce, numbers_from, places_since, weight, weight_of_places}
 pub use Rattle.ghc_shared.specs.Receipts.{IsAcceptedCall, IsDecided, IsRefusedCall}

@@ -1,14 +1,4 @@
 pub mod Runs
-pub mod Stretches
 pub mod Laws
-pub mod Survey
-pub mod Meeting
-pub mod Answers
-pub mod Fair
-pub mod Workers
-pub mod Stops
-pub mod Gathered
-pub mod Opened
-pub mod Told
-pub mod Plans
 pub mod Modes
+pub mod inner

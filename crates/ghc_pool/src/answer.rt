@@ -17,7 +17,7 @@ pub enum Answer {
 
 impl Answer {
     ghost use Rattle.std.specs.Prelude.{◌≡◌};
-    ghost use Rattle.ghc_pool.specs.Answers.{submits_in};
+    ghost use Rattle.ghc_pool.specs.inner.Answers.{submits_in};
 
     /// How many submits it tells of: one or none.
     pub fn submits(&self) -> u64

@@ -1,7 +1,7 @@
 // What the workers of a round do with a name.
 ghost use Rattle.std.specs.Prelude.{◌≡◌, ◌≤◌, ◌++◌, [], ◌∷◌, List, Bool};
 ghost use Rattle.ghc_pool.specs.declared.answer.RoundStop.{RoundStop as round_stop};
-ghost use Rattle.ghc_pool.specs.Answers.{Taken, submits_in, one_if, IsReason};
+ghost use Rattle.ghc_pool.specs.inner.Answers.{Taken, submits_in, one_if, IsReason};
 
 use crate::answer::{Answer, RoundStop};
 use ghc_term::GoalName;

@@ -2,8 +2,8 @@
 ghost use Rattle.std.specs.Prelude.{◌≡◌, ◌↔◌, IsTrue, MatchOption, true, false};
 ghost use Rattle.ghc_term.specs.declared.fault.Fault.TheVariants.{Memory as memory};
 ghost use Rattle.ghc_hooks.specs.Status.{ready};
-ghost use Rattle.ghc_pool.specs.Told.{IsInScope, IsSpiedGoal, IsRefusedGoal, IsStarvedGoal, IsUnspiedStep, TellsStatus};
-ghost use Rattle.ghc_pool.specs.Plans.{IsPlan, IsSubmitStop, IsSettlingStop, IsNoteStop, GoesOnWithout, IsDecidedAs};
+ghost use Rattle.ghc_pool.specs.inner.Told.{IsInScope, IsSpiedGoal, IsRefusedGoal, IsStarvedGoal, IsUnspiedStep, TellsStatus};
+ghost use Rattle.ghc_pool.specs.inner.Plans.{IsPlan, IsSubmitStop, IsSettlingStop, IsNoteStop, GoesOnWithout, IsDecidedAs};
 
 use crate::answer::{Answer, RoundStop};
 use crate::craft::{Craft, Decided};
@@ -264,7 +264,7 @@ impl<N: Naming, R: Wait, G: Gate> Deciding<'_, N, R, G> {
 }
 
 impl<N: Naming, R: Wait, G: Gate> Craft<Pass<Core, N>> for Deciding<'_, N, R, G> {
-    ghost use Rattle.ghc_pool.specs.Told.{IsPassAfter, AreFedAnswers, Asks};
+    ghost use Rattle.ghc_pool.specs.inner.Told.{IsPassAfter, AreFedAnswers, Asks};
 
     ghost takes = { λ d. d.steps };
 

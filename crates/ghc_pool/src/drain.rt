@@ -4,8 +4,8 @@ ghost use Rattle.ghc_term.specs.declared.goal_name.GoalName.{GoalName as goal_na
 ghost use Rattle.ghc_records.specs.Record.{Record as record_spec};
 ghost use Rattle.ghc_core.specs.Settling.{AreKept};
 ghost use Rattle.ghc_pool.specs.Runs.{HasFailed, HasMetNoFailure};
-ghost use Rattle.ghc_pool.specs.Meeting.{TookInQuestion, HasStepped, IsMet};
-ghost use Rattle.ghc_pool.specs.Stretches.{TakesSoMany};
+ghost use Rattle.ghc_pool.specs.inner.Meeting.{TookInQuestion, HasStepped, IsMet};
+ghost use Rattle.ghc_pool.specs.inner.Stretches.{TakesSoMany};
 
 use crate::meet::{Met, is_to_meet, meet};
 use ghc_core::Core;

@@ -11,7 +11,7 @@ ghost use Rattle.ghc_core.specs.Core.{Core as core_spec};
 ghost use Rattle.ghc_core.specs.Settling.{AreKept};
 ghost use Rattle.ghc_trace.specs.Spies.{Spies};
 ghost use Rattle.ghc_pool.specs.Runs.{HasMetNoFailure};
-ghost use Rattle.ghc_pool.specs.Meeting.{TookInQuestion, WasTried, WasTaken, IsMet, IsPassed, IsNotedReady, IsNotedWaiting, IsToMeet};
+ghost use Rattle.ghc_pool.specs.inner.Meeting.{TookInQuestion, WasTried, WasTaken, IsMet, IsPassed, IsNotedReady, IsNotedWaiting, IsToMeet};
 
 use crate::question::{is_in_question_since, is_spied_in};
 use ghc_core::{Change, Coming, Core};

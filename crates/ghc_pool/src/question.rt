@@ -3,7 +3,7 @@ ghost use Rattle.std.specs.Prelude.{◌≡◌, ◌↔◌, IsTrue, Some};
 ghost use Rattle.std.specs.FinMap as finite;
 ghost use Rattle.ghc_term.specs.Goal.{Goal as goal_spec};
 ghost use Rattle.ghc_pool.specs.Runs.{IsInQuestion, IsSpiedIn};
-ghost use Rattle.ghc_pool.specs.Meeting.{TookInQuestion};
+ghost use Rattle.ghc_pool.specs.inner.Meeting.{TookInQuestion};
 
 use ghc_core::Core;
 use ghc_term::GoalName;

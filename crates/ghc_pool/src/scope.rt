@@ -17,7 +17,7 @@ pub enum Scope {
 
 impl Scope {
     ghost use Rattle.std.specs.Prelude.{◌↔◌, IsTrue};
-    ghost use Rattle.ghc_pool.specs.Told.{IsInScope};
+    ghost use Rattle.ghc_pool.specs.inner.Told.{IsInScope};
 
     /// Whether a round may step the goal: a comparison, and as many more as the logarithm of the number of names.
     pub fn has(&self, goal: GoalName) -> bool

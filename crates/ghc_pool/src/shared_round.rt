@@ -1,10 +1,10 @@
 // A round over a shared core.
 ghost use Rattle.std.specs.Prelude.{◌≡◌, ◌≤◌, ◌<◌, ◌^◌, [], length, IfOk, IfErr, true};
 ghost use Rattle.std.specs.Vec.{vec_capacity, vec_len};
-ghost use Rattle.ghc_pool.specs.Workers.{works, total_work, submits_by, AreSettled};
-ghost use Rattle.ghc_pool.specs.Stops.{AreJudged};
-ghost use Rattle.ghc_pool.specs.Gathered.{AreTold, FirstBegins};
-ghost use Rattle.ghc_pool.specs.Told.{IsPassAfter, AreFedAnswers, Asks};
+ghost use Rattle.ghc_pool.specs.inner.Workers.{works, total_work, submits_by, AreSettled};
+ghost use Rattle.ghc_pool.specs.inner.Stops.{AreJudged};
+ghost use Rattle.ghc_pool.specs.inner.Gathered.{AreTold, FirstBegins};
+ghost use Rattle.ghc_pool.specs.inner.Told.{IsPassAfter, AreFedAnswers, Asks};
 ghost use Rattle.ghc_pool.specs.Modes.{takes_steps, limit_of};
 
 use crate::answer::{RoundStop, Work};

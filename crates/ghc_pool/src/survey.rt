@@ -5,7 +5,7 @@ ghost use Rattle.ghc_term.specs.Lists.{In};
 ghost use Rattle.ghc_term.specs.declared.goal_name.GoalName.{GoalName as goal_name};
 ghost use Rattle.ghc_hooks.specs.Tries.{IsUnblocked};
 ghost use Rattle.ghc_pool.specs.Runs.{IsReady, IsSpiedIn, CanGoOn, Holds};
-ghost use Rattle.ghc_pool.specs.Survey.{StandsTo, AreListed, IsStopped};
+ghost use Rattle.ghc_pool.specs.inner.Survey.{StandsTo, AreListed, IsStopped};
 
 use crate::question::{is_in_question, is_spied_in};
 use crate::stop::Stop;

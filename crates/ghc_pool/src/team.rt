@@ -3,8 +3,8 @@ ghost use Rattle.std.specs.Prelude.{◌≡◌, ◌≤◌, ◌<◌, ◌^◌, leng
 ghost use Rattle.ghc_term.specs.Lists.{In};
 ghost use Rattle.ghc_term.specs.declared.goal_name.GoalName.{GoalName as goal_name};
 ghost use Rattle.ghc_pool.specs.Runs.{HasFailed, IsInQuestion};
-ghost use Rattle.ghc_pool.specs.Told.{Covers};
-ghost use Rattle.ghc_pool.specs.Stretches.{TakesSoMany, TakesAtMost};
+ghost use Rattle.ghc_pool.specs.inner.Told.{Covers};
+ghost use Rattle.ghc_pool.specs.inner.Stretches.{TakesSoMany, TakesAtMost};
 
 use crate::drain::drain;
 use crate::gate::Gate;

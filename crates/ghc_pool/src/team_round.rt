@@ -2,9 +2,9 @@
 ghost use Rattle.std.specs.Prelude.{◌≡◌, ◌+◌, ◌<◌, ◌≤◌, ◌^◌, length};
 ghost use Rattle.ghc_records.specs.Journal.{history};
 ghost use Rattle.ghc_core.specs.Core.{IsStanding};
-ghost use Rattle.ghc_shared.specs.Calls.{code_of};
-ghost use Rattle.ghc_pool.specs.Told.{Covers};
-ghost use Rattle.ghc_pool.specs.Stretches.{TakesAtMost};
+ghost use Rattle.ghc_shared.specs.inner.Calls.{code_of};
+ghost use Rattle.ghc_pool.specs.inner.Told.{Covers};
+ghost use Rattle.ghc_pool.specs.inner.Stretches.{TakesAtMost};
 
 use crate::gate::Gate;
 use crate::mode::Mode;

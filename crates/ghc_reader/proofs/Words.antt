@@ -3,24 +3,24 @@ pub use Rattle.ghc_reader.specs.Amounts.{goals_of_clause, is_unnamed, largest, l
 pub use Rattle.ghc_reader.specs.Bytes.{BeginsNegative, IsRun, Lacks, begins_variable, goes_on, is_blank, is_word}
 pub use Rattle.ghc_reader.specs.Depth.{IsDeeperThan, IsTooDeep, open_after, open_behind}
 pub use Rattle.ghc_reader.specs.Derived.{arguments_of, call_of, cells_of, clause_of, clauses_of, goals_of, item_of, operand_of, product_of, product_onto, query_of, right_of, sum_onto, test_of, tests_of, tree_of, trees_of, value_of}
-pub use Rattle.ghc_reader.specs.Front.{Begins, IsNotAssigned, IsNotNamed, NoVariable, StartsWithVariable, first, item_like, like, like_assignment, like_equation, second}
+pub use Rattle.ghc_reader.specs.inner.Front.{Begins, IsNotAssigned, IsNotNamed, NoVariable, StartsWithVariable, first, item_like, like, like_assignment, like_equation, second}
 pub use Rattle.ghc_reader.specs.Grammar.{AreClosedArguments, Arguments, Body, Clause, Expression, Factors, Input, IsClosedRest, Item, Operand, Program, Query, Rest, Right, Term, Terms, Test, Tests, arguments, assign, body, call, clause, clauses, closed, compare, done, expression, fact, factor, factors, goal, guarded, input, integer, item, last, last_test, list, more, nested, next, next_test, one, operand, partial, plain, plain_test, program, query, rest, right, rule, stopped, summand, summands, term, terms, test, tests, unguarded, unify, variable, whole, within, without}
 pub use Rattle.ghc_reader.specs.Laws.{IsSpelledBy, ReadAskIsExact, ReadBodyIsExact, ReadProgramIsExact, ReadQueryIsExact, ReadTermIsExact}
 pub use Rattle.ghc_reader.specs.Lexed.{AreDigits, BeginsNumber, EveryTextIsRead, IsBadAt, IsCutFault, IsCutInto, IsLexFault, IsLexed, IsNumberedAs, IsRefused, IsRefusedToken, IsReserved, IsReservedAs, IsReservedBy, IsTooGreat, NoTextIsReadTwice, greatest_number, most_bytes, piece_of, place_of_token, token_of, token_of_bytes, token_places}
 pub use Rattle.ghc_reader.specs.Limits.{first_exceeded, of_ask, of_program, of_query, of_term}
 pub use Rattle.ghc_reader.specs.Lowered.{AreClosed, AreCounted, AreNamed, Each, IsCalled, IsClosed, Names, Says, SaysAll, SaysAllBy, SaysAsked, SaysBy, SaysClause, SaysGoal, SaysGoalBy, SaysGuard, SaysQuery, SaysValue, SaysValueBy, blank, doing, first_variable, is_true, product_operator, sum_operator, tail_of, variable_of}
-pub use Rattle.ghc_reader.specs.Parts.{ClosedFront, EndsArguments, EndsBody, EndsClause, EndsExpression, EndsItem, EndsOperand, EndsProduct, EndsProgram, EndsQuery, EndsRest, EndsRight, EndsTerm, EndsTerms, EndsTest, EndsTests, EndsWhole, Fault, Found, FoundAt}
+pub use Rattle.ghc_reader.specs.inner.Parts.{ClosedFront, EndsArguments, EndsBody, EndsClause, EndsExpression, EndsItem, EndsOperand, EndsProduct, EndsProgram, EndsQuery, EndsRest, EndsRight, EndsTerm, EndsTerms, EndsTest, EndsTests, EndsWhole, Fault, Found, FoundAt}
 pub use Rattle.ghc_reader.specs.Pieces.{Cuts, HasForm, HasNoPiece, IsByte, IsFront, IsNegative, Piece, Stands, signs_after, signs_behind, spelled}
 pub use Rattle.ghc_reader.specs.Places.{behind_byte, fault_at, place_behind, start}
 pub use Rattle.ghc_reader.specs.PrintedGoals.{AreWritable, HasNumbers, IsNamedIn, IsPrintedAs, IsReadAs, IsSaidIn, IsWritable, IsWritableExpression, IsWritableGoal, further_goals, goals_text}
 pub use Rattle.ghc_reader.specs.Read.{IsReadAsk, IsReadBody, IsReadInOneWay, IsReadProgram, IsReadQuery, IsReadTerm}
 pub use Rattle.ghc_reader.specs.Reserved.{count, first_place, is_reserved, is_variable, misplaced_body, misplaced_clause, misplaced_goal, misplaced_program, misplaced_query, misplaced_query_goal, place_if, starts_with_variable}
-pub use Rattle.ghc_reader.specs.Scope.{Counts, IsFresh, IsKnown, IsTable, Meets, MeetsAll, conses}
+pub use Rattle.ghc_reader.specs.inner.Scope.{Counts, IsFresh, IsKnown, IsTable, Meets, MeetsAll, conses}
 pub use Rattle.ghc_reader.specs.Source.{Call, Goal, Tree, Trees, Value, cell, cells, empty, named, none, number, plains, product, products, some, structure, sum, sums}
 pub use Rattle.ghc_reader.specs.Symbols.{IsLongest, spelling, token_of_symbol}
 pub use Rattle.ghc_reader.specs.Tests.{HasTokens, IsAnsweredOnce, IsDerived, IsFaultAt, IsLimitRefusal, IsPlaceRefusal, IsRead, IsRefusal, IsShallow, IsSyntaxRefusal, IsTokenRefusal, a_body, a_program, a_query, a_term, an_ask, asked, bad_byte, by_limit, by_place, by_syntax, by_tokens, too_deep, too_long}
 pub use Rattle.ghc_reader.specs.Viable.{FaultAt, IfSyntax, Viable}
-pub use Rattle.ghc_reader.specs.Views.{clause_view, clause_views, factor_views, goal_view, goal_views, summand_views, test_view, test_views, value_step, value_view, view, view_step, views}
+pub use Rattle.ghc_reader.specs.inner.Views.{clause_view, clause_views, factor_views, goal_view, goal_views, summand_views, test_view, test_views, value_step, value_view, view, view_step, views}
 pub use Rattle.ghc_reader.specs.Written.{AreApart, AreWellWritten, IsWellAsked, IsWellWritten, IsWithinLimits, WrittenClause, WrittenQuery, is_stream, variables_of_guard, variables_of_guards, variables_of_written}
 pub use Rattle.ghc_reader.specs.WrittenAsk.{IsNaming, IsUnnumbered, IsWellPut, SaysAsk, WrittenAsk, is_new, of_no_step, of_state}
 pub use Rattle.ghc_reader.specs.declared.lexer.Lexed.{Lexed}

@@ -1,10 +1,7 @@
-pub mod Front
 pub mod Grammar
 pub mod Source
 pub mod Derived
-pub mod Views
 pub mod Viable
-pub mod Parts
 pub mod Reserved
 pub mod Bytes
 pub mod Symbols
@@ -15,11 +12,10 @@ pub mod Depth
 pub mod Amounts
 pub mod Limits
 pub mod Written
-pub mod WrittenCode
 pub mod Tests
 pub mod Lowered
-pub mod Scope
 pub mod WrittenAsk
 pub mod Read
 pub mod PrintedGoals
 pub mod Laws
+pub mod inner

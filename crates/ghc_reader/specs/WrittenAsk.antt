@@ -3,8 +3,8 @@ use Rattle.std.specs.Prelude.{◌≡◌, ◌≢◌, ℕ, ◌+◌, List, [], leng
 use Rattle.std.specs.Coded.{Coded, code_by, coded×, coded_list, coded_option}
 use Rattle.ghc_term.specs.declared.var_name.VarName.{VarName}
 use Rattle.ghc_term.specs.Goal.{Goal}
-use Rattle.ghc_term.specs.GoalCode.{goal_code}
-use Rattle.ghc_term.specs.Code.{name_code}
+use Rattle.ghc_term.specs.inner.GoalCode.{goal_code}
+use Rattle.ghc_term.specs.inner.Code.{name_code}
 use Rattle.ghc_term.specs.Variables.{variables_of_goals, firsts}
 use Rattle.ghc_reader.specs.Source as source
 use Rattle.ghc_reader.specs.Lexed.{IsNumberedAs, greatest_number}

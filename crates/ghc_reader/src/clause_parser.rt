@@ -3,8 +3,8 @@ ghost use Rattle.std.specs.Prelude.{◌≡◌, ◌≢◌, ◌<◌, List, length,
 ghost use Rattle.ghc_reader.specs.Grammar.{Test as TestDerivation, Tests, Right, Clause, test, tests, right, clause};
 ghost use Rattle.ghc_reader.specs.Source.{Goal, Test, Right as RightTree, Clause as ClauseTree, plains};
 ghost use Rattle.ghc_reader.specs.Derived.{test_of, tests_of, right_of, clause_of};
-ghost use Rattle.ghc_reader.specs.Views.{goal_views, test_view, test_views, right_view, clause_view};
-ghost use Rattle.ghc_reader.specs.Parts.{EndsTest, EndsTests, EndsRight, EndsClause, FoundAt, Fault};
+ghost use Rattle.ghc_reader.specs.inner.Views.{goal_views, test_view, test_views, right_view, clause_view};
+ghost use Rattle.ghc_reader.specs.inner.Parts.{EndsTest, EndsTests, EndsRight, EndsClause, FoundAt, Fault};
 ghost use Rattle.ghc_reader.specs.Viable.{IfSyntax};
 
 use crate::expression_parser::expression;

@@ -3,8 +3,8 @@ ghost use Rattle.std.specs.Prelude.{◌≡◌, ◌<◌, length, IfOk, IfErr};
 ghost use Rattle.ghc_reader.specs.Grammar.{Operand, Factors, Expression, operand, product, expression};
 ghost use Rattle.ghc_reader.specs.Source.{Value, products, sums};
 ghost use Rattle.ghc_reader.specs.Derived.{operand_of, product_of, value_of};
-ghost use Rattle.ghc_reader.specs.Views.{value_view, factor_views, summand_views};
-ghost use Rattle.ghc_reader.specs.Parts.{EndsOperand, EndsProduct, EndsExpression, Found, Fault};
+ghost use Rattle.ghc_reader.specs.inner.Views.{value_view, factor_views, summand_views};
+ghost use Rattle.ghc_reader.specs.inner.Parts.{EndsOperand, EndsProduct, EndsExpression, Found, Fault};
 ghost use Rattle.ghc_reader.specs.Viable.{IfSyntax};
 
 use crate::front::{eat, next, next_product, next_sum};

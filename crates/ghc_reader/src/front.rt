@@ -3,7 +3,7 @@ ghost use Rattle.std.specs.Prelude.{◌≡◌, ◌≢◌, [], ◌∷◌, Some, M
 ghost use Rattle.ghc_term.specs.declared.comparison.Comparison.{Comparison};
 ghost use Rattle.ghc_reader.specs.declared.token.Sum.{Sum};
 ghost use Rattle.ghc_reader.specs.declared.token.Product.{Product};
-ghost use Rattle.ghc_reader.specs.Front.{first, Begins, IsNotNamed, IsNotAssigned, item_like};
+ghost use Rattle.ghc_reader.specs.inner.Front.{first, Begins, IsNotNamed, IsNotAssigned, item_like};
 
 use crate::token::{Mark, Product, Sum, Token};
 use ghc_term::{Comparison, Name};

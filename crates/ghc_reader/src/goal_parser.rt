@@ -3,8 +3,8 @@ ghost use Rattle.std.specs.Prelude.{◌≡◌, ◌<◌, List, length, IfOk, IfEr
 ghost use Rattle.ghc_reader.specs.Grammar.{Item, Body, item, body};
 ghost use Rattle.ghc_reader.specs.Source.{Goal};
 ghost use Rattle.ghc_reader.specs.Derived.{item_of, goals_of};
-ghost use Rattle.ghc_reader.specs.Views.{goal_view, goal_views};
-ghost use Rattle.ghc_reader.specs.Parts.{EndsItem, EndsBody, FoundAt, Fault};
+ghost use Rattle.ghc_reader.specs.inner.Views.{goal_view, goal_views};
+ghost use Rattle.ghc_reader.specs.inner.Parts.{EndsItem, EndsBody, FoundAt, Fault};
 ghost use Rattle.ghc_reader.specs.Viable.{IfSyntax};
 
 use crate::expression_parser::expression;

@@ -2,8 +2,8 @@
 ghost use Rattle.std.specs.Prelude.{◌≡◌, [], IfOk, IfErr, MatchResult};
 ghost use Rattle.ghc_reader.specs.Grammar.{Term, Input, term, input};
 ghost use Rattle.ghc_reader.specs.Derived.{tree_of};
-ghost use Rattle.ghc_reader.specs.Views.{view};
-ghost use Rattle.ghc_reader.specs.Parts.{ClosedFront, EndsWhole, Fault};
+ghost use Rattle.ghc_reader.specs.inner.Views.{view};
+ghost use Rattle.ghc_reader.specs.inner.Parts.{ClosedFront, EndsWhole, Fault};
 ghost use Rattle.ghc_reader.specs.Viable.{FaultAt, IfSyntax};
 
 use crate::front::next;

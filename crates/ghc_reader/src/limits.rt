@@ -1,6 +1,6 @@
 // What a program, a query or an input term may not exceed.
 ghost use Rattle.std.specs.Prelude.{◌≡◌, IfOk};
-ghost use Rattle.ghc_reader.specs.Views.{view, goal_views, clause_views};
+ghost use Rattle.ghc_reader.specs.inner.Views.{view, goal_views, clause_views};
 ghost use Rattle.ghc_reader.specs.Limits.{first_exceeded, of_program, of_query, of_term};
 
 pub(crate) mod arguments;

@@ -1,6 +1,6 @@
 // From the bytes of a text to its parse tree: the tests that a text has to pass, one after the other.
 ghost use Rattle.std.specs.Prelude.{true, false, Bool, List, ℕ, ◌≡◌, ◌⊎◌, ◌+◌, ◌<◌, length, IfOk, IfErr};
-ghost use Rattle.ghc_reader.specs.Views.{view, goal_views, clause_views};
+ghost use Rattle.ghc_reader.specs.inner.Views.{view, goal_views, clause_views};
 ghost use Rattle.ghc_reader.specs.declared.lexer.value.Reserved.TheVariants.{Allowed};
 ghost use Rattle.ghc_reader.specs.Lexed.{most_bytes};
 ghost use Rattle.ghc_reader.specs.Limits.{of_query};

@@ -2,8 +2,8 @@
 ghost use Rattle.std.specs.Prelude.{◌≡◌, [], IfOk, IfErr, MatchResult};
 ghost use Rattle.ghc_reader.specs.Grammar.{Program, Query, program, query};
 ghost use Rattle.ghc_reader.specs.Derived.{clauses_of, query_of};
-ghost use Rattle.ghc_reader.specs.Views.{goal_views, clause_views};
-ghost use Rattle.ghc_reader.specs.Parts.{EndsProgram, EndsQuery, Fault};
+ghost use Rattle.ghc_reader.specs.inner.Views.{goal_views, clause_views};
+ghost use Rattle.ghc_reader.specs.inner.Parts.{EndsProgram, EndsQuery, Fault};
 ghost use Rattle.ghc_reader.specs.Viable.{FaultAt, IfSyntax};
 
 use crate::clause_parser::clause;

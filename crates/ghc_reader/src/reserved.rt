@@ -1,7 +1,7 @@
 // Heads and goals that the grammar allows and the language does not.
 ghost use Rattle.std.specs.Prelude.{◌≡◌};
 ghost use Rattle.ghc_reader.specs.Reserved.{is_call, is_reserved, is_stream, is_variable, starts_with_variable, misplaced_goal, misplaced_query_goal, misplaced_body, misplaced_query, misplaced_clause, misplaced_program, first_place};
-ghost use Rattle.ghc_reader.specs.Views.{call_view, goal_view, goal_views, clause_view, clause_views, view, views};
+ghost use Rattle.ghc_reader.specs.inner.Views.{call_view, goal_view, goal_views, clause_view, clause_views, view, views};
 
 use crate::source::{SourceCall, SourceClause, SourceGoal, SourceTerm};
 

@@ -3,8 +3,8 @@ ghost use Rattle.std.specs.Prelude.{◌≡◌, ◌<◌, ◌≤◌, length, IfOk,
 ghost use Rattle.ghc_reader.specs.Grammar.{Term, Arguments, Rest, Terms, term, arguments, rest, terms};
 ghost use Rattle.ghc_reader.specs.Source.{Tree, Trees};
 ghost use Rattle.ghc_reader.specs.Derived.{tree_of, arguments_of, list_of, trees_of};
-ghost use Rattle.ghc_reader.specs.Views.{view, views};
-ghost use Rattle.ghc_reader.specs.Parts.{EndsTerm, EndsArguments, EndsTerms, EndsRest, Found, Fault};
+ghost use Rattle.ghc_reader.specs.inner.Views.{view, views};
+ghost use Rattle.ghc_reader.specs.inner.Parts.{EndsTerm, EndsArguments, EndsTerms, EndsRest, Found, Fault};
 ghost use Rattle.ghc_reader.specs.Viable.{IfSyntax};
 
 use crate::front::{eat, next};

@@ -27,7 +27,7 @@ pub struct WrittenClause {
 
 impl Model for WrittenClause {
     ghost use Rattle.ghc_reader.specs.Written.{WrittenClause};
-    ghost use Rattle.ghc_reader.specs.WrittenCode.{clause_code};
+    ghost use Rattle.ghc_reader.specs.inner.WrittenCode.{clause_code};
 
     ghost Value = { WrittenClause };
 
@@ -50,7 +50,7 @@ impl Drop for Source {
 impl Model for Source {
     ghost use Rattle.std.specs.Prelude.{List};
     ghost use Rattle.ghc_reader.specs.Written.{WrittenClause, AreWellWritten};
-    ghost use Rattle.ghc_reader.specs.WrittenCode.{source_code};
+    ghost use Rattle.ghc_reader.specs.inner.WrittenCode.{source_code};
 
     ghost Value = { List WrittenClause };
 
@@ -100,7 +100,7 @@ impl Drop for Query {
 
 impl Model for Query {
     ghost use Rattle.ghc_reader.specs.Written.{WrittenQuery, IsWellAsked};
-    ghost use Rattle.ghc_reader.specs.WrittenCode.{query_code};
+    ghost use Rattle.ghc_reader.specs.inner.WrittenCode.{query_code};
 
     ghost Value = { WrittenQuery };
 

@@ -38,25 +38,25 @@ pub use Rattle.ghc_records.specs.Chronicle.{AreBelow, AreInTurn, Chronicle, IsIn
 pub use Rattle.ghc_records.specs.ChronicleLaws.{CanBeAsked, CanBeSaid, CanBeSpied, CanBeTold, IsOfNoGoal}
 pub use Rattle.ghc_records.specs.ChronicleText.{IsChronicleRefusal, IsFirstWrongInChronicle, IsNext, TellsChronicle, TellsEnd, TellsEntries, TellsOpening, TellsSpies, behind_lines, chronicle_heading, chronicle_lines, chronicle_text, entries_line, lines_to_end, lines_to_spies, no_end, no_entry, no_heading, no_opening, no_spy, no_step, opening_line, spies_line}
 pub use Rattle.ghc_records.specs.EntryText.{AreNewInOrder, IsNamed, OpensFew, SaysAsking, SaysEntry, SaysGoals, entry_text, numbers_behind}
-pub use Rattle.ghc_records.specs.Handles.{goals_of}
+pub use Rattle.ghc_records.specs.inner.Handles.{goals_of}
 pub use Rattle.ghc_records.specs.History.{History, IsHistory}
 pub use Rattle.ghc_records.specs.HistoryLaws.{IsInRange, IsOfAGoal, line_feeds}
 pub use Rattle.ghc_records.specs.HistoryText.{IsFirstWrongLine, IsHistoryRefusal, IsLine, IsLineOf, SaysAct, SaysStep, TellsCount, TellsHistory, TellsNext, TellsNoMore, TellsSteps, behind_count, count_line, end_line, greatest_number, heading, history_lines, history_text, lines_text, pieces_of}
 pub use Rattle.ghc_records.specs.Journal.{Entry, Step, redid, reordered, rolled, took, undid}
 pub use Rattle.ghc_records.specs.Laws.{ReplayIsOne, ReplayIsWellMade}
-pub use Rattle.ghc_records.specs.NumberSet.{HoldsEachOnce, IsRising, numbers_of, room_of}
+pub use Rattle.ghc_records.specs.inner.NumberSet.{HoldsEachOnce, IsRising, numbers_of, room_of}
 pub use Rattle.ghc_records.specs.Numbers.{kept_limit, number_limit}
 pub use Rattle.ghc_records.specs.Orders.{AreDistinct, Picks, Precedes, leave, nothing}
 pub use Rattle.ghc_records.specs.Predicates.{GoTogether, SaysPredicate, predicate_text}
 pub use Rattle.ghc_records.specs.Record.{Fires, HasStepEffect, IsThere, Record, State, after, numbers, with_makes, without_goal}
 pub use Rattle.ghc_records.specs.Replay.{IsVariableOf, MakesVariable, Runs, query_state}
 pub use Rattle.ghc_records.specs.Sections.{IsFirstWrongOf, TellsItems, TellsNoMoreItems, TellsSection, no_count, no_item}
-pub use Rattle.ghc_records.specs.Slots.{AreOnceIn, AreStraysOf, HasNumberIn, HasStrayIn, IsChangedAt, PlacesByNumber, SlotList, StandsIn, held_in, places_of, room_beside}
+pub use Rattle.ghc_records.specs.inner.Slots.{AreOnceIn, AreStraysOf, HasNumberIn, HasStrayIn, IsChangedAt, PlacesByNumber, SlotList, StandsIn, held_in, places_of, room_beside}
 pub use Rattle.ghc_records.specs.State.{GoalsTakenBack, StateTables, with_goal, without_makes}
 pub use Rattle.ghc_records.specs.StepText.{act_text, binding_text, bindings_text, body_text, by_name, consumed_text, followed_by, goal_name_text, listed, makes_text, names_given, step_text, variables_text}
 pub use Rattle.ghc_records.specs.UseIndex.{AreAllEmpty, BindersByVariable, BoundOneOf, CanTake, Gave, HasGrown, HasRoomToKeep, Index, IsIndexOf, IsMakerFor, IsMakerOf, IsUser, MadeOneOf, RecordsTables, StepBinds, StepDependsOn, UsersByStep, numbered, numbers_in, room_in, step_named, users_at, users_in}
 pub use Rattle.ghc_records.specs.Uses.{Binds, Consumes, MakesGoal, Uses}
-pub use Rattle.ghc_records.specs.WrittenEntryCode.{said_by}
+pub use Rattle.ghc_records.specs.inner.WrittenEntryCode.{said_by}
 pub use Rattle.ghc_records.specs.declared.predicate.Predicate.{Predicate}
 pub use Rattle.ghc_term.proofs.Decided.{nat_decided}
 pub use Rattle.ghc_term.proofs.Entries.{tie}

@@ -10,7 +10,7 @@ use Rattle.ghc_term.specs.Lists.{In}
 use Rattle.ghc_term.specs.Sets.{Variables}
 use Rattle.ghc_term.specs.Table.{Table}
 use Rattle.ghc_records.specs.Record.{Record}
-use Rattle.ghc_records.specs.Slots.{SlotList}
+use Rattle.ghc_records.specs.inner.Slots.{SlotList}
 use Rattle.ghc_records.specs.Uses.{Binds, Consumes, MakesVariable, Uses, DependsOn}
 
 -- The numbers of steps by the number of the step that they used, each with the room for more.

@@ -1,8 +1,8 @@
 // Steps to be taken, each with all that this takes.
 ghost use Rattle.std.specs.Prelude.{◌≡◌, IfOk};
 ghost use Rattle.ghc_records.specs.Journal.{took, step_of};
-ghost use Rattle.ghc_records.specs.EntryCode.{entry_of};
-ghost use Rattle.ghc_records.specs.Handles.{goals_of};
+ghost use Rattle.ghc_records.specs.inner.EntryCode.{entry_of};
+ghost use Rattle.ghc_records.specs.inner.Handles.{goals_of};
 
 use crate::entry::Entry;
 use crate::handles::{Handles, handles_of};
@@ -34,10 +34,10 @@ impl Drop for Addition {
 impl Model for Addition {
     ghost use Rattle.std.specs.Prelude.{◌≡◌};
     ghost use Rattle.ghc_records.specs.Record.{Record};
-    ghost use Rattle.ghc_records.specs.RecordCode.{record_code};
+    ghost use Rattle.ghc_records.specs.inner.RecordCode.{record_code};
     ghost use Rattle.ghc_records.specs.Journal.{took, step_of};
-    ghost use Rattle.ghc_records.specs.EntryCode.{entry_of};
-    ghost use Rattle.ghc_records.specs.Handles.{goals_of};
+    ghost use Rattle.ghc_records.specs.inner.EntryCode.{entry_of};
+    ghost use Rattle.ghc_records.specs.inner.Handles.{goals_of};
 
     ghost Value = { Record };
 

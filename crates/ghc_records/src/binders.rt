@@ -17,7 +17,7 @@ pub(crate) struct Binders {
 impl Model for Binders {
     ghost use Rattle.ghc_term.specs.Table.{Table, table_code};
     ghost use Rattle.ghc_records.specs.UseIndex.{BindersByVariable};
-    ghost use Rattle.ghc_records.specs.RecordCode.{binders_code};
+    ghost use Rattle.ghc_records.specs.inner.RecordCode.{binders_code};
 
     ghost Value = { Table BindersByVariable };
 

@@ -1,6 +1,6 @@
 // Chronicles: what a save tells of a run so that all of it comes back.
 ghost use Rattle.std.specs.Prelude.{◌≡◌, map};
-ghost use Rattle.ghc_records.specs.WrittenEntryCode.{said_by};
+ghost use Rattle.ghc_records.specs.inner.WrittenEntryCode.{said_by};
 
 use crate::history::History;
 use crate::predicate::Predicate;
@@ -30,8 +30,8 @@ impl Drop for Chronicle {
 impl Model for Chronicle {
     ghost use Rattle.std.specs.Prelude.{map};
     ghost use Rattle.ghc_records.specs.Chronicle.{Chronicle};
-    ghost use Rattle.ghc_records.specs.ChronicleCode.{chronicle_code};
-    ghost use Rattle.ghc_records.specs.WrittenEntryCode.{said_by};
+    ghost use Rattle.ghc_records.specs.inner.ChronicleCode.{chronicle_code};
+    ghost use Rattle.ghc_records.specs.inner.WrittenEntryCode.{said_by};
 
     ghost Value = { Chronicle };
 

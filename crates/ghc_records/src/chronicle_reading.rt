@@ -8,7 +8,7 @@ ghost use Rattle.ghc_records.specs.Sections.{IsFirstWrongOf, TellsSection};
 ghost use Rattle.ghc_records.specs.Chronicle.{AreInTurn, entry_limit, next_behind, spy_limit};
 ghost use Rattle.ghc_records.specs.EntryText.{SaysEntry};
 ghost use Rattle.ghc_records.specs.Predicates.{GoTogether, SaysPredicate};
-ghost use Rattle.ghc_records.specs.WrittenEntryCode.{said_by};
+ghost use Rattle.ghc_records.specs.inner.WrittenEntryCode.{said_by};
 ghost use Rattle.ghc_records.specs.ChronicleText.{IsChronicleRefusal, IsNext, TellsChronicle, TellsOpening, behind_lines, chronicle_heading, entries_line, spies_line};
 
 use crate::chronicle::Chronicle;

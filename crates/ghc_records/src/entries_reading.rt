@@ -7,7 +7,7 @@ ghost use Rattle.ghc_records.specs.HistoryText.{IsLineOf, greatest_number, piece
 ghost use Rattle.ghc_records.specs.Sections.{TellsItems, TellsNoMoreItems};
 ghost use Rattle.ghc_records.specs.Chronicle.{AreInTurn, IsInTurn, next_after, next_behind};
 ghost use Rattle.ghc_records.specs.EntryText.{SaysEntry};
-ghost use Rattle.ghc_records.specs.WrittenEntryCode.{said_by};
+ghost use Rattle.ghc_records.specs.inner.WrittenEntryCode.{said_by};
 
 use crate::cutting::next_line;
 use crate::entry_reading::read_entry;

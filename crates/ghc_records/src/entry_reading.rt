@@ -8,7 +8,7 @@ ghost use Rattle.ghc_records.specs.HistoryText.{IsLineOf, greatest_number, piece
 ghost use Rattle.ghc_records.specs.Sections.{TellsItems, TellsNoMoreItems};
 ghost use Rattle.ghc_records.specs.Chronicle.{AreInTurn, IsInTurn, next_after, next_behind};
 ghost use Rattle.ghc_records.specs.EntryText.{IsNamed, SaysEntry, numbers_behind};
-ghost use Rattle.ghc_records.specs.WrittenEntryCode.{said_by};
+ghost use Rattle.ghc_records.specs.inner.WrittenEntryCode.{said_by};
 
 use crate::asking_reading::read_asking;
 use crate::cutting::{behind, cut, next_line, positive};

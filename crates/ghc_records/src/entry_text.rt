@@ -1,7 +1,7 @@
 // The texts of entries and of predicates. Where memory is refused, what is written may be a part of a text.
 ghost use Rattle.std.specs.Prelude.{◌≡◌, ◌++◌, List, ℕ, codes, OnOk, string_bytes};
 ghost use Rattle.std.specs.Fmt.{decimal};
-ghost use Rattle.ghc_records.specs.EntryCode.{entry_of};
+ghost use Rattle.ghc_records.specs.inner.EntryCode.{entry_of};
 ghost use Rattle.ghc_records.specs.EntryText.{entry_text, numbers_behind};
 ghost use Rattle.ghc_records.specs.Predicates.{predicate_text};
 

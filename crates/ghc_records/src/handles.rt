@@ -1,6 +1,6 @@
 // Handles of the goals that a step makes, to be put among the goals of a state.
 ghost use Rattle.std.specs.Prelude.{◌≡◌, length, IfOk};
-ghost use Rattle.ghc_records.specs.Handles.{goals_of};
+ghost use Rattle.ghc_records.specs.inner.Handles.{goals_of};
 
 use ghc_fire::{Made, MadeGoal};
 use std::alloc::{AllocError, Global};

@@ -25,7 +25,7 @@ impl Model for History {
     ghost use Rattle.std.specs.Prelude.{◌≤◌, length};
     ghost use Rattle.ghc_records.specs.Numbers.{kept_limit};
     ghost use Rattle.ghc_records.specs.History.{History};
-    ghost use Rattle.ghc_records.specs.HistoryCode.{history_code};
+    ghost use Rattle.ghc_records.specs.inner.HistoryCode.{history_code};
 
     ghost Value = { History };
 

@@ -1,6 +1,6 @@
 // The journal of a core: its accepted steps and commands.
 ghost use Rattle.std.specs.Prelude.{◌≡◌, ◌+◌, ◌^◌, ◌<◌, ◌≤◌, length, [], ◌∷◌, ◌++◌, map, OnOk, OnErr, slice_get};
-ghost use Rattle.ghc_records.specs.EntryCode.{entry_of};
+ghost use Rattle.ghc_records.specs.inner.EntryCode.{entry_of};
 
 use crate::entry::Entry;
 use std::alloc::{AllocError, Global};
@@ -21,8 +21,8 @@ impl Model for Journal {
     ghost use Rattle.std.specs.Prelude.{◌-◌, map, List, vec_len, vec_capacity};
     ghost use Rattle.ghc_term.specs.Table.{Table, table_code};
     ghost use Rattle.ghc_records.specs.Journal.{Entry};
-    ghost use Rattle.ghc_records.specs.EntryCode.{entry_of};
-    ghost use Rattle.ghc_records.specs.RecordCode.{journal_code};
+    ghost use Rattle.ghc_records.specs.inner.EntryCode.{entry_of};
+    ghost use Rattle.ghc_records.specs.inner.RecordCode.{journal_code};
 
     ghost Value = { Table (List Entry) };
 

@@ -1,6 +1,6 @@
 // Which steps made the variables of a list, and the users of these.
 ghost use Rattle.std.specs.Prelude.{◌≡◌, ◌↔◌, ◌⊎◌, ℕ, OnOk, Some};
-ghost use Rattle.ghc_records.specs.Slots.{held_in};
+ghost use Rattle.ghc_records.specs.inner.Slots.{held_in};
 ghost use Rattle.ghc_records.specs.UseIndex.{users_at, IsUser, CanTake, IsMakerOf, MadeOneOf};
 
 use crate::slots::Slots;

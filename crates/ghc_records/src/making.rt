@@ -2,7 +2,7 @@
 ghost use Rattle.std.specs.Prelude.{◌≡◌, ◌+◌, ◌<◌, ◌≤◌, length};
 ghost use Rattle.ghc_records.specs.Record.{with_makes, without_goal};
 ghost use Rattle.ghc_records.specs.State.{with_goal, without_makes};
-ghost use Rattle.ghc_records.specs.Handles.{goals_of};
+ghost use Rattle.ghc_records.specs.inner.Handles.{goals_of};
 
 use crate::handles::Handles;
 use ghc_fire::{Goals, MadeGoal};

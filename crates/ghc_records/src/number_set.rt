@@ -42,8 +42,8 @@ const _: () = prove!(size_of::<NumberSet>() <= 16);
 impl Model for NumberSet {
     ghost use Rattle.std.specs.Prelude.{ℕ, List};
     ghost use Rattle.ghc_term.specs.Table.{Table, table_code};
-    ghost use Rattle.ghc_records.specs.NumberSet.{numbers_of, room_of, HoldsEachOnce};
-    ghost use Rattle.ghc_records.specs.RecordCode.{numbers_code};
+    ghost use Rattle.ghc_records.specs.inner.NumberSet.{numbers_of, room_of, HoldsEachOnce};
+    ghost use Rattle.ghc_records.specs.inner.RecordCode.{numbers_code};
 
     ghost Value = { Table (List ℕ) };
 
@@ -90,7 +90,7 @@ fn put_tabled(table: &mut NameSet<u32>, number: u32)
 }
 
 impl Held {
-    ghost use Rattle.ghc_records.specs.NumberSet.{numbers_of, room_of, IsFew};
+    ghost use Rattle.ghc_records.specs.inner.NumberSet.{numbers_of, room_of, IsFew};
 
     // The allocator.
     fn allocator(&self) -> Global {

@@ -38,7 +38,7 @@ impl Drop for Parts {
 
 impl Model for Record {
     ghost use Rattle.ghc_records.specs.Record.{Record};
-    ghost use Rattle.ghc_records.specs.RecordCode.{record_code};
+    ghost use Rattle.ghc_records.specs.inner.RecordCode.{record_code};
 
     ghost Value = { Record };
 

@@ -22,9 +22,9 @@ pub struct Records {
 }
 
 impl Model for Records {
-    ghost use Rattle.ghc_records.specs.Slots.{held_in};
+    ghost use Rattle.ghc_records.specs.inner.Slots.{held_in};
     ghost use Rattle.ghc_records.specs.UseIndex.{RecordsTables, IsIndexOf};
-    ghost use Rattle.ghc_records.specs.RecordCode.{records_tables_code};
+    ghost use Rattle.ghc_records.specs.inner.RecordCode.{records_tables_code};
 
     ghost Value = { RecordsTables };
 
@@ -40,7 +40,7 @@ impl Records {
     ghost use Rattle.ghc_term.specs.Lists.{In};
     ghost use Rattle.ghc_records.specs.Record.{Record, numbers};
     ghost use Rattle.ghc_records.specs.Orders.{AreDistinct, Picks};
-    ghost use Rattle.ghc_records.specs.Slots.{held_in, StandsIn, HasNumberIn};
+    ghost use Rattle.ghc_records.specs.inner.Slots.{held_in, StandsIn, HasNumberIn};
 
     /// No records, which take no memory.
     pub fn new(alloc: Global) -> Records

@@ -27,7 +27,7 @@ impl Drop for Removal {
 impl Model for Removal {
     ghost use Rattle.std.specs.Prelude.{◌≡◌, length};
     ghost use Rattle.ghc_records.specs.Record.{Record};
-    ghost use Rattle.ghc_records.specs.RecordCode.{record_code};
+    ghost use Rattle.ghc_records.specs.inner.RecordCode.{record_code};
 
     ghost Value = { Record };
 

@@ -1,7 +1,7 @@
 // Numbers in ascending order: one more of them, or one less.
 ghost use Rattle.std.specs.Prelude.{◌≡◌, ◌≢◌, ◌↔◌, ◌⊎◌, ◌+◌, ◌<◌, ◌≤◌, ℕ, IsTrue, vec_len, vec_capacity};
 ghost use Rattle.ghc_term.specs.Lists.{In};
-ghost use Rattle.ghc_records.specs.NumberSet.{IsRising};
+ghost use Rattle.ghc_records.specs.inner.NumberSet.{IsRising};
 
 // The two numbers.
 pub(crate) fn rising_two(one: u32, other: u32) -> [u32; 2]

@@ -23,7 +23,7 @@ impl Model for Shelf {
     ghost use Rattle.indexmap.specs.IndexMap.{spare};
     ghost use Rattle.ghc_term.specs.Table.{Table, table_code};
     ghost use Rattle.ghc_records.specs.Record.{Shelf};
-    ghost use Rattle.ghc_records.specs.RecordCode.{shelf_code};
+    ghost use Rattle.ghc_records.specs.inner.RecordCode.{shelf_code};
 
     ghost Value = { Table Shelf };
 

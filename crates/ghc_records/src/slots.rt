@@ -4,7 +4,7 @@ ghost use Rattle.ghc_term.specs.Lists.{In};
 ghost use Rattle.std.specs.Option.{option_copied};
 ghost use Rattle.ghc_records.specs.Orders.{AreDistinct};
 ghost use Rattle.ghc_records.specs.Record.{Record as record_spec, numbers};
-ghost use Rattle.ghc_records.specs.Slots.{held_in, StandsIn, HasNumberIn, AreStraysOf};
+ghost use Rattle.ghc_records.specs.inner.Slots.{held_in, StandsIn, HasNumberIn, AreStraysOf};
 
 use crate::record::Record;
 use crate::strays::Strays;
@@ -28,8 +28,8 @@ impl Model for Slots {
     ghost use Rattle.ghc_term.specs.Table.{Table, table_code};
     ghost use Rattle.ghc_records.specs.Record.{numbers};
     ghost use Rattle.ghc_records.specs.Orders.{AreDistinct};
-    ghost use Rattle.ghc_records.specs.Slots.{SlotList, held_in, AreStraysOf};
-    ghost use Rattle.ghc_records.specs.RecordCode.{slots_code};
+    ghost use Rattle.ghc_records.specs.inner.Slots.{SlotList, held_in, AreStraysOf};
+    ghost use Rattle.ghc_records.specs.inner.RecordCode.{slots_code};
 
     ghost Value = { Table SlotList };
 

@@ -31,7 +31,7 @@ impl Drop for State {
 
 impl Model for State {
     ghost use Rattle.ghc_records.specs.State.{StateTables};
-    ghost use Rattle.ghc_records.specs.RecordCode.{tables_code};
+    ghost use Rattle.ghc_records.specs.inner.RecordCode.{tables_code};
 
     ghost Value = { StateTables };
 
@@ -58,7 +58,7 @@ impl State {
     ghost use Rattle.ghc_records.specs.Record.{after};
     ghost use Rattle.ghc_records.specs.Replay.{query_state};
     ghost use Rattle.ghc_records.specs.Journal.{took, step_of};
-    ghost use Rattle.ghc_records.specs.EntryCode.{entry_of};
+    ghost use Rattle.ghc_records.specs.inner.EntryCode.{entry_of};
     ghost use Rattle.ghc_records.specs.State.{HasRoomToTake, IsTakenBack};
 
     /// The state of a query before any step, of no more goals than a query may have. It costs a look-up for each goal, and

@@ -15,7 +15,7 @@ pub struct Step {
 
 impl Model for Step {
     ghost use Rattle.ghc_records.specs.Journal.{Step};
-    ghost use Rattle.ghc_records.specs.RecordCode.{step_code};
+    ghost use Rattle.ghc_records.specs.inner.RecordCode.{step_code};
 
     ghost Value = { Step };
 

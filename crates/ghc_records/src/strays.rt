@@ -1,7 +1,7 @@
 // The places of strays, the records that do not stand just below their numbers, in the order of their numbers.
 ghost use Rattle.std.specs.Prelude.{◌≡◌, ◌<◌, ◌≤◌, IsTrue, OnOk, Some, None};
 ghost use Rattle.std.specs.FinMap as finite;
-ghost use Rattle.ghc_records.specs.Slots.{IsChangedAt};
+ghost use Rattle.ghc_records.specs.inner.Slots.{IsChangedAt};
 
 use std::alloc::{AllocError, Global};
 use std::collections::BTreeMap;
@@ -21,8 +21,8 @@ impl Model for Strays {
     ghost use Rattle.std.specs.Prelude.{◌≡◌, false};
     ghost use Rattle.std.specs.FinMap as finite;
     ghost use Rattle.ghc_term.specs.Table.{Table, table_code};
-    ghost use Rattle.ghc_records.specs.Slots.{PlacesByNumber, places_of, room_beside};
-    ghost use Rattle.ghc_records.specs.RecordCode.{places_code};
+    ghost use Rattle.ghc_records.specs.inner.Slots.{PlacesByNumber, places_of, room_beside};
+    ghost use Rattle.ghc_records.specs.inner.RecordCode.{places_code};
 
     ghost Value = { Table PlacesByNumber };
 

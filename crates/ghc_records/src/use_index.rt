@@ -4,7 +4,7 @@ ghost use Rattle.std.specs.FinMap as finite;
 ghost use Rattle.ghc_term.specs.declared.var_name.VarName.{VarName};
 ghost use Rattle.ghc_term.specs.Store.{value_at};
 ghost use Rattle.ghc_records.specs.UseIndex.{users_at, IsUser, CanTake, BoundOneOf, MadeOneOf, Gave, step_named};
-ghost use Rattle.ghc_records.specs.Slots.{held_in};
+ghost use Rattle.ghc_records.specs.inner.Slots.{held_in};
 ghost use Rattle.ghc_fire.specs.Asked.{variables_asked};
 
 use crate::binders::Binders;
@@ -25,7 +25,7 @@ pub(crate) struct UseIndex {
 
 impl Model for UseIndex {
     ghost use Rattle.ghc_records.specs.UseIndex.{Index};
-    ghost use Rattle.ghc_records.specs.RecordCode.{index_code};
+    ghost use Rattle.ghc_records.specs.inner.RecordCode.{index_code};
 
     ghost Value = { Index };
 

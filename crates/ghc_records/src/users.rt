@@ -24,7 +24,7 @@ pub(crate) struct Users {
 
 impl Model for Users {
     ghost use Rattle.ghc_records.specs.UseIndex.{UsersByStep, users_in};
-    ghost use Rattle.ghc_records.specs.RecordCode.{users_code};
+    ghost use Rattle.ghc_records.specs.inner.RecordCode.{users_code};
 
     ghost Value = { UsersByStep };
 

@@ -1,8 +1,5 @@
-pub mod Logs
 pub mod Rule
 pub mod Passes
 pub mod Receipts
 pub mod Places
-pub mod Openings
-pub mod Calls
-pub mod ItemCode
+pub mod inner

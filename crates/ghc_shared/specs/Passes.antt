@@ -2,7 +2,7 @@
 use Rattle.std.specs.Prelude.{◌≡◌, ℕ, zero, suc, ◌++◌, ◌+◌, ◌<◌, ◌≤◌, List, [], ◌∷◌, length, drop}
 use Rattle.atomic_table.specs.Table.{Me}
 use Rattle.ghc_shared.specs.declared.knowledge.Knowledge.{Knowledge}
-use Rattle.ghc_shared.specs.Logs.{items_of, AllBy, ArePlacesBy}
+use Rattle.ghc_shared.specs.inner.Logs.{items_of, AllBy, ArePlacesBy}
 use Rattle.ghc_shared.specs.Rule.{keeper, front}
 
 -- a pass: its number, the front of the history that it has seen, and the places of its accepted calls

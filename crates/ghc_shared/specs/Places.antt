@@ -1,6 +1,6 @@
 -- The places of all passes together.
 use Rattle.std.specs.Prelude.{◌≡◌, ℕ, zero, suc, ◌+◌, ◌-◌, List, [], ◌∷◌, length}
-use Rattle.ghc_shared.specs.Logs.{ArePlacesBy}
+use Rattle.ghc_shared.specs.inner.Logs.{ArePlacesBy}
 use Rattle.ghc_shared.specs.Passes.{Known}
 
 -- what these numbers weigh together, each weighed by h

@@ -6,7 +6,7 @@ use lib.ListN.{get_elem?}
 use Rattle.std.specs.declared.snapshot.Snapshot.{Snapshot}
 use Rattle.atomic_table.specs.Table.{State, Me, Step}
 use Rattle.ghc_shared.specs.declared.knowledge.Knowledge.{Knowledge}
-use Rattle.ghc_shared.specs.Logs.{extended}
+use Rattle.ghc_shared.specs.inner.Logs.{extended}
 
 module _ {E : Type 0} where
   -- what the keeper knows: the whole log

@@ -23,7 +23,7 @@ pub struct HistoryItem {
 
 impl Model for HistoryItem {
     ghost use Rattle.ghc_records.specs.Journal.{Item, entered, undid};
-    ghost use Rattle.ghc_shared.specs.ItemCode.{item_code};
+    ghost use Rattle.ghc_shared.specs.inner.ItemCode.{item_code};
 
     ghost Value = { Item };
 

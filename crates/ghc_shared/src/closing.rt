@@ -2,7 +2,7 @@
 ghost use Rattle.std.specs.Prelude.{◌≡◌, ◌≤◌, ◌+◌, [], length, drop, All};
 ghost use Rattle.std.specs.List.Sorted.{IsStrictlyIncreasing};
 ghost use mathlib.Core.List.{IsPrefix};
-ghost use Rattle.ghc_shared.specs.Logs.{items_of, ArePlacesBy};
+ghost use Rattle.ghc_shared.specs.inner.Logs.{items_of, ArePlacesBy};
 ghost use Rattle.ghc_shared.specs.Rule.{keeper};
 ghost use Rattle.ghc_shared.specs.Passes.{AreAll};
 ghost use Rattle.ghc_shared.specs.Places.{AreAllByTheirs, AreEachOnce, places_since, weight_of_places};

@@ -9,7 +9,7 @@ ghost use Rattle.ghc_core.specs.Legal.{IsLegal, IsAnswered, Shows};
 ghost use Rattle.ghc_core.specs.CommandCode.{command_of};
 ghost use Rattle.ghc_shared.specs.declared.calls.Call.TheVariants.{Submit as submitted, Note as asked_note, Command as asked};
 ghost use Rattle.ghc_shared.specs.Receipts.{IsDecided};
-ghost use Rattle.ghc_shared.specs.Calls.{holding, hands_of, event_of, receipt_of, IsAnswerTo, IsToldOnFront, IsProposal};
+ghost use Rattle.ghc_shared.specs.inner.Calls.{holding, hands_of, event_of, receipt_of, IsAnswerTo, IsToldOnFront, IsProposal};
 
 use crate::calls::Call;
 use crate::naming::Naming;

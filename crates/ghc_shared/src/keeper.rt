@@ -1,7 +1,7 @@
 // The steps of the table that are made under the lock.
 ghost use Rattle.std.specs.Prelude.{◌≡◌, [], true, length};
 ghost use mathlib.Core.List.{IsPrefix};
-ghost use Rattle.ghc_shared.specs.Logs.{extended};
+ghost use Rattle.ghc_shared.specs.inner.Logs.{extended};
 ghost use Rattle.ghc_shared.specs.Rule.{keeper, front};
 
 use crate::growing::Growing;

@@ -35,7 +35,7 @@ pub struct HistoryRule<C> {
 }
 
 impl<C: Growing> TableRule<Announced<C>, Knowledge<C::Item>, Snapshot<C>> for HistoryRule<C> {
-    ghost use Rattle.ghc_shared.specs.Logs.{opening_log};
+    ghost use Rattle.ghc_shared.specs.inner.Logs.{opening_log};
     ghost use Rattle.ghc_shared.specs.Rule.{IsOneLog, keeper};
 
     ghost holds = { λ key s. IsOneLog s };

@@ -24,7 +24,7 @@ pub trait Naming: Ledger {
 
 impl Naming for Brand {
     ghost use base.Stored.{gnil};
-    ghost use Rattle.ghc_shared.specs.Openings.{no_table};
+    ghost use Rattle.ghc_shared.specs.inner.Openings.{no_table};
 
     ghost table = { no_table };
 

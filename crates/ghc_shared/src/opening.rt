@@ -1,6 +1,6 @@
 // How the sharing begins.
 ghost use Rattle.std.specs.Prelude.{◌≡◌, ◌<◌, ◌+◌, [], length, IfOk, IfErr};
-ghost use Rattle.ghc_shared.specs.Logs.{opening_log};
+ghost use Rattle.ghc_shared.specs.inner.Logs.{opening_log};
 ghost use Rattle.ghc_shared.specs.Rule.{keeper};
 ghost use Rattle.ghc_shared.specs.Passes.{newcomers, AreAll};
 
@@ -30,9 +30,9 @@ pub struct Opening<C: Growing> {
 
 impl<C: Growing> Model for Opening<C> {
     ghost use Rattle.std.specs.Prelude.{◌≡◌, ◌+◌, []};
-    ghost use Rattle.ghc_shared.specs.Logs.{opening_log};
+    ghost use Rattle.ghc_shared.specs.inner.Logs.{opening_log};
     ghost use Rattle.ghc_shared.specs.Rule.{keeper};
-    ghost use Rattle.ghc_shared.specs.Openings.{Offer};
+    ghost use Rattle.ghc_shared.specs.inner.Openings.{Offer};
 
     ghost Value = { Offer C };
 

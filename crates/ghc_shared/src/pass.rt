@@ -21,7 +21,7 @@ pub struct Pass<C: Growing, N: Naming> {
 
 impl<C: Growing, N: Naming> Model for Pass<C, N> {
     ghost use Rattle.std.specs.Prelude.{◌≡◌};
-    ghost use Rattle.ghc_shared.specs.Logs.{items_of};
+    ghost use Rattle.ghc_shared.specs.inner.Logs.{items_of};
     ghost use Rattle.ghc_shared.specs.Passes.{Known, IsPass};
 
     ghost Value = { Known C.Item };

@@ -5,7 +5,7 @@ ghost use Rattle.ghc_core.specs.Answers.{Answers};
 ghost use Rattle.ghc_core.specs.EventCode.{reply_of};
 ghost use Rattle.ghc_core.specs.Legal.{IsLegal};
 ghost use Rattle.ghc_core.specs.World.{Hands};
-ghost use Rattle.ghc_shared.specs.Calls.{hands_of, event_of, CallDoes, IsToldAnyway, IsAnswerTo, code_of};
+ghost use Rattle.ghc_shared.specs.inner.Calls.{hands_of, event_of, CallDoes, IsToldAnyway, IsAnswerTo, code_of};
 
 use crate::calls::{Call, HistoryItem};
 use crate::growing::Growing;

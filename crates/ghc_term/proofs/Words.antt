@@ -1,33 +1,33 @@
 -- The words of other crates and of the definitions that the proofs cite, from one place.
 pub use Rattle.ghc_term.specs.Answered.{AnsweredUnless, IsExactUnless}
-pub use Rattle.ghc_term.specs.BindingList.{in_order}
-pub use Rattle.ghc_term.specs.BindingTable.{AreOnce, Entries, map_of}
+pub use Rattle.ghc_term.specs.inner.BindingList.{in_order}
+pub use Rattle.ghc_term.specs.inner.BindingTable.{AreOnce, Entries, map_of}
 pub use Rattle.ghc_term.specs.Bindings.{IsAcyclic, Leads, Reaches, along, at_free, at_integer, at_node, here, name_cmp, through, with_binding}
-pub use Rattle.ghc_term.specs.Code.{var_inj}
-pub use Rattle.ghc_term.specs.Equality.{Adds, AreAlike, Compared, IsAlike, IsWithin, all_left_nodes, left_nodes}
-pub use Rattle.ghc_term.specs.ExpressionView.{depth_of, expression_of}
+pub use Rattle.ghc_term.specs.inner.Code.{var_inj}
+pub use Rattle.ghc_term.specs.inner.Equality.{Adds, AreAlike, Compared, IsAlike, IsWithin, all_left_nodes, left_nodes}
+pub use Rattle.ghc_term.specs.inner.ExpressionView.{depth_of, expression_of}
 pub use Rattle.ghc_term.specs.Goal.{Goal, call}
 pub use Rattle.ghc_term.specs.GoalMap.{ArePlaces, goal_cmp, names_of, values_by}
-pub use Rattle.ghc_term.specs.GoalPlaces.{HasNoNear, HasSameNumbers, IsNear, near_name, near_numbers, number_at, number_in, numbers_in, numbers_of}
-pub use Rattle.ghc_term.specs.GoalShape.{call_of, goal_of}
+pub use Rattle.ghc_term.specs.inner.GoalPlaces.{HasNoNear, HasSameNumbers, IsNear, near_name, near_numbers, number_at, number_in, numbers_in, numbers_of}
+pub use Rattle.ghc_term.specs.inner.GoalShape.{call_of, goal_of}
 pub use Rattle.ghc_term.specs.GoalText.{IsGoalTextOf, expression_text_by, goal_text, goal_text_by, operand}
 pub use Rattle.ghc_term.specs.InputTerm.{AllInGrammar, IsHead, IsInGrammar, IsInputTerm, IsNameText, arguments_nesting, cell_nesting, deepest, is_name_byte, most_open, nesting, nodes, nodes_of_all, open_behind, rest_nesting}
-pub use Rattle.ghc_term.specs.Known.{AreKnown, AreKnownBut}
+pub use Rattle.ghc_term.specs.inner.Known.{AreKnown, AreKnownBut}
 pub use Rattle.ghc_term.specs.Lists.{In}
-pub use Rattle.ghc_term.specs.Measure.{Enters, HasRoom, Leaves, MeasuredAll, MeasuredAt, bytes_at, bytes_of_all, last_place, marks_at, nesting_at, opened_at, own_bytes, own_nesting}
-pub use Rattle.ghc_term.specs.Overlay.{value_in}
-pub use Rattle.ghc_term.specs.Pieces.{Advances, IsLeaf, IsMeasure, arguments_size, expression_size, piece_size, piece_text, pieces_size, pieces_text, term_size, total}
+pub use Rattle.ghc_term.specs.inner.Measure.{Enters, HasRoom, Leaves, MeasuredAll, MeasuredAt, bytes_at, bytes_of_all, last_place, marks_at, nesting_at, opened_at, own_bytes, own_nesting}
+pub use Rattle.ghc_term.specs.inner.Overlay.{value_in}
+pub use Rattle.ghc_term.specs.inner.Pieces.{Advances, IsLeaf, IsMeasure, arguments_size, expression_size, piece_size, piece_text, pieces_size, pieces_text, term_size, total}
 pub use Rattle.ghc_term.specs.Resolved.{IsResolution, IsTextOf, Resolves, ResolvesAll, a_node, all_resolved, an_integer, bound, no_more, one_more, unbound}
-pub use Rattle.ghc_term.specs.Seen.{Sees, value_list}
+pub use Rattle.ghc_term.specs.inner.Seen.{Sees, value_list}
 pub use Rattle.ghc_term.specs.Sets.{IsSetOf, Variables}
-pub use Rattle.ghc_term.specs.Shown.{HasArgument, shown}
+pub use Rattle.ghc_term.specs.inner.Shown.{HasArgument, shown}
 pub use Rattle.ghc_term.specs.Store.{StoreValue, value_at, with_bindings, with_binds}
 pub use Rattle.ghc_term.specs.Table.{Table}
 pub use Rattle.ghc_term.specs.Text.{IsNoCell, arguments_text, barred, cell_text, further_text, is_cell, is_nil, rest_text, term_text, variable_text}
 pub use Rattle.ghc_term.specs.Tree.{AreClosed, IsClosed, Occurs, OccursIn, Tree, Trees, atom, cons, integer, list_of, more, nil, node, none, trees, variable}
-pub use Rattle.ghc_term.specs.VariableList.{AreDifferent, is_same}
-pub use Rattle.ghc_term.specs.VariableMap.{HasNoFirsts, HasSameValues, first_at, first_of, first_variables, values_in, values_of}
-pub use Rattle.ghc_term.specs.View.{IsWellMade, closed_of, height, height_of_all, items_of, tree_of}
+pub use Rattle.ghc_term.specs.inner.VariableList.{AreDifferent, is_same}
+pub use Rattle.ghc_term.specs.inner.VariableMap.{HasNoFirsts, HasSameValues, first_at, first_of, first_variables, values_in, values_of}
+pub use Rattle.ghc_term.specs.inner.View.{IsWellMade, closed_of, height, height_of_all, items_of, tree_of}
 pub use Rattle.ghc_term.specs.declared.equality.Pair.{Pair}
 pub use Rattle.ghc_term.specs.declared.equality.Pair.TheVariants.{Terms}
 pub use Rattle.ghc_term.specs.declared.fault.Fault.TheVariants.{Limit}

@@ -6,7 +6,7 @@ use Rattle.std.specs.Coded.{Coded}
 use Rattle.ghc_term.specs.declared.var_name.VarName.{VarName}
 use Rattle.ghc_term.specs.Tree.{Tree}
 use Rattle.ghc_term.specs.Bindings.{name_cmp}
-use Rattle.ghc_term.specs.Code.{tree_code, name_code}
+use Rattle.ghc_term.specs.inner.Code.{tree_code, name_code}
 
 -- A store is a finite map from variables to trees.
 abbrev pub StoreValue : Type 0

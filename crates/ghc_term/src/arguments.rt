@@ -1,6 +1,6 @@
 // The arguments of a structure.
 ghost use Rattle.std.specs.Prelude.{◌≡◌, [], ◌∷◌};
-ghost use Rattle.ghc_term.specs.View.{items_of, closed_of, KnowsClosed};
+ghost use Rattle.ghc_term.specs.inner.View.{items_of, closed_of, KnowsClosed};
 
 use crate::term::{Term, are_closed};
 

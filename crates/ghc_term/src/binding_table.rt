@@ -2,7 +2,7 @@
 ghost use Rattle.std.specs.Prelude.{◌≡◌, IfOk, OnOk, OnErr, option_copied};
 ghost use Rattle.std.specs.FinMap as finite;
 ghost use Rattle.std.specs.Map.{keys_of};
-ghost use Rattle.ghc_term.specs.BindingTable.{AreOnce, map_of};
+ghost use Rattle.ghc_term.specs.inner.BindingTable.{AreOnce, map_of};
 ghost use Rattle.ghc_term.specs.Store.{value_at};
 
 use crate::entry_list::share_entries;
@@ -22,7 +22,7 @@ pub struct BindingTable {
 impl Model for BindingTable {
     ghost use Rattle.std.specs.Prelude.{◌≡◌};
     ghost use Rattle.std.specs.Map.{keys_of};
-    ghost use Rattle.ghc_term.specs.BindingTable.{Entries, entries_code};
+    ghost use Rattle.ghc_term.specs.inner.BindingTable.{Entries, entries_code};
 
     ghost Value = { Entries };
 

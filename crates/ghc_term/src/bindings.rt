@@ -1,7 +1,7 @@
 // What a step binds.
 ghost use Rattle.std.specs.Prelude.{◌≡◌, ◌≤◌, ◌↔◌, [], ◌∷◌, length, IfOk, IsTrue, OnOk, OnErr, option_copied, Some, None};
 ghost use Rattle.std.specs.FinMap as finite;
-ghost use Rattle.ghc_term.specs.BindingTable.{AreOnce, map_of};
+ghost use Rattle.ghc_term.specs.inner.BindingTable.{AreOnce, map_of};
 ghost use Rattle.ghc_term.specs.Store.{value_at, with_binds};
 
 use crate::binding_table::{BindingTable, tabled};
@@ -42,8 +42,8 @@ impl Drop for Held {
 
 impl Model for Bindings {
     ghost use Rattle.ghc_term.specs.Store.{StoreValue, store_code};
-    ghost use Rattle.ghc_term.specs.BindingList.{in_order};
-    ghost use Rattle.ghc_term.specs.BindingTable.{AreOnce, map_of};
+    ghost use Rattle.ghc_term.specs.inner.BindingList.{in_order};
+    ghost use Rattle.ghc_term.specs.inner.BindingTable.{AreOnce, map_of};
 
     ghost Value = { StoreValue };
 
@@ -96,7 +96,7 @@ fn push_new(list: &mut Vec<(VarName, Term)>, x: VarName, value: Term) -> Result<
 }
 
 impl Held {
-    ghost use Rattle.ghc_term.specs.BindingList.{in_order};
+    ghost use Rattle.ghc_term.specs.inner.BindingList.{in_order};
 
     // The bindings.
     fn entries(&self) -> &[(VarName, Term)]
@@ -138,7 +138,7 @@ impl Held {
 }
 
 impl Bindings {
-    ghost use Rattle.ghc_term.specs.Equality.{IsWithin};
+    ghost use Rattle.ghc_term.specs.inner.Equality.{IsWithin};
 
     /// No bindings, which take no memory.
     pub fn new(alloc: Global) -> Bindings

@@ -1,7 +1,7 @@
 // Lists of variables, each with the term to which it is bound.
 ghost use Rattle.std.specs.Prelude.{◌≡◌, ◌≢◌, ◌≤◌, length, IfOk, IfSome, IfNone, Some, All, option_copied, slice_get};
 ghost use Rattle.std.specs.Map.{keys_of};
-ghost use Rattle.ghc_term.specs.BindingTable.{map_of};
+ghost use Rattle.ghc_term.specs.inner.BindingTable.{map_of};
 ghost use Rattle.ghc_term.specs.Store.{value_at, with_binds};
 
 use crate::term::Term;

@@ -3,7 +3,7 @@
 ghost use Rattle.std.specs.Prelude.{◌≡◌, ◌↔◌, suc, length, IfOk, OnOk, IsTrue};
 ghost use Rattle.ghc_term.specs.Tree.{variable, integer, atom, trees};
 ghost use Rattle.ghc_term.specs.InputTerm.{nodes, nodes_of_all};
-ghost use Rattle.ghc_term.specs.Equality.{AreAlike, IsAlike, Compared, Adds, left_nodes, expression_nodes, goal_nodes};
+ghost use Rattle.ghc_term.specs.inner.Equality.{AreAlike, IsAlike, Compared, Adds, left_nodes, expression_nodes, goal_nodes};
 
 use crate::expr::Expr;
 use crate::expr_view::ExprView;

@@ -31,25 +31,25 @@ struct Operation {
 
 impl Model for Expr {
     ghost use Rattle.ghc_term.specs.Expression.{Expression};
-    ghost use Rattle.ghc_term.specs.GoalCode.{expression_code};
+    ghost use Rattle.ghc_term.specs.inner.GoalCode.{expression_code};
 
     ghost Value = { Expression };
 
     ghost coded = { expression_code };
 
-    ghost use Rattle.ghc_term.specs.ExpressionView.{expression_of, depth_of};
+    ghost use Rattle.ghc_term.specs.inner.ExpressionView.{expression_of, depth_of};
 
     ghost view = { λ e. expression_of e.shape };
 
     ghost size = { depth_of };
 
-    ghost use Rattle.ghc_term.specs.ExpressionFalls.{deep_falls};
+    ghost use Rattle.ghc_term.specs.inner.ExpressionFalls.{deep_falls};
 
     ghost size_decreases = { λ e h. deep_falls e.shape };
 }
 
 impl Expr {
-    ghost use Rattle.ghc_term.specs.ExpressionShown.{shown};
+    ghost use Rattle.ghc_term.specs.inner.ExpressionShown.{shown};
 
     /// A leaf, which is a term as written.
     pub fn leaf(term: Term) -> Expr

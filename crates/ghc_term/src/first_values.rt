@@ -1,6 +1,6 @@
 // The values under the first variables of steps: a list by step.
 ghost use Rattle.std.specs.Prelude.{◌≡◌, ◌<◌, None, Some, length, slice_set, option_copied};
-ghost use Rattle.ghc_term.specs.VariableMap.{first_at, HasSameValues};
+ghost use Rattle.ghc_term.specs.inner.VariableMap.{first_at, HasSameValues};
 
 use std::alloc::AllocError;
 

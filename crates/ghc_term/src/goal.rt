@@ -1,7 +1,7 @@
 // Goals: calls, unifications, assignments and streams.
 ghost use Rattle.std.specs.Prelude.{◌≡◌, ◌≢◌, ℕ, List, IfOk, IfSome, IfNone};
 ghost use Rattle.ghc_term.specs.Goal.{call, unify, assign, stream};
-ghost use Rattle.ghc_term.specs.GoalShape.{IsCall, call_of};
+ghost use Rattle.ghc_term.specs.inner.GoalShape.{IsCall, call_of};
 ghost use Rattle.ghc_term.specs.Tree.{Tree};
 
 use crate::expr::Expr;
@@ -29,13 +29,13 @@ enum Shape {
 
 impl Model for Goal {
     ghost use Rattle.ghc_term.specs.Goal.{Goal};
-    ghost use Rattle.ghc_term.specs.GoalCode.{goal_code};
+    ghost use Rattle.ghc_term.specs.inner.GoalCode.{goal_code};
 
     ghost Value = { Goal };
 
     ghost coded = { goal_code };
 
-    ghost use Rattle.ghc_term.specs.GoalShape.{goal_of, IsCallShape};
+    ghost use Rattle.ghc_term.specs.inner.GoalShape.{goal_of, IsCallShape};
 
     ghost view = { λ g. goal_of g.shape };
 
@@ -43,7 +43,7 @@ impl Model for Goal {
 }
 
 impl Goal {
-    ghost use Rattle.ghc_term.specs.GoalShown.{shown};
+    ghost use Rattle.ghc_term.specs.inner.GoalShown.{shown};
 
     /// A call; without arguments it is held as an atom.
     pub fn call(alloc: Global, name: Name, arguments: Vec<Term>) -> Result<Goal, AllocError>

@@ -2,7 +2,7 @@
 ghost use Rattle.std.specs.Prelude.{◌≡◌, ◌≤◌, ◌+◌, ◌<◌, ◌^◌, IsTrue, OnOk};
 ghost use Rattle.std.specs.FinMap as finite;
 ghost use Rattle.indexmap.specs.IndexMap.{spare};
-ghost use Rattle.ghc_term.specs.GoalPlaces.{numbers_in};
+ghost use Rattle.ghc_term.specs.inner.GoalPlaces.{numbers_in};
 
 use crate::goal_name::GoalName;
 use crate::name_hasher::NameMap;
@@ -32,7 +32,7 @@ impl Model for GoalPlaces {
     ghost use Rattle.std.specs.FinMap as finite;
     ghost use Rattle.indexmap.specs.IndexMap.{spare};
     ghost use Rattle.ghc_term.specs.GoalMap.{goal_cmp, goal_name_code};
-    ghost use Rattle.ghc_term.specs.GoalPlaces.{numbers_of, HasNoNear};
+    ghost use Rattle.ghc_term.specs.inner.GoalPlaces.{numbers_of, HasNoNear};
     ghost use Rattle.ghc_term.specs.Table.{Table, table_code};
 
     ghost Value = { Table (finite.FinMap goal_cmp ℕ) };

@@ -15,7 +15,7 @@ pub struct Ground {
 
 impl Model for Ground {
     ghost use Rattle.ghc_term.specs.Tree.{Tree};
-    ghost use Rattle.ghc_term.specs.Code.{tree_code};
+    ghost use Rattle.ghc_term.specs.inner.Code.{tree_code};
     ghost use Rattle.ghc_term.specs.InputTerm.{IsInputTerm};
 
     ghost Value = { Tree };

@@ -4,7 +4,7 @@ ghost use Rattle.ghc_term.specs.Tree.{integer, atom, trees};
 ghost use Rattle.std.specs.List.{list_all};
 ghost use Rattle.ghc_term.specs.Text.{is_cell};
 ghost use Rattle.ghc_term.specs.InputTerm.{is_name_byte, IsNameText, IsInputTerm};
-ghost use Rattle.ghc_term.specs.Measure.{MeasuredAt, MeasuredAll, Entered};
+ghost use Rattle.ghc_term.specs.inner.Measure.{MeasuredAt, MeasuredAll, Entered};
 
 use crate::name::Name;
 use crate::term::Term;
@@ -34,7 +34,7 @@ struct Inside {
 }
 
 impl Place {
-    ghost use Rattle.ghc_term.specs.Measure.{marks_at, opened_at};
+    ghost use Rattle.ghc_term.specs.inner.Measure.{marks_at, opened_at};
 
     // The bar and the closing bracket around a rest that is no list.
     fn marks(self) -> usize

@@ -1,6 +1,6 @@
 // The hashes of names and numbers: spread so that no run of them, and no steps from one to the next, crowd one place of a table.
 ghost use Rattle.std.specs.Prelude.{◌≡◌};
-ghost use Rattle.ghc_term.specs.NameHash.{number_of, hash_of};
+ghost use Rattle.ghc_term.specs.inner.NameHash.{number_of, hash_of};
 
 use indexmap::{IndexMap, IndexSet};
 use std::hash::{BuildHasherDefault, Hasher};
@@ -23,7 +23,7 @@ pub struct NameHasher {
 
 impl Default for NameHasher {
     ghost use Rattle.std.specs.Prelude.{◌≡◌};
-    ghost use Rattle.ghc_term.specs.NameHash.{unwritten};
+    ghost use Rattle.ghc_term.specs.inner.NameHash.{unwritten};
 
     ghost is_default = { λ h. h ≡ unwritten };
 
@@ -33,7 +33,7 @@ impl Default for NameHasher {
 }
 
 impl Hasher for NameHasher {
-    ghost use Rattle.ghc_term.specs.NameHash.{written, finished};
+    ghost use Rattle.ghc_term.specs.inner.NameHash.{written, finished};
 
     ghost write = { written };
 

@@ -1,6 +1,6 @@
 // The numbers of the first two goals of steps: a list with two places for each step.
 ghost use Rattle.std.specs.Prelude.{◌≡◌, ◌<◌, ◌+◌, ◌^◌, length, slice_set, IfSome, IfNone};
-ghost use Rattle.ghc_term.specs.GoalPlaces.{near_name, IsNear, number_at, HasSameNumbers};
+ghost use Rattle.ghc_term.specs.inner.GoalPlaces.{near_name, IsNear, number_at, HasSameNumbers};
 
 use crate::goal_name::GoalName;
 use std::alloc::AllocError;

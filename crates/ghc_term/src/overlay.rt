@@ -1,7 +1,7 @@
 // A store with some bindings in front of it.
 ghost use Rattle.std.specs.Prelude.{◌≡◌, ◌↔◌, [], ◌++◌, map, IfOk, OnOk, IsTrue, option_copied};
 ghost use Rattle.ghc_term.specs.Bindings.{IsAcyclic, Leads, Reaches};
-ghost use Rattle.ghc_term.specs.Known.{AreKnown, AreKnownBut};
+ghost use Rattle.ghc_term.specs.inner.Known.{AreKnown, AreKnownBut};
 ghost use Rattle.ghc_term.specs.Store.{value_at, with_bindings};
 
 use crate::bindings::Bindings;
@@ -56,8 +56,8 @@ pub fn push_all<'a>(terms: &'a [Term], waiting: &mut Vec<&'a Term>) -> Result<()
 }
 
 impl<'a> Overlay<'a> {
-    ghost use Rattle.ghc_term.specs.Overlay.{value_in};
-    ghost use Rattle.ghc_term.specs.Seen.{Sees, value_list};
+    ghost use Rattle.ghc_term.specs.inner.Overlay.{value_in};
+    ghost use Rattle.ghc_term.specs.inner.Seen.{Sees, value_list};
 
     /// What the variable is bound to, in front or else in the store: two look-ups at most.
     pub fn get(&self, x: VarName) -> Option<&'a Term>

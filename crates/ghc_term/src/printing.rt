@@ -7,7 +7,7 @@ ghost use Rattle.ghc_term.specs.Tree.{Tree};
 ghost use Rattle.ghc_term.specs.Text.{term_text};
 ghost use Rattle.ghc_term.specs.GoalText.{goal_text, IsGoalTextOf};
 ghost use Rattle.ghc_term.specs.Resolved.{IsTextOf, IsResolution};
-ghost use Rattle.ghc_term.specs.Pieces.{pieces_text};
+ghost use Rattle.ghc_term.specs.inner.Pieces.{pieces_text};
 
 mod expressions;
 mod goals;

@@ -27,7 +27,7 @@ impl Model for Store {
     ghost use Rattle.ghc_term.specs.Store.{StoreValue, store_code, value_at};
     ghost use Rattle.ghc_term.specs.Table.{Table, table_code};
     ghost use Rattle.ghc_term.specs.Bindings.{IsAcyclic};
-    ghost use Rattle.ghc_term.specs.Known.{AreKnown};
+    ghost use Rattle.ghc_term.specs.inner.Known.{AreKnown};
 
     ghost Value = { Table StoreValue };
 
@@ -43,7 +43,7 @@ impl Store {
     ghost use Rattle.ghc_term.specs.Store.{value_at};
     ghost use Rattle.ghc_term.specs.Tree.{Tree, variable};
     ghost use Rattle.ghc_term.specs.Bindings.{IsAcyclic, Leads, Reaches};
-    ghost use Rattle.ghc_term.specs.Known.{AreKnown, AreKnownBut};
+    ghost use Rattle.ghc_term.specs.inner.Known.{AreKnown, AreKnownBut};
     ghost use Rattle.ghc_term.specs.declared.var_name.VarName.{VarName};
 
     /// A store without bindings, which takes no memory.

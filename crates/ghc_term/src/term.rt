@@ -1,7 +1,7 @@
 // Terms: trees whose inner parts are shared.
 ghost use Rattle.std.specs.Prelude.{◌≡◌, ◌≢◌, ◌↔◌, [], ◌∷◌, IfOk, IsTrue};
 ghost use Rattle.ghc_term.specs.Tree.{variable, integer, atom, node, trees, IsClosed, AreClosed};
-ghost use Rattle.ghc_term.specs.View.{items_of, KnowsClosed};
+ghost use Rattle.ghc_term.specs.inner.View.{items_of, KnowsClosed};
 
 use crate::arguments::{Arguments, give_up, parts_of_three, parts_of_two};
 use crate::name::Name;
@@ -34,13 +34,13 @@ struct Structure {
 
 impl Model for Term {
     ghost use Rattle.ghc_term.specs.Tree.{Tree};
-    ghost use Rattle.ghc_term.specs.Code.{tree_code};
+    ghost use Rattle.ghc_term.specs.inner.Code.{tree_code};
 
     ghost Value = { Tree };
 
     ghost coded = { tree_code };
 
-    ghost use Rattle.ghc_term.specs.View.{tree_of, height, IsWellMade};
+    ghost use Rattle.ghc_term.specs.inner.View.{tree_of, height, IsWellMade};
 
     ghost view = { λ a. tree_of a.shape };
 
@@ -48,13 +48,13 @@ impl Model for Term {
 
     ghost size = { height };
 
-    ghost use Rattle.ghc_term.specs.Falls.{deep_height};
+    ghost use Rattle.ghc_term.specs.inner.Falls.{deep_height};
 
     ghost size_decreases = { λ a h. deep_height a.shape };
 }
 
 impl Term {
-    ghost use Rattle.ghc_term.specs.Shown.{shown, HasArgument};
+    ghost use Rattle.ghc_term.specs.inner.Shown.{shown, HasArgument};
 
     /// A variable.
     pub fn variable(x: VarName) -> Term

@@ -1,7 +1,7 @@
 // Distinct variables in the order in which they came.
 ghost use Rattle.std.specs.Prelude.{◌≡◌, ◌≢◌, [], ◌∷◌, ◌++◌, IfOk, IfSome, IfNone, OnOk, OnErr, Some, All, slice_get};
 ghost use Rattle.ghc_term.specs.Lists.{In};
-ghost use Rattle.ghc_term.specs.VariableList.{AreDifferent};
+ghost use Rattle.ghc_term.specs.inner.VariableList.{AreDifferent};
 
 use crate::var_name::VarName;
 use indexmap::IndexSet;
@@ -31,7 +31,7 @@ enum Held {
 impl Model for VariableList {
     ghost use Rattle.std.specs.Prelude.{List};
     ghost use Rattle.ghc_term.specs.declared.var_name.VarName.{VarName};
-    ghost use Rattle.ghc_term.specs.VariableList.{variable_list_code, in_order, AreDifferent};
+    ghost use Rattle.ghc_term.specs.inner.VariableList.{variable_list_code, in_order, AreDifferent};
 
     ghost Value = { List VarName };
 
@@ -68,7 +68,7 @@ fn listed(alloc: Global, three: &[VarName], fourth: VarName) -> Result<Vec<VarNa
 }
 
 impl Held {
-    ghost use Rattle.ghc_term.specs.VariableList.{in_order};
+    ghost use Rattle.ghc_term.specs.inner.VariableList.{in_order};
 
     // The allocator.
     fn allocator(&self) -> Global {

@@ -2,7 +2,7 @@
 ghost use Rattle.std.specs.Prelude.{◌≡◌, ◌≤◌, ◌+◌, ◌<◌, option_copied, OnOk};
 ghost use Rattle.std.specs.FinMap as finite;
 ghost use Rattle.indexmap.specs.IndexMap.{spare};
-ghost use Rattle.ghc_term.specs.VariableMap.{values_in};
+ghost use Rattle.ghc_term.specs.inner.VariableMap.{values_in};
 
 use crate::first_values::{first, grow, put_first, take_first};
 use crate::name_hasher::NameMap;
@@ -31,9 +31,9 @@ impl<V> Model for VariableMap<V> {
     ghost use Rattle.std.specs.FinMap as finite;
     ghost use Rattle.indexmap.specs.IndexMap.{spare};
     ghost use Rattle.ghc_term.specs.Bindings.{name_cmp};
-    ghost use Rattle.ghc_term.specs.Code.{name_code};
+    ghost use Rattle.ghc_term.specs.inner.Code.{name_code};
     ghost use Rattle.ghc_term.specs.Table.{Table, table_code};
-    ghost use Rattle.ghc_term.specs.VariableMap.{values_of, HasNoFirsts};
+    ghost use Rattle.ghc_term.specs.inner.VariableMap.{values_of, HasNoFirsts};
 
     ghost Value = { Table (finite.FinMap name_cmp V) };
 

@@ -13,7 +13,7 @@ pub struct Variables {
 
 impl Model for Variables {
     ghost use Rattle.ghc_term.specs.Bindings.{name_cmp};
-    ghost use Rattle.ghc_term.specs.Code.{name_code};
+    ghost use Rattle.ghc_term.specs.inner.Code.{name_code};
     ghost use Rattle.std.specs.FinSet as set;
 
     ghost Value = { set.FinSet name_cmp };

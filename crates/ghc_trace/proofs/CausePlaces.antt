@@ -2,7 +2,7 @@
 use Rattle.ghc_trace.proofs.Words.{◌≡◌, ℕ, ◌<◌, ◌⊎◌, Result, Ok, Err, OnOk, List, [], ◌∷◌, ◌++◌, refl, sym, ap, ◌∙◌, subst, inl, inr, arith, ◌↔◌, Option, Some, None, nat_cmp, insert_key, VarName, GoalName, In, in_left, in_last, in_more, has_member, is_member, AreDistinct, Record, numbers, SlotList, held_in, StandsIn, HasNumberIn, variables_asked, Uses, once_of, stands_held, in_inserted}
 use Rattle.std.specs.FinSet as set
 use Rattle.ghc_records.specs.Uses.{Binds, MakesGoal, MakesVariable}
-use Rattle.ghc_depend.specs.Sources.{IsPlaceOfOne}
+use Rattle.ghc_depend.specs.inner.Sources.{IsPlaceOfOne}
 use Rattle.ghc_trace.specs.Causes.{IsInFront, HasInFront, HasNumbered}
 
 -- a place more, if it is in front of the other

@@ -9,7 +9,7 @@ use Rattle.ghc_records.specs.Orders.{take as taken}
 use Rattle.ghc_records.specs.Uses.{Binds, MakesVariable}
 use Rattle.ghc_depend.proofs.Finding.{ends}
 use Rattle.ghc_depend.proofs.Picking.{pick}
-use Rattle.ghc_depend.specs.Sources.{IsPlaceOfOne}
+use Rattle.ghc_depend.specs.inner.Sources.{IsPlaceOfOne}
 use Rattle.ghc_depend.specs.Slices.{IsCauseOf, root, cause, Gave}
 use Rattle.ghc_trace.specs.Causes.{IsNumbered, IsSliceTold, IsToldSliceOf}
 

@@ -19,7 +19,7 @@ use Rattle.ghc_depend.proofs.Finding.{by_option, not_both}
 use Rattle.ghc_depend.proofs.Undoing.{rolled}
 use Rattle.ghc_depend.specs.Kept.{IsSplitAt}
 use Rattle.ghc_trace.specs.OtherClauses.{SaysYesTo, CouldBe, AreOtherClauses}
-use Rattle.ghc_trace.specs.OtherClausesCode.{OneRestsOn, AcceptsWithout}
+use Rattle.ghc_trace.specs.inner.OtherClausesCode.{OneRestsOn, AcceptsWithout}
 
 -- what an accepting clause looks at is bound
 looked_bound : (c : Clause) (ts : List Tree) (S : VarName → Option Tree) (x : VarName) → Accepts c ts S → LooksAt c ts S x → (t : Tree) × (S x ≡ Some t)

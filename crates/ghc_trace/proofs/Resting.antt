@@ -6,7 +6,7 @@ use Rattle.ghc_records.proofs.SlotPlaces.{one_record}
 use Rattle.ghc_depend.proofs.Finding.{ends}
 use Rattle.ghc_depend.specs.Depend.{Follows, directly, further, GoesWith}
 use Rattle.ghc_trace.specs.Causes.{HasInFront}
-use Rattle.ghc_trace.specs.OtherClausesCode.{OneRestsOn}
+use Rattle.ghc_trace.specs.inner.OtherClausesCode.{OneRestsOn}
 use Rattle.ghc_trace.proofs.CausePlaces.{OfOne}
 use Rattle.ghc_trace.proofs.Slicing.{stands_within, precedes_there, in_front_of}
 

@@ -25,7 +25,7 @@ pub use Rattle.ghc_fire.specs.Asked.{variables_asked}
 pub use Rattle.ghc_fire.specs.Attempt.{Answer, AssignmentAnswers, Attempts, CallAnswers, UnificationAnswers, proposes, refused}
 pub use Rattle.ghc_fire.specs.Effect.{no_step}
 pub use Rattle.ghc_fire.specs.Goals.{Goals, goal_cmp}
-pub use Rattle.ghc_fire.specs.GoalsCode.{goal_name_code}
+pub use Rattle.ghc_fire.specs.inner.GoalsCode.{goal_name_code}
 pub use Rattle.ghc_flat.specs.Clause.{Program, Query}
 pub use Rattle.ghc_flat.specs.Flat.{is_stream}
 pub use Rattle.ghc_flat.specs.Numbers.{is_same_key}
@@ -35,7 +35,7 @@ pub use Rattle.ghc_hooks.proofs.LookingAll.{earlier, latest, so_far}
 pub use Rattle.ghc_hooks.proofs.Statuses.{status_once}
 pub use Rattle.ghc_hooks.proofs.Tables.{count_of_keys, has_key, key_put, key_taken}
 pub use Rattle.ghc_hooks.specs.Face.{IsHookedOn, StandsAs}
-pub use Rattle.ghc_hooks.specs.FaultCode.{fault_at, fault_back, told_by}
+pub use Rattle.ghc_hooks.specs.inner.FaultCode.{fault_at, fault_back, told_by}
 pub use Rattle.ghc_hooks.specs.Notes.{AreExact, AreLeft, IsUntried, Note, NotesByGoal}
 pub use Rattle.ghc_hooks.specs.Status.{HasStatus, Status, failed, is_failed, is_ready, is_stream_goal, is_waiting, ready, streaming, waiting}
 pub use Rattle.ghc_hooks.specs.Tries.{HasLookedAt}
@@ -50,7 +50,7 @@ pub use Rattle.ghc_records.specs.Journal.{Opening}
 pub use Rattle.ghc_records.specs.Orders.{AreDistinct, Picks, Precedes, leave, nothing}
 pub use Rattle.ghc_records.specs.Record.{Record, State, after, numbers, without_goal}
 pub use Rattle.ghc_records.specs.Replay.{MakesGoal, Replays, Runs, query_state}
-pub use Rattle.ghc_records.specs.Slots.{HasNumberIn, SlotList, StandsIn, held_in}
+pub use Rattle.ghc_records.specs.inner.Slots.{HasNumberIn, SlotList, StandsIn, held_in}
 pub use Rattle.ghc_records.specs.StepText.{goal_name_text}
 pub use Rattle.ghc_records.specs.UseIndex.{StepBinds}
 pub use Rattle.ghc_records.specs.Uses.{Consumes, Uses}
@@ -74,14 +74,14 @@ pub use Rattle.ghc_term.specs.declared.goal_name.GoalName.{GoalName}
 pub use Rattle.ghc_term.specs.declared.var_name.VarName.{VarName}
 pub use Rattle.ghc_trace.specs.Binders.{Bound, bound, free, no_more}
 pub use Rattle.ghc_trace.specs.Disturbed.{AreAsNoted, AreDisturbed, AreResumedBy, AreStuckOtherwise, Disturbed, IsOneOf, IsStuckOtherwise, LooksWhere, WaitsWhereBound, status_by, stuck_by, stuck_of}
-pub use Rattle.ghc_trace.specs.Gathering.{Gathers, noted}
+pub use Rattle.ghc_trace.specs.inner.Gathering.{Gathers, noted}
 pub use Rattle.ghc_trace.specs.GoalLaws.{LinesAreOfGoals, NotesTellGoals}
 pub use Rattle.ghc_trace.specs.GoalLines.{AreLinesByNotes, HasTooLong, IsTooLong, Named, StandsByNote, TellsGoal, as_noted, as_stream, goal_line, print_limit}
-pub use Rattle.ghc_trace.specs.GoalLinesCode.{AddsLine, AddsLines, IsKnown, TellsShort, lent}
+pub use Rattle.ghc_trace.specs.inner.GoalLinesCode.{AddsLine, AddsLines, IsKnown, TellsShort, lent}
 pub use Rattle.ghc_trace.specs.Laws.{Brings, IsSettled, NotesTellNews, NotesTellPorts}
 pub use Rattle.ghc_trace.specs.News.{IsStuck, Standing, Stands, news_line, status_text}
-pub use Rattle.ghc_trace.specs.NewsCode.{Former, IsNewsBy, resumed_text, standings, standings_text}
-pub use Rattle.ghc_trace.specs.PortCode.{port_of}
+pub use Rattle.ghc_trace.specs.inner.NewsCode.{Former, IsNewsBy, resumed_text, standings, standings_text}
+pub use Rattle.ghc_trace.specs.inner.PortCode.{port_of}
 pub use Rattle.ghc_trace.specs.PortText.{port_text, ports_text}
 pub use Rattle.ghc_trace.specs.Ports.{calls, resumed}
 pub use Rattle.ghc_trace.specs.Spies.{IsSpied, Spies, as_written, in_order, predicate, predicate_cmp, spied_of, spies_in_order}

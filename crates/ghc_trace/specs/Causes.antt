@@ -4,7 +4,7 @@ use Rattle.ghc_term.specs.declared.var_name.VarName.{VarName}
 use Rattle.ghc_term.specs.Lists.{In}
 use Rattle.ghc_records.specs.Orders.{Picks}
 use Rattle.ghc_records.specs.Record.{State, Record, numbers}
-use Rattle.ghc_records.specs.Slots.{SlotList, StandsIn}
+use Rattle.ghc_records.specs.inner.Slots.{SlotList, StandsIn}
 use Rattle.ghc_depend.specs.Slices.{IsCauseOf, IsSliceOf}
 
 -- At the place p, in front of the other place, stands a step of which P holds.

@@ -1,15 +1,10 @@
 pub mod Ports
 pub mod PortText
-pub mod PortCode
 pub mod Binders
 pub mod News
 pub mod Disturbed
-pub mod NewsCode
-pub mod DisturbedCode
-pub mod Gathering
 pub mod Laws
 pub mod GoalLines
-pub mod GoalLinesCode
 pub mod GoalLaws
 pub mod Causes
 pub mod Holding
@@ -17,9 +12,7 @@ pub mod Why
 pub mod ReasonText
 pub mod Who
 pub mod Spies
-pub mod SpiesCode
-pub mod SpyKeys
 pub mod SpyLaws
 pub mod OtherClauses
-pub mod OtherClausesCode
 pub mod Explaining
+pub mod inner

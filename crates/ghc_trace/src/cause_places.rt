@@ -3,7 +3,7 @@ ghost use Rattle.std.specs.Prelude.{◌≡◌, ◌⊎◌, ◌↔◌, ◌<◌, �
 ghost use Rattle.ghc_term.specs.declared.var_name.VarName.{VarName as var_name};
 ghost use Rattle.ghc_term.specs.declared.goal_name.GoalName.{GoalName as goal_name};
 ghost use Rattle.ghc_term.specs.Lists.{In};
-ghost use Rattle.ghc_records.specs.Slots.{StandsIn};
+ghost use Rattle.ghc_records.specs.inner.Slots.{StandsIn};
 ghost use Rattle.ghc_records.specs.Uses.{Binds, MakesGoal, MakesVariable, Uses};
 ghost use Rattle.ghc_trace.specs.Causes.{HasInFront};
 

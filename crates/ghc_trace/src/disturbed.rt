@@ -26,7 +26,7 @@ pub struct Disturbed {
 impl Model for Disturbed {
     ghost use Rattle.std.specs.FinMap as finite;
     ghost use Rattle.ghc_trace.specs.Disturbed.{Disturbed};
-    ghost use Rattle.ghc_trace.specs.DisturbedCode.{disturbed_code};
+    ghost use Rattle.ghc_trace.specs.inner.DisturbedCode.{disturbed_code};
 
     ghost Value = { Disturbed };
 
@@ -48,7 +48,7 @@ impl Disturbed {
     ghost use Rattle.ghc_term.specs.Lists.{In};
     ghost use Rattle.ghc_term.specs.declared.goal_name.GoalName.{GoalName};
     ghost use Rattle.ghc_trace.specs.Disturbed.{IsOneOf};
-    ghost use Rattle.ghc_trace.specs.NewsCode.{Former};
+    ghost use Rattle.ghc_trace.specs.inner.NewsCode.{Former};
 
     // The goals that were gathered.
     fn of(gathered: Gathered) -> Disturbed

@@ -8,8 +8,8 @@ ghost use Rattle.ghc_fire.specs.Goals.{goal_cmp};
 ghost use Rattle.ghc_records.specs.Replay.{MakesGoal};
 ghost use Rattle.ghc_depend.specs.Depend.{Binds};
 ghost use Rattle.ghc_trace.specs.Disturbed.{LooksWhere};
-ghost use Rattle.ghc_trace.specs.NewsCode.{Former};
-ghost use Rattle.ghc_trace.specs.Gathering.{noted, Gathers};
+ghost use Rattle.ghc_trace.specs.inner.NewsCode.{Former};
+ghost use Rattle.ghc_trace.specs.inner.Gathering.{noted, Gathers};
 
 use crate::stuck::{Stuck, stuck_now};
 use ghc_hooks::Tries;

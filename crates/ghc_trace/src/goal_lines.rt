@@ -7,7 +7,7 @@ ghost use Rattle.ghc_hooks.specs.Status.{Status};
 ghost use Rattle.ghc_hooks.specs.Notes.{IsUntried};
 ghost use Rattle.ghc_trace.specs.News.{status_text};
 ghost use Rattle.ghc_trace.specs.GoalLines.{Named, StandsByNote, AreLinesByNotes, IsTooLong, HasTooLong};
-ghost use Rattle.ghc_trace.specs.GoalLinesCode.{IsKnown, AddsLine, AddsLines, lent};
+ghost use Rattle.ghc_trace.specs.inner.GoalLinesCode.{IsKnown, AddsLine, AddsLines, lent};
 
 use crate::status_text::push_status;
 use ghc_core::is_stream;

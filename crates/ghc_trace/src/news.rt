@@ -11,7 +11,7 @@ ghost use Rattle.ghc_trace.specs.Ports.{resumed};
 ghost use Rattle.ghc_trace.specs.PortText.{ports_text};
 ghost use Rattle.ghc_trace.specs.News.{Standing, news_text};
 ghost use Rattle.ghc_trace.specs.Disturbed.{WaitsWhereBound, AreResumedBy, IsStuckOtherwise, AreStuckOtherwise, status_by};
-ghost use Rattle.ghc_trace.specs.NewsCode.{AddsResumed, AddsNews};
+ghost use Rattle.ghc_trace.specs.inner.NewsCode.{AddsResumed, AddsNews};
 
 use crate::disturbed::Disturbed;
 use crate::port::{Port, push_port};

@@ -6,9 +6,9 @@ ghost use Rattle.ghc_term.specs.Store.{value_at};
 ghost use Rattle.ghc_flat.specs.Clause.{Clause as clause_spec, IsClause, IsFor};
 ghost use Rattle.ghc_fire.specs.declared.act.Act.TheVariants.{ByClause as by_clause};
 ghost use Rattle.ghc_records.specs.Record.{Record as record_spec};
-ghost use Rattle.ghc_records.specs.Slots.{StandsIn};
+ghost use Rattle.ghc_records.specs.inner.Slots.{StandsIn};
 ghost use Rattle.ghc_trace.specs.OtherClauses.{CouldBe, AreOtherClauses};
-ghost use Rattle.ghc_trace.specs.OtherClausesCode.{IsReadBy, OneRestsOn, AcceptsWithout};
+ghost use Rattle.ghc_trace.specs.inner.OtherClausesCode.{IsReadBy, OneRestsOn, AcceptsWithout};
 
 use crate::cause_places::{add_binders, add_causes};
 use ghc_core::Core;

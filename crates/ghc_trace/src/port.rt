@@ -2,7 +2,7 @@
 ghost use Rattle.std.specs.Prelude.{◌≡◌, ◌++◌, map, is_ok, if◌then◌else◌, OnOk, string_bytes};
 ghost use Rattle.std.specs.Io.{StartsWith};
 ghost use Rattle.ghc_trace.specs.Ports.{called};
-ghost use Rattle.ghc_trace.specs.PortCode.{port_of};
+ghost use Rattle.ghc_trace.specs.inner.PortCode.{port_of};
 ghost use Rattle.ghc_trace.specs.PortText.{port_text, ports_text};
 
 use ghc_records::{Step, push_goal_name, push_journal_step};

@@ -27,7 +27,7 @@ struct Asked<'a> {
 impl<'a> Equivalent<Predicate> for Asked<'a> {
     ghost use Rattle.std.specs.Hash as fed;
     ghost use Rattle.ghc_flat.specs.Numbers.{is_same_key};
-    ghost use Rattle.ghc_trace.specs.SpyKeys.{said_of_both};
+    ghost use Rattle.ghc_trace.specs.inner.SpyKeys.{said_of_both};
 
     ghost equivalent = { λ q p. is_same_key p.name p.arity (q.name.now, q.arity) };
 
@@ -49,7 +49,7 @@ pub struct SpySet {
 impl Model for SpySet {
     ghost use Rattle.std.specs.FinSet as set;
     ghost use Rattle.ghc_trace.specs.Spies.{Spies};
-    ghost use Rattle.ghc_trace.specs.SpiesCode.{spies_code};
+    ghost use Rattle.ghc_trace.specs.inner.SpiesCode.{spies_code};
     ghost use Rattle.std.specs.Prelude.{All, ◌<◌};
 
     ghost Value = { Spies };

@@ -3,7 +3,7 @@ ghost use Rattle.std.specs.Prelude.{◌≡◌, ◌++◌, map, IfOk, OnOk, is_ok,
 ghost use Rattle.ghc_trace.specs.Ports.{calls, taken_ports};
 ghost use Rattle.std.specs.Io.{StartsWith};
 ghost use Rattle.ghc_trace.specs.PortText.{ports_text};
-ghost use Rattle.ghc_trace.specs.PortCode.{port_of};
+ghost use Rattle.ghc_trace.specs.inner.PortCode.{port_of};
 
 use crate::port::{Port, write_call};
 use ghc_fire::Effect;

@@ -16,7 +16,7 @@ pub use Rattle.ghc_term.proofs.Weights.{size, size_all, size_end}
 pub use Rattle.ghc_term.specs.Answered.{Answered}
 pub use Rattle.ghc_term.specs.Bindings.{Comes, IsAcyclic, Leads, Passes, Reaches, along, at_free, at_integer, at_node, here, name_cmp, now, on, through, with_binding}
 pub use Rattle.ghc_term.specs.Lists.{In}
-pub use Rattle.ghc_term.specs.Shown.{HasArgument, shown}
+pub use Rattle.ghc_term.specs.inner.Shown.{HasArgument, shown}
 pub use Rattle.ghc_term.specs.Store.{StoreValue, value_at}
 pub use Rattle.ghc_term.specs.Tree.{IsClosed, IsValue, Occurs, OccursIn, Tree, Trees, integer, more, node, none, trees, variable}
 pub use Rattle.ghc_term.specs.declared.fault.Fault.{Fault}
@@ -25,9 +25,9 @@ pub use Rattle.ghc_term.specs.declared.var_name.VarName.{VarName}
 pub use Rattle.ghc_term.specs.declared.view.TermView.{TermView}
 pub use Rattle.ghc_term.specs.declared.view.TermView.TheVariants.{Atom, Int, Struct, Var}
 pub use Rattle.ghc_unify.specs.Laws.{EachUnificationHasAnEnding, IsCutDown, SolutionsAreKept, UnificationBindsAndReads, UnificationHasOneEnding, UnificationIsLocal, UnificationKeepsAcyclic, UnificationLooksAtItsTerms, UnificationsCommute, UnifyIsExact}
-pub use Rattle.ghc_unify.specs.Parting.{Parts}
+pub use Rattle.ghc_unify.specs.inner.Parting.{Parts}
 pub use Rattle.ghc_unify.specs.Solutions.{Equates, Solves, replace, replace_all}
-pub use Rattle.ghc_unify.specs.Steps.{FailsFrom}
+pub use Rattle.ghc_unify.specs.inner.Steps.{FailsFrom}
 pub use Rattle.ghc_unify.specs.Unify.{Clashes, ComesTo, Cycles, Ending, HasEnding, IsClash, IsCycle, Meets, Move, Moves, Pairs, Solved, Unifies, UnifyFails, both, clash, clashes, cycle, cycles, go, integers, left, met, no_more, nodes, one_more, right, shared, solved, stay, with_bindings}
 pub use Rattle.std.proofs.Common.{Bool, Err, IfErr, IfOk, IsErrAnd, IsTrue, List, None, Ok, Option, Result, Some, [], ap, append-nil, append_assoc, arith, cond, drop, drop-cons, false, get_or, inl, inr, is_some, length, option_copied, refl, reverse, rules, subst, suc, sym, take, take_all, true, zero, ℕ, ℤ, ◌++◌, ◌+◌, ◌-◌, ◌<◌, ◌||◌, ◌∙◌, ◌∷◌, ◌≡◌, ◌≢◌, ◌≤◌, ◌⊎◌}
 pub use Rattle.std.proofs.Math.IntN.{ℤ_discrete}

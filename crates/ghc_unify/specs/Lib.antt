@@ -1,5 +1,4 @@
 pub mod Unify
 pub mod Solutions
 pub mod Laws
-pub mod Parting
-pub mod Steps
+pub mod inner

@@ -2,7 +2,7 @@
 ghost use Rattle.std.specs.Prelude.{◌↔◌, List, IfOk, IsTrue};
 ghost use Rattle.ghc_term.specs.Bindings.{IsAcyclic, Leads};
 ghost use Rattle.ghc_term.specs.Store.{value_at};
-ghost use Rattle.ghc_unify.specs.Parting.{EndAlike, Parts};
+ghost use Rattle.ghc_unify.specs.inner.Parting.{EndAlike, Parts};
 ghost use Rattle.ghc_unify.specs.Unify.{with_bindings};
 
 use ghc_term::{Bindings, Chain, Overlay, Store, Term, VarName};

@@ -4,7 +4,7 @@ ghost use Rattle.ghc_term.specs.Store.{value_at};
 ghost use Rattle.ghc_term.specs.Tree.{Tree, trees, IsValue};
 ghost use Rattle.ghc_term.specs.Bindings.{IsAcyclic, Reaches};
 ghost use Rattle.ghc_unify.specs.Unify.{Pairs, Meets, IsClash, IsCycle, with_bindings};
-ghost use Rattle.ghc_unify.specs.Steps.{Steps, Advances, FailsFrom};
+ghost use Rattle.ghc_unify.specs.inner.Steps.{Steps, Advances, FailsFrom};
 
 use crate::chains::add_bound_reads;
 use crate::parting::both_chains;

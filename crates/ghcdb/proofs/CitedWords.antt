@@ -29,7 +29,7 @@ pub use Rattle.ghc_core.specs.World.{Opens, World, no_hands}
 pub use Rattle.ghc_flat.proofs.Faults.{accepted_no_fault, fault_once, first_fault_no, program_once}
 pub use Rattle.ghc_flat.specs.Checked.{AreMadeOf, HasClause, IsFault, IsProgramFault}
 pub use Rattle.ghc_flat.specs.Clause.{Program, Query}
-pub use Rattle.ghc_flat.specs.Refused.{IsRefusedAs}
+pub use Rattle.ghc_flat.specs.inner.Refused.{IsRefusedAs}
 pub use Rattle.ghc_flat.specs.declared.refused.Refused.{Refused}
 pub use Rattle.ghc_reader.proofs.ExactReading.{no_program_refused, no_query_refused, one_program_refusal, one_query_refusal}
 pub use Rattle.ghc_reader.proofs.OneMeaning.{one_program_read, one_query_read}
@@ -54,10 +54,10 @@ pub use Rattle.ghc_trace.proofs.Spied.{predicate_antisymmetric, predicate_total}
 pub use Rattle.ghc_trace.specs.Spies.{HasPredicate, Spies, predicate, predicate_cmp, spied_of, spies_in_order}
 pub use Rattle.ghc_trace.specs.SpyLaws.{ListedSpiesComeBack}
 pub use Rattle.ghc_trace.specs.declared.spies.Predicate.{Predicate}
-pub use Rattle.ghcdb.specs.CommandLine.{IsGhcdb, IsOptionalValue, IsRequiredValue, IsWorkersValue, SaysWorkers}
+pub use Rattle.ghcdb.specs.inner.CommandLine.{IsGhcdb, IsOptionalValue, IsRequiredValue, IsWorkersValue, SaysWorkers}
 pub use Rattle.ghcdb.specs.HistoryFront.{IsHeadingLine, IsReadOf, WhatIsReadTells, heading_bytes}
 pub use Rattle.ghcdb.specs.Opening.{GivesBack, IsDebuggerOf, IsHistoryFault, IsHistoryRefused, IsOpenRefusal, IsWithoutMemory, OpensOn, at_start, for_history, loads, of_chronicle, of_entry, of_history, of_start, of_step, of_text, resumes}
-pub use Rattle.ghcdb.specs.Outputs.{HasBeginning, HasReplies}
+pub use Rattle.ghcdb.specs.inner.Outputs.{HasBeginning, HasReplies}
 pub use Rattle.ghcdb.specs.ProgramText.{FrontTells, TakesAtMost, most_read}
 pub use Rattle.ghcdb.specs.Saving.{OpensAs, SavedSessionsOpenAgain}
 pub use Rattle.ghcdb.specs.Sessions.{IsSessionOf, WhatOpensIsASession}

@@ -1,9 +1,9 @@
 -- How the program ends, with the texts of its files.
 use Rattle.ghcdb.proofs.CitedWords.{◌≡◌, ◌⊎◌, ℕ, List, Option, Result, Ok, Err, refl, subst, sym, Debugger, IsDebuggerOf, IsOpenRefusal, IsWithoutMemory, Refusal}
 use Rattle.std.specs.Prelude.{IfErr, IfOk}
-use Rattle.ghcdb.specs.Ending.{DoOpen, EndsWith, IsRefusalOf, IsStreamRefusal}
-use Rattle.ghcdb.specs.Ending as ending
-use Rattle.ghcdb.specs.Status.{status_of}
+use Rattle.ghcdb.specs.inner.Ending.{DoOpen, EndsWith, IsRefusalOf, IsStreamRefusal}
+use Rattle.ghcdb.specs.inner.Ending as ending
+use Rattle.ghcdb.specs.inner.Status.{status_of}
 use Rattle.ghcdb.specs.declared.status.Status.{Status}
 use Rattle.ghcdb.specs.declared.status.Status.TheVariants.{Done}
 

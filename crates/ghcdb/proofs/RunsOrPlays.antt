@@ -3,8 +3,8 @@ use Rattle.ghcdb.proofs.CitedWords.{◌≡◌, ◌⊎◌, ℕ, List, [], inl, in
 use Rattle.std.specs.Prelude.{IfErr, MatchResult}
 use Rattle.ghc_term.specs.declared.fault.Fault.TheVariants.{Device}
 use Rattle.ghc_console.specs.SessionState.{state_of}
-use Rattle.ghcdb.specs.Ending.{BreaksOff, IsEndRefusal, ended_as, part_at_end}
-use Rattle.ghcdb.specs.Outputs.{HasOutput, PlaysSchedule, RunsOrPlays, RunsSession}
+use Rattle.ghcdb.specs.inner.Ending.{BreaksOff, IsEndRefusal, ended_as, part_at_end}
+use Rattle.ghcdb.specs.inner.Outputs.{HasOutput, PlaysSchedule, RunsOrPlays, RunsSession}
 use Rattle.ghcdb.specs.declared.refused_part.RefusedPart.TheVariants as part
 
 -- how a session or a schedule ends, and how that is told

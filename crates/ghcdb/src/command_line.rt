@@ -1,6 +1,6 @@
 // The command line, read by `clap`.
 ghost use Rattle.std.specs.Prelude.{◌≡◌, IfOk, codes, map, string_bytes};
-ghost use Rattle.ghcdb.specs.CommandLine.{IsGhcdb, IsGivenBy, IsOptionalValue, IsRequiredValue, IsWorkersValue};
+ghost use Rattle.ghcdb.specs.inner.CommandLine.{IsGhcdb, IsGivenBy, IsOptionalValue, IsRequiredValue, IsWorkersValue};
 
 use crate::help::AFTER_HELP;
 use crate::settings::{Given, Options};

@@ -4,10 +4,10 @@ ghost use Rattle.clap.specs.Words.{kind_of};
 ghost use Rattle.clap.specs.declared.error.kind.ErrorKind.{ErrorKind};
 ghost use Rattle.ghc_term.specs.Answered.{AnsweredUnless};
 ghost use Rattle.ghc_term.specs.Fault.{fault_text};
-ghost use Rattle.ghcdb.specs.Ending.{DoOpen, EndsWith, IsEnd, IsRefusalOf};
+ghost use Rattle.ghcdb.specs.inner.Ending.{DoOpen, EndsWith, IsEnd, IsRefusalOf};
 ghost use Rattle.ghcdb.specs.Opening.{IsDebuggerOf, IsOpenRefusal, IsWithoutMemory};
-ghost use Rattle.ghcdb.specs.Texts.{history_in, schedule_in};
-ghost use Rattle.ghcdb.specs.Status.{spare_fault, status_of};
+ghost use Rattle.ghcdb.specs.inner.Texts.{history_in, schedule_in};
+ghost use Rattle.ghcdb.specs.inner.Status.{spare_fault, status_of};
 
 use crate::command_line::options;
 use crate::files::{Texts, read_texts};

@@ -1,7 +1,7 @@
 // The files that the command line names.
 ghost use Rattle.ghcdb.specs.ProgramText.{most_read};
 ghost use Rattle.ghcdb.specs.declared.refused_part.RefusedPart.TheVariants as part;
-ghost use Rattle.ghcdb.specs.Texts.{IsNotRead, IsReadRefusal, HaveTexts};
+ghost use Rattle.ghcdb.specs.inner.Texts.{IsNotRead, IsReadRefusal, HaveTexts};
 ghost use Rattle.std.specs.Prelude.{◌≡◌, ◌≤◌, ◌⊎◌, IfErr, IfOk, Ok, false, is_ok, is_some, length};
 ghost use Rattle.ghc_term.specs.declared.fault.Fault.{Fault};
 

@@ -1,6 +1,6 @@
 // The line that tells of a refusal, and the status that goes with it.
 ghost use Rattle.std.specs.Prelude.{◌≡◌, ◌++◌, is_ok, if◌then◌else◌, string_bytes};
-ghost use Rattle.ghcdb.specs.Refusal.{refusal_line};
+ghost use Rattle.ghcdb.specs.inner.Refusal.{refusal_line};
 
 use crate::refused_part::RefusedPart;
 use ghc_term::Fault;

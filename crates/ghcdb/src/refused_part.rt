@@ -1,6 +1,6 @@
 // What can be refused, and how its refusal begins.
 ghost use Rattle.std.specs.Prelude.{◌≡◌};
-ghost use Rattle.ghcdb.specs.RefusedPart.{prefix_of};
+ghost use Rattle.ghcdb.specs.inner.RefusedPart.{prefix_of};
 
 /// What is refused.
 #[derive(Clone, Copy)]

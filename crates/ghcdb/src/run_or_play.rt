@@ -1,8 +1,8 @@
 // What was started runs a session, or plays a schedule in its place, over the standard streams.
 ghost use Rattle.std.specs.Prelude.{◌≡◌, ◌⊎◌, ◌<◌, [], IfErr, OnOk, option_map};
 ghost use Rattle.ghc_console.specs.SessionState.{state_of};
-ghost use Rattle.ghcdb.specs.Ending.{IsEndRefusal, IsStreamRefusal, ended_as};
-ghost use Rattle.ghcdb.specs.Outputs.{HasOutput, PlaysSchedule, RunsOrPlays, RunsSession};
+ghost use Rattle.ghcdb.specs.inner.Ending.{IsEndRefusal, IsStreamRefusal, ended_as};
+ghost use Rattle.ghcdb.specs.inner.Outputs.{HasOutput, PlaysSchedule, RunsOrPlays, RunsSession};
 
 use crate::console::run_on_device;
 use crate::playing::play_on_device;

@@ -1,6 +1,6 @@
 // How the program ends.
 ghost use Rattle.std.specs.Prelude.{◌≡◌};
-ghost use Rattle.ghcdb.specs.Status.{status_code, status_of};
+ghost use Rattle.ghcdb.specs.inner.Status.{status_code, status_of};
 
 use ghc_term::Fault;
 

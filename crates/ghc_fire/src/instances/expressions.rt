@@ -1,7 +1,7 @@
 // Expressions with their variables replaced.
 ghost use Rattle.std.specs.Prelude.{◌≡◌, IfOk};
 ghost use Rattle.ghc_fire.specs.Instance.{replace_in_expression};
-ghost use Rattle.ghc_fire.specs.Renaming.{replacement, operated};
+ghost use Rattle.ghc_fire.specs.inner.Renaming.{replacement, operated};
 
 use crate::instances::renaming::Renaming;
 use crate::instances::terms::replace_term;

@@ -2,7 +2,7 @@
 ghost use Rattle.std.specs.Prelude.{◌≡◌, ◌≢◌, [], ◌∷◌, IfOk, IfSome};
 ghost use Rattle.ghc_term.specs.Tree.{node, trees};
 ghost use Rattle.ghc_unify.specs.Solutions.{replace};
-ghost use Rattle.ghc_fire.specs.Renaming.{replacement};
+ghost use Rattle.ghc_fire.specs.inner.Renaming.{replacement};
 
 use crate::instances::renaming::{Renaming, replace_variable};
 use ghc_term::{Name, Term, TermView};

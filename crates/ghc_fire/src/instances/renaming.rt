@@ -1,7 +1,7 @@
 // What variables become in the goals that a step makes.
 ghost use Rattle.std.specs.Prelude.{◌≡◌, IfOk, MatchOption};
 ghost use Rattle.ghc_term.specs.Tree.{variable};
-ghost use Rattle.ghc_fire.specs.Renaming.{replacement};
+ghost use Rattle.ghc_fire.specs.inner.Renaming.{replacement};
 
 use crate::effect::NO_STEP;
 use ghc_match::Stands;

@@ -1,7 +1,7 @@
 // Terms with their variables replaced.
 ghost use Rattle.std.specs.Prelude.{◌≡◌, map, take, IfOk, MatchOption, false};
 ghost use Rattle.ghc_unify.specs.Solutions.{replace};
-ghost use Rattle.ghc_fire.specs.Renaming.{replacement, plugged};
+ghost use Rattle.ghc_fire.specs.inner.Renaming.{replacement, plugged};
 
 use crate::instances::leaves::replace_at_once;
 use crate::instances::renaming::{Renaming, replace_variable};

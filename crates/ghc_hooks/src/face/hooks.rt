@@ -16,7 +16,7 @@ pub struct Hooks {
 
 impl Model for Hooks {
     ghost use Rattle.std.specs.FinSet as set;
-    ghost use Rattle.ghc_hooks.specs.FaceCode.{HookPairs, hooks_code};
+    ghost use Rattle.ghc_hooks.specs.inner.FaceCode.{HookPairs, hooks_code};
 
     ghost Value = { HookPairs };
 
@@ -26,7 +26,7 @@ impl Model for Hooks {
 }
 
 impl Hooks {
-    ghost use Rattle.ghc_hooks.specs.Parts.{HooksBesides, TellsHooks};
+    ghost use Rattle.ghc_hooks.specs.inner.Parts.{HooksBesides, TellsHooks};
 
     // No hooks, which take no memory.
     fn new(alloc: Global) -> Hooks

@@ -17,21 +17,21 @@ pub struct Outcomes {
 }
 
 impl Model for Outcomes {
-    ghost use Rattle.ghc_hooks.specs.FaceCode.{OutcomesByClause, outcomes_code};
+    ghost use Rattle.ghc_hooks.specs.inner.FaceCode.{OutcomesByClause, outcomes_code};
 
     ghost Value = { OutcomesByClause };
 
     ghost coded = { outcomes_code };
 
-    ghost use Rattle.ghc_hooks.specs.Found.{outcomes_found};
+    ghost use Rattle.ghc_hooks.specs.inner.Found.{outcomes_found};
 
     ghost view = { λ o. outcomes_found o.map.entries };
 }
 
 impl Outcomes {
-    ghost use Rattle.ghc_match.specs.Told.{outcome_of};
+    ghost use Rattle.ghc_match.specs.inner.Told.{outcome_of};
     ghost use Rattle.ghc_hooks.specs.Face.{ClauseSays};
-    ghost use Rattle.ghc_hooks.specs.Parts.{SaysToCall, HaveOnly, HaveBesides, TellsOutcomes};
+    ghost use Rattle.ghc_hooks.specs.inner.Parts.{SaysToCall, HaveOnly, HaveBesides, TellsOutcomes};
 
     // No outcomes, which take no memory.
     fn new(alloc: Global) -> Outcomes

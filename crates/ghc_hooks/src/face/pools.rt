@@ -2,7 +2,7 @@
 ghost use Rattle.std.specs.Prelude.{◌≡◌, map, IfOk};
 ghost use Rattle.std.specs.FinMap as finite;
 ghost use Rattle.ghc_hooks.specs.declared.face.status.Kind.TheVariants.{Ready, Waiting, Failed, Stream};
-ghost use Rattle.ghc_hooks.specs.Parts.{TellsPool};
+ghost use Rattle.ghc_hooks.specs.inner.Parts.{TellsPool};
 
 use crate::face::status::Kind;
 use crate::face::statuses::Statuses;

@@ -26,13 +26,13 @@ pub struct Status {
 
 impl Model for Status {
     ghost use Rattle.ghc_hooks.specs.Status.{Status};
-    ghost use Rattle.ghc_hooks.specs.TriesCode.{status_code};
+    ghost use Rattle.ghc_hooks.specs.inner.TriesCode.{status_code};
 
     ghost Value = { Status };
 
     ghost coded = { status_code };
 
-    ghost use Rattle.ghc_hooks.specs.Found.{status_found};
+    ghost use Rattle.ghc_hooks.specs.inner.Found.{status_found};
 
     ghost view = { λ s. status_found s.note };
 }
@@ -40,7 +40,7 @@ impl Model for Status {
 impl Status {
     ghost use Rattle.ghc_hooks.specs.Status.{waiting, streaming, HasStatus, IsNoWait};
     ghost use Rattle.ghc_hooks.specs.Verdict.{status_of};
-    ghost use Rattle.ghc_hooks.specs.Kinds.{kind_of};
+    ghost use Rattle.ghc_hooks.specs.inner.Kinds.{kind_of};
 
     // The status of the goal, which costs what `try_goal` does.
     pub(crate) fn of(

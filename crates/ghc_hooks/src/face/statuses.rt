@@ -17,7 +17,7 @@ pub struct Statuses {
 
 impl Model for Statuses {
     ghost use Rattle.std.specs.FinMap as finite;
-    ghost use Rattle.ghc_hooks.specs.FaceCode.{StatusesByGoal, statuses_code};
+    ghost use Rattle.ghc_hooks.specs.inner.FaceCode.{StatusesByGoal, statuses_code};
 
     ghost Value = { StatusesByGoal };
 
@@ -31,7 +31,7 @@ impl Statuses {
     ghost use Rattle.std.specs.FinMap as finite;
     ghost use Rattle.ghc_term.specs.Sets.{Variables as variables_spec};
     ghost use Rattle.ghc_hooks.specs.Status.{waiting};
-    ghost use Rattle.ghc_hooks.specs.Parts.{TellsStatuses, IsOfKind};
+    ghost use Rattle.ghc_hooks.specs.inner.Parts.{TellsStatuses, IsOfKind};
 
     // No statuses, which take no memory.
     fn new(alloc: Global) -> Statuses

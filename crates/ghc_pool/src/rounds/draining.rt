@@ -4,10 +4,10 @@ ghost use Rattle.std.specs.Prelude.{◌≡◌, ◌≤◌, ◌+◌, ◌<◌, [], 
 ghost use Rattle.std.specs.Vec.{vec_len};
 ghost use Rattle.crossbeam_deque.specs.Handles.{worker_view};
 ghost use Rattle.ghc_term.specs.declared.goal_name.GoalName.{GoalName as goal_name};
-ghost use Rattle.ghc_pool.specs.Fair.{weigh};
-ghost use Rattle.ghc_pool.specs.Workers.{work_of, works, IsAble, HasRoom, Keeps, submits, over, in_of, out_of, submits_of};
-ghost use Rattle.ghc_pool.specs.Stops.{IsSpent, AreJudged, GoesOn, WentOn};
-ghost use Rattle.ghc_pool.specs.Gathered.{IsPending, ArePending, AreDrained, AreTold, FirstBegins};
+ghost use Rattle.ghc_pool.specs.inner.Fair.{weigh};
+ghost use Rattle.ghc_pool.specs.inner.Workers.{work_of, works, IsAble, HasRoom, Keeps, submits, over, in_of, out_of, submits_of};
+ghost use Rattle.ghc_pool.specs.inner.Stops.{IsSpent, AreJudged, GoesOn, WentOn};
+ghost use Rattle.ghc_pool.specs.inner.Gathered.{IsPending, ArePending, AreDrained, AreTold, FirstBegins};
 
 use crate::answer::RoundStop;
 use crate::craft::Craft;

@@ -3,8 +3,8 @@ ghost use Rattle.std.specs.Prelude.{◌≡◌, ◌+◌, ◌<◌, ℕ, []};
 ghost use Rattle.std.specs.Vec.{vec_len};
 ghost use Rattle.crossbeam_deque.specs.Handles.{worker_deque, worker_view, view, IsPassOf};
 ghost use Rattle.ghc_term.specs.declared.goal_name.GoalName.{GoalName as goal_name};
-ghost use Rattle.ghc_pool.specs.Workers.{AreVictims, deques, stolen, work_of, works, over, put_of, got_of, stolen_of};
-ghost use Rattle.ghc_pool.specs.Gathered.{IsAbsorbed, own_deques, all_victims, AreReady, HaveParts, HaveGivenBack, AreReleased};
+ghost use Rattle.ghc_pool.specs.inner.Workers.{AreVictims, deques, stolen, work_of, works, over, put_of, got_of, stolen_of};
+ghost use Rattle.ghc_pool.specs.inner.Gathered.{IsAbsorbed, own_deques, all_victims, AreReady, HaveParts, HaveGivenBack, AreReleased};
 
 use crate::rounds::rule::{DequePass, Part};
 use crate::rounds::victim::Victim;

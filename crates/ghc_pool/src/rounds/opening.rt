@@ -2,9 +2,9 @@
 ghost use Rattle.std.specs.Prelude.{◌≡◌, ◌+◌, ◌<◌, [], IfSome};
 ghost use Rattle.std.specs.Vec.{vec_len};
 ghost use Rattle.crossbeam_deque.specs.Handles.{worker_deque, stealer_deque, view};
-ghost use Rattle.ghc_pool.specs.Fair.{all_parts};
-ghost use Rattle.ghc_pool.specs.Workers.{IsVictim};
-ghost use Rattle.ghc_pool.specs.Opened.{IsFresh, AreFresh, deques_of, IsHandful};
+ghost use Rattle.ghc_pool.specs.inner.Fair.{all_parts};
+ghost use Rattle.ghc_pool.specs.inner.Workers.{IsVictim};
+ghost use Rattle.ghc_pool.specs.inner.Opened.{IsFresh, AreFresh, deques_of, IsHandful};
 
 use crate::rounds::rule::{Owner, Part};
 use crate::rounds::victim::Victim;

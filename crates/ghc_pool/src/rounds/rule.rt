@@ -17,7 +17,7 @@ pub struct Fair;
 
 impl Protocol<GoalName, Hand> for Fair {
     ghost use Rattle.std.specs.Prelude.{[]};
-    ghost use Rattle.ghc_pool.specs.Fair.{hand, all_parts, Balanced};
+    ghost use Rattle.ghc_pool.specs.inner.Fair.{hand, all_parts, Balanced};
 
     ghost holds = { Balanced };
 
@@ -31,7 +31,7 @@ pub struct Offers;
 
 impl Outcome<GoalName, Hand> for Offers {
     ghost use Rattle.std.specs.Prelude.{◌≡◌, ◌++◌};
-    ghost use Rattle.ghc_pool.specs.Fair.{hand};
+    ghost use Rattle.ghc_pool.specs.inner.Fair.{hand};
 
     ghost then = { λ v xs w. w ≡ hand v.parts (v.put ++ xs) v.got };
 }
@@ -41,7 +41,7 @@ pub struct Takes;
 
 impl Outcome<GoalName, Hand> for Takes {
     ghost use Rattle.std.specs.Prelude.{◌≡◌, ◌++◌};
-    ghost use Rattle.ghc_pool.specs.Fair.{hand};
+    ghost use Rattle.ghc_pool.specs.inner.Fair.{hand};
 
     ghost then = { λ v xs w. w ≡ hand v.parts v.put (v.got ++ xs) };
 }
@@ -52,7 +52,7 @@ pub struct TakesLast;
 impl Outcome<GoalName, Hand> for TakesLast {
     ghost use Rattle.std.specs.Prelude.{◌≡◌, ◌≤◌, ◌++◌, ℕ, length};
     ghost use Rattle.ghc_term.specs.declared.goal_name.GoalName.{GoalName as goal_name};
-    ghost use Rattle.ghc_pool.specs.Fair.{hand, weigh};
+    ghost use Rattle.ghc_pool.specs.inner.Fair.{hand, weigh};
 
     ghost then = { λ v xs w. (w ≡ hand v.parts v.put (v.got ++ xs)) × (length w.got ≤ length w.put) };
 
@@ -64,7 +64,7 @@ pub struct Part;
 
 impl Split<Hand> for Part {
     ghost use Rattle.std.specs.Prelude.{◌-◌, []};
-    ghost use Rattle.ghc_pool.specs.Fair.{hand};
+    ghost use Rattle.ghc_pool.specs.inner.Fair.{hand};
 
     ghost left = { λ v. hand (v.parts - 1) v.put v.got };
 
@@ -73,7 +73,7 @@ impl Split<Hand> for Part {
 
 impl Join<Hand> for Part {
     ghost use Rattle.std.specs.Prelude.{◌+◌, ◌++◌, []};
-    ghost use Rattle.ghc_pool.specs.Fair.{hand};
+    ghost use Rattle.ghc_pool.specs.inner.Fair.{hand};
 
     ghost both = { λ v w. hand (v.parts + w.parts) (v.put ++ w.put) (v.got ++ w.got) };
 

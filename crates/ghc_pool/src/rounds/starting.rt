@@ -1,10 +1,10 @@
 // The workers of a round, before threads are made.
 ghost use Rattle.std.specs.Prelude.{◌≡◌, ◌≤◌, ◌+◌, ◌-◌, ◌<◌, ◌^◌, ◌++◌, ℕ, [], length, true, IfSome};
 ghost use Rattle.std.specs.Vec.{vec_len};
-ghost use Rattle.ghc_pool.specs.Fair.{all_parts};
-ghost use Rattle.ghc_pool.specs.Workers.{works, IsAble, HasRoomToOffer, IsRoomier, Keeps, KeepsRoom, IsOfferedOrStopped};
-ghost use Rattle.ghc_pool.specs.Opened.{AreStarting, AreNew};
-ghost use Rattle.ghc_pool.specs.Gathered.{own_deques, FirstBegins};
+ghost use Rattle.ghc_pool.specs.inner.Fair.{all_parts};
+ghost use Rattle.ghc_pool.specs.inner.Workers.{works, IsAble, HasRoomToOffer, IsRoomier, Keeps, KeepsRoom, IsOfferedOrStopped};
+ghost use Rattle.ghc_pool.specs.inner.Opened.{AreStarting, AreNew};
+ghost use Rattle.ghc_pool.specs.inner.Gathered.{own_deques, FirstBegins};
 
 use crate::rounds::opening::{handful, new_deques};
 use crate::rounds::worker::Worker;

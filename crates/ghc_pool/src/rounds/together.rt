@@ -4,11 +4,11 @@ ghost use Rattle.std.specs.Vec.{vec_capacity, vec_len};
 ghost use Rattle.ghc_term.specs.declared.goal_name.GoalName.{GoalName as goal_name};
 ghost use Rattle.std.specs.declared.alloc.Global.{Global as heap};
 ghost use Rattle.atomic_blocks.specs.Lent.{RowsId};
-ghost use Rattle.ghc_pool.specs.Fair.{all_parts};
-ghost use Rattle.ghc_pool.specs.Workers.{works, over, in_of, out_of, submits_of, total_work, submits_by, AreSettled};
-ghost use Rattle.ghc_pool.specs.Stops.{joined, AreWell, AreJudged};
-ghost use Rattle.ghc_pool.specs.Opened.{AreStarting, AreCounted, AreJobs, workers_in, passes_in};
-ghost use Rattle.ghc_pool.specs.Gathered.{AreReady, HaveParts, HaveGivenBack, AreTold, FirstBegins, own_deques, all_victims};
+ghost use Rattle.ghc_pool.specs.inner.Fair.{all_parts};
+ghost use Rattle.ghc_pool.specs.inner.Workers.{works, over, in_of, out_of, submits_of, total_work, submits_by, AreSettled};
+ghost use Rattle.ghc_pool.specs.inner.Stops.{joined, AreWell, AreJudged};
+ghost use Rattle.ghc_pool.specs.inner.Opened.{AreStarting, AreCounted, AreJobs, workers_in, passes_in};
+ghost use Rattle.ghc_pool.specs.inner.Gathered.{AreReady, HaveParts, HaveGivenBack, AreTold, FirstBegins, own_deques, all_victims};
 
 use crate::answer::RoundStop;
 use crate::craft::Craft;

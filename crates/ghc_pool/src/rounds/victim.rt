@@ -1,5 +1,5 @@
 // A deque from which a worker steals.
-ghost use Rattle.ghc_pool.specs.Workers.{IsVictim, WasStolen};
+ghost use Rattle.ghc_pool.specs.inner.Workers.{IsVictim, WasStolen};
 
 use crate::rounds::rule::{DequePass, Takes, Thief};
 use crossbeam_deque::Steal;

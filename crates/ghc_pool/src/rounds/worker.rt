@@ -2,7 +2,7 @@
 ghost use Rattle.std.specs.Prelude.{◌≡◌, ◌≤◌, ◌+◌, ◌<◌, ◌++◌, [], ◌∷◌, length};
 ghost use Rattle.std.specs.Vec.{vec_capacity, vec_len};
 ghost use Rattle.crossbeam_deque.specs.Handles.{worker_view};
-ghost use Rattle.ghc_pool.specs.Workers.{IsAble, HasRoomToAnswer, HasRoomToOffer, IsFound, Keeps, KeepsRoom, DidNothing, IsOfferedOrStopped};
+ghost use Rattle.ghc_pool.specs.inner.Workers.{IsAble, HasRoomToAnswer, HasRoomToOffer, IsFound, Keeps, KeepsRoom, DidNothing, IsOfferedOrStopped};
 
 use crate::answer::{Answer, RoundStop};
 use crate::rounds::rule::{Offers, Owner, Takes};

@@ -2,9 +2,9 @@
 ghost use Rattle.std.specs.Prelude.{◌≡◌, ◌≤◌, ◌+◌, ◌<◌, [], ◌∷◌, true, None};
 ghost use Rattle.std.specs.Vec.{vec_len};
 ghost use Rattle.crossbeam_deque.specs.Handles.{worker_view};
-ghost use Rattle.ghc_pool.specs.Workers.{work_of, IsAble, HasRoomToAnswer, Keeps, KeepsRoom, IsOfferedOrStopped, submits};
-ghost use Rattle.ghc_pool.specs.Stops.{IsWell};
-ghost use Rattle.ghc_pool.specs.Opened.{Works, HasWorked};
+ghost use Rattle.ghc_pool.specs.inner.Workers.{work_of, IsAble, HasRoomToAnswer, Keeps, KeepsRoom, IsOfferedOrStopped, submits};
+ghost use Rattle.ghc_pool.specs.inner.Stops.{IsWell};
+ghost use Rattle.ghc_pool.specs.inner.Opened.{Works, HasWorked};
 
 use crate::craft::{Craft, Decided};
 use crate::rounds::budget::{Budget, Limited};
@@ -152,7 +152,7 @@ pub struct Crew<'a, C, L: Limited, R: Wait> {
 }
 
 impl<P, C: Craft<P>, L: Limited, R: Wait> Tender<Job<P, L>> for Crew<'_, C, L, R> {
-    ghost use Rattle.ghc_pool.specs.Opened.{Works, HasWorked};
+    ghost use Rattle.ghc_pool.specs.inner.Opened.{Works, HasWorked};
 
     ghost can = { λ crew job. Works (C.fed crew.craft.now) (C.asks crew.craft.now) job };
 

@@ -1,7 +1,7 @@
 // While a worker of a round holds a proposal, another pass undoes the step that made its goal.
 ghost use Rattle.std.specs.Prelude.{◌≡◌, ◌+◌, length};
 ghost use Rattle.ghc_records.specs.Journal.{history};
-ghost use Rattle.ghc_shared.specs.Calls.{code_of};
+ghost use Rattle.ghc_shared.specs.inner.Calls.{code_of};
 
 use crate::gate::Gate;
 use crate::mode::Mode;

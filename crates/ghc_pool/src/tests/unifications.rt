@@ -1,7 +1,7 @@
 // Two workers take the steps of two unifications, each goal once.
 ghost use Rattle.std.specs.Prelude.{◌≡◌, ◌+◌, length};
 ghost use Rattle.ghc_records.specs.Journal.{history};
-ghost use Rattle.ghc_shared.specs.Calls.{code_of};
+ghost use Rattle.ghc_shared.specs.inner.Calls.{code_of};
 
 use crate::answer::{Answer, Work};
 use crate::gate::Gate;

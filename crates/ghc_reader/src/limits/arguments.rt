@@ -1,6 +1,6 @@
 // The most arguments of a head, a goal or a structure.
 ghost use Rattle.std.specs.Prelude.{◌≡◌};
-ghost use Rattle.ghc_reader.specs.Views.{view, views, call_view, goal_view, goal_views, test_view, test_views, clause_view, clause_views};
+ghost use Rattle.ghc_reader.specs.inner.Views.{view, views, call_view, goal_view, goal_views, test_view, test_views, clause_view, clause_views};
 ghost use Rattle.ghc_reader.specs.Amounts.{largest, widest, widest_of, widest_call, widest_goal, widest_goals, widest_test, widest_clause};
 
 use crate::source::{SourceCall, SourceClause, SourceGoal, SourceTerm, SourceTest};

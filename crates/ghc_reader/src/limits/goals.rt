@@ -1,6 +1,6 @@
 // The most guards or body goals of a clause.
 ghost use Rattle.std.specs.Prelude.{◌≡◌};
-ghost use Rattle.ghc_reader.specs.Views.{clause_view, clause_views};
+ghost use Rattle.ghc_reader.specs.inner.Views.{clause_view, clause_views};
 ghost use Rattle.ghc_reader.specs.Amounts.{largest, goals_of_clause};
 
 use crate::source::SourceClause;

@@ -1,7 +1,7 @@
 // How deep the operators of expressions stand inside one another.
 ghost use Rattle.std.specs.Prelude.{◌≡◌, ◌+◌, ◌≤◌, min, max};
 ghost use Rattle.ghc_reader.specs.Source.{Value, products, sums};
-ghost use Rattle.ghc_reader.specs.Views.{value_view, factor_views, summand_views, goal_view, goal_views};
+ghost use Rattle.ghc_reader.specs.inner.Views.{value_view, factor_views, summand_views, goal_view, goal_views};
 ghost use Rattle.ghc_reader.specs.Amounts.{largest, levels, levels_of_goal};
 
 use crate::source::{SourceExpression, SourceGoal};

@@ -1,7 +1,7 @@
 // The variables of what is written, as they stand there.
 ghost use Rattle.std.specs.Prelude.{◌≡◌, ◌++◌, OnOk};
 ghost use Rattle.std.specs.List.{flat_map};
-ghost use Rattle.ghc_reader.specs.Views.{view, views, value_view, factor_views, summand_views, goal_view, goal_views, test_view, test_views, clause_view};
+ghost use Rattle.ghc_reader.specs.inner.Views.{view, views, value_view, factor_views, summand_views, goal_view, goal_views, test_view, test_views, clause_view};
 ghost use Rattle.ghc_reader.specs.Amounts.{names, names_of, names_in, names_of_goal, names_of_goals, names_of_test, names_of_clause};
 
 use crate::source::{SourceClause, SourceExpression, SourceGoal, SourceTerm, SourceTest};

@@ -1,6 +1,6 @@
 // The nodes of a term: variables, integers, structures, the cells of lists and the empty lists that end them.
 ghost use Rattle.std.specs.Prelude.{◌≡◌, ◌+◌, ◌<◌, ◌↔◌, IsTrue, MatchOption};
-ghost use Rattle.ghc_reader.specs.Views.{view, views};
+ghost use Rattle.ghc_reader.specs.inner.Views.{view, views};
 ghost use Rattle.ghc_reader.specs.Amounts.{nodes, nodes_of};
 
 use crate::source::SourceTerm;

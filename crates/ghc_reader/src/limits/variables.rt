@@ -1,7 +1,7 @@
 // How many variables a clause or a query has: the distinct names, and each `_`.
 ghost use Rattle.std.specs.Prelude.{◌≡◌, ℕ, List, false, ◌||◌, not, bytes_eq, IfOk, OnOk};
 ghost use Rattle.std.specs.List.{list_any};
-ghost use Rattle.ghc_reader.specs.Views.{goal_views, clause_view, clause_views};
+ghost use Rattle.ghc_reader.specs.inner.Views.{goal_views, clause_view, clause_views};
 ghost use Rattle.ghc_reader.specs.Amounts.{largest, names_of_goals, names_of_clause, is_unnamed, variables};
 
 use crate::limits::names::{push_clause, push_goals};

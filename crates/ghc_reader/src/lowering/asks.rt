@@ -1,7 +1,7 @@
 // From the parse trees of what is asked for in mid-run to what is asked for as it is written.
 ghost use Rattle.std.specs.Prelude.{◌≡◌, IfOk, None};
 ghost use Rattle.ghc_reader.specs.Limits.{first_exceeded, of_query};
-ghost use Rattle.ghc_reader.specs.Views.{goal_views};
+ghost use Rattle.ghc_reader.specs.inner.Views.{goal_views};
 ghost use Rattle.ghc_reader.specs.Lowered.{Each};
 ghost use Rattle.ghc_reader.specs.WrittenAsk.{IsNaming, SaysAsk};
 
@@ -29,8 +29,8 @@ impl<'a> Model for Known<'a> {
     ghost use Rattle.std.specs.Prelude.{bytes_eq};
     ghost use Rattle.indexmap.specs.IndexMap.{get};
     ghost use Rattle.ghc_reader.specs.Lowered.{Names};
-    ghost use Rattle.ghc_reader.specs.Scope.{IsTable};
-    ghost use Rattle.ghc_reader.specs.WrittenCode.{name_list_code};
+    ghost use Rattle.ghc_reader.specs.inner.Scope.{IsTable};
+    ghost use Rattle.ghc_reader.specs.inner.WrittenCode.{name_list_code};
 
     ghost Value = { Names };
 

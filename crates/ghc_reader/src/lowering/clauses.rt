@@ -1,7 +1,7 @@
 // From the parse trees of clauses to a program as it is written.
 ghost use Rattle.std.specs.Prelude.{◌≡◌, IfOk, None};
 ghost use Rattle.ghc_reader.specs.Limits.{first_exceeded, of_program};
-ghost use Rattle.ghc_reader.specs.Views.{clause_view, clause_views};
+ghost use Rattle.ghc_reader.specs.inner.Views.{clause_view, clause_views};
 ghost use Rattle.ghc_reader.specs.Lowered.{Each, SaysClause};
 
 use crate::lowering::goals::lower_body;

@@ -2,9 +2,9 @@
 ghost use Rattle.std.specs.Prelude.{◌≡◌, IfOk};
 ghost use Rattle.ghc_term.specs.Variables.{variables_of_expression};
 ghost use Rattle.ghc_reader.specs.Source.{Value, products, sums};
-ghost use Rattle.ghc_reader.specs.Views.{value_view, factor_views, summand_views};
+ghost use Rattle.ghc_reader.specs.inner.Views.{value_view, factor_views, summand_views};
 ghost use Rattle.ghc_reader.specs.Lowered.{Names, SaysValue, product_operator, sum_operator};
-ghost use Rattle.ghc_reader.specs.Scope.{MeetsAll};
+ghost use Rattle.ghc_reader.specs.inner.Scope.{MeetsAll};
 
 use crate::lowering::scope::Scope;
 use crate::source::SourceExpression;

@@ -3,9 +3,9 @@ ghost use Rattle.std.specs.Prelude.{◌≡◌, ◌<◌, ◌≤◌, length, IfOk,
 ghost use Rattle.ghc_term.specs.declared.limit.Limit.TheVariants.{Goals};
 ghost use Rattle.ghc_term.specs.Variables.{variables_of_goal, variables_of_goals};
 ghost use Rattle.ghc_reader.specs.Limits.{most};
-ghost use Rattle.ghc_reader.specs.Views.{view, goal_view, goal_views};
+ghost use Rattle.ghc_reader.specs.inner.Views.{view, goal_view, goal_views};
 ghost use Rattle.ghc_reader.specs.Lowered.{Each, SaysGoal, SaysAsked, is_true, doing, variable_of, tail_of, AreCounted};
-ghost use Rattle.ghc_reader.specs.Scope.{MeetsAll, Counts};
+ghost use Rattle.ghc_reader.specs.inner.Scope.{MeetsAll, Counts};
 
 use crate::lowering::expressions::lower_expression;
 use crate::lowering::lists::Lists;

@@ -1,9 +1,9 @@
 // From the parse trees of guards to guards.
 ghost use Rattle.std.specs.Prelude.{IfOk};
-ghost use Rattle.ghc_reader.specs.Views.{test_view, test_views};
+ghost use Rattle.ghc_reader.specs.inner.Views.{test_view, test_views};
 ghost use Rattle.ghc_reader.specs.Written.{variables_of_guard, variables_of_guards};
 ghost use Rattle.ghc_reader.specs.Lowered.{Each, SaysGuard};
-ghost use Rattle.ghc_reader.specs.Scope.{MeetsAll};
+ghost use Rattle.ghc_reader.specs.inner.Scope.{MeetsAll};
 
 use crate::lowering::expressions::lower_expression;
 use crate::lowering::goals::lower_goal;

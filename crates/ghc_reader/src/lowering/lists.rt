@@ -1,7 +1,7 @@
 // Structures and lists of terms.
 ghost use Rattle.std.specs.Prelude.{◌≡◌, IfOk, codes};
 ghost use Rattle.ghc_term.specs.Tree.{node, trees, nil, cons};
-ghost use Rattle.ghc_reader.specs.Scope.{conses};
+ghost use Rattle.ghc_reader.specs.inner.Scope.{conses};
 
 use ghc_term::{Name, Term};
 use std::alloc::{AllocError, Global};

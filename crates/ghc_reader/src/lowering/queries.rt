@@ -1,7 +1,7 @@
 // From the parse trees of a query to the query as it is written, and from a closed parse tree to its term.
 ghost use Rattle.std.specs.Prelude.{◌≡◌, [], IfOk, None};
 ghost use Rattle.ghc_reader.specs.Limits.{first_exceeded, of_query};
-ghost use Rattle.ghc_reader.specs.Views.{view, goal_views};
+ghost use Rattle.ghc_reader.specs.inner.Views.{view, goal_views};
 ghost use Rattle.ghc_reader.specs.Lowered.{Says, SaysQuery, IsClosed};
 
 use crate::lowering::goals::lower_asked;

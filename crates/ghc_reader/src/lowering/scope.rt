@@ -1,7 +1,7 @@
 // The variables of a clause or a query that are known so far, and their names.
 ghost use Rattle.std.specs.Prelude.{◌≡◌, ◌≢◌, ◌+◌, [], IfOk, IfSome};
 ghost use Rattle.ghc_reader.specs.Lowered.{blank, IsCalled};
-ghost use Rattle.ghc_reader.specs.Scope.{IsFresh, Meets};
+ghost use Rattle.ghc_reader.specs.inner.Scope.{IsFresh, Meets};
 
 use ghc_term::{Name, VarName};
 use indexmap::IndexMap;
@@ -18,8 +18,8 @@ impl Model for Scope {
     ghost use Rattle.std.specs.Prelude.{bytes_eq};
     ghost use Rattle.indexmap.specs.IndexMap.{get};
     ghost use Rattle.ghc_reader.specs.Lowered.{Names};
-    ghost use Rattle.ghc_reader.specs.Scope.{IsTable};
-    ghost use Rattle.ghc_reader.specs.WrittenCode.{name_list_code};
+    ghost use Rattle.ghc_reader.specs.inner.Scope.{IsTable};
+    ghost use Rattle.ghc_reader.specs.inner.WrittenCode.{name_list_code};
 
     ghost Value = { Names };
 

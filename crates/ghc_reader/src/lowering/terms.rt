@@ -1,9 +1,9 @@
 // From the parse trees of terms to terms.
 ghost use Rattle.std.specs.Prelude.{IfOk};
 ghost use Rattle.ghc_term.specs.Variables.{variables, variables_of_list};
-ghost use Rattle.ghc_reader.specs.Views.{view, views};
+ghost use Rattle.ghc_reader.specs.inner.Views.{view, views};
 ghost use Rattle.ghc_reader.specs.Lowered.{Says, SaysAll};
-ghost use Rattle.ghc_reader.specs.Scope.{MeetsAll};
+ghost use Rattle.ghc_reader.specs.inner.Scope.{MeetsAll};
 
 use crate::lowering::lists::{Lists, structure};
 use crate::lowering::scope::Scope;

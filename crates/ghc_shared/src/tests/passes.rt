@@ -1,7 +1,7 @@
 // Four threads take the steps of one core, each by a pass of its own.
 ghost use Rattle.std.specs.Prelude.{◌≡◌, ◌+◌, length};
 ghost use Rattle.ghc_records.specs.Journal.{history};
-ghost use Rattle.ghc_shared.specs.Calls.{code_of};
+ghost use Rattle.ghc_shared.specs.inner.Calls.{code_of};
 ghost use Rattle.ghc_shared.specs.Passes.{AreAll};
 
 use crate::tests::unifications::{goal, hundred};

@@ -1,7 +1,7 @@
 // Readers share the lock.
 ghost use Rattle.std.specs.Prelude.{◌≡◌, ◌+◌, length};
 ghost use Rattle.ghc_records.specs.Journal.{history};
-ghost use Rattle.ghc_shared.specs.Calls.{code_of};
+ghost use Rattle.ghc_shared.specs.inner.Calls.{code_of};
 
 use crate::tests::unifications::{goal, hundred};
 use crate::{Naming, Opening, Shared, Tender, tend_all};

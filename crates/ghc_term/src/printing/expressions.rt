@@ -2,7 +2,7 @@
 ghost use Rattle.std.specs.Prelude.{◌≡◌, ◌+◌, [], IfOk, string_bytes};
 ghost use Rattle.std.specs.Io.{StartsWith};
 ghost use Rattle.ghc_term.specs.GoalText.{operator_text, expression_text_by, operand};
-ghost use Rattle.ghc_term.specs.Pieces.{Unfolds, expression_size};
+ghost use Rattle.ghc_term.specs.inner.Pieces.{Unfolds, expression_size};
 
 use crate::expr::Expr;
 use crate::expr_view::ExprView;

@@ -6,7 +6,7 @@ ghost use Rattle.ghc_term.specs.Store.{value_at};
 ghost use Rattle.ghc_term.specs.Tree.{variable};
 ghost use Rattle.ghc_term.specs.Text.{term_text};
 ghost use Rattle.ghc_term.specs.GoalText.{goal_text_by};
-ghost use Rattle.ghc_term.specs.Pieces.{StartsIn, piece_text};
+ghost use Rattle.ghc_term.specs.inner.Pieces.{StartsIn, piece_text};
 
 use crate::appending::{push_number, push_variable};
 use crate::goal::Goal;

@@ -5,7 +5,7 @@ ghost use Rattle.ghc_term.specs.Store.{value_at};
 ghost use Rattle.ghc_term.specs.Tree.{Tree, node, trees, cons, nil};
 ghost use Rattle.ghc_term.specs.Text.{IsNoCell, term_text, rest_text, arguments_text, further_text};
 ghost use Rattle.ghc_term.specs.Resolved.{all_resolved};
-ghost use Rattle.ghc_term.specs.Pieces.{IsLeaf, Unfolds, UnfoldsIn, piece_text, piece_size, term_size, rest_size, arguments_size};
+ghost use Rattle.ghc_term.specs.inner.Pieces.{IsLeaf, Unfolds, UnfoldsIn, piece_text, piece_size, term_size, rest_size, arguments_size};
 
 use crate::appending::{push_integer, push_mark, push_variable};
 use crate::expr::Expr;

@@ -4,7 +4,7 @@ use Rattle.std.proofs.lemmas.Grind.{common_steps}
 use Rattle.std.proofs.lemmas.Option.{MatchOption-at_some}
 use Rattle.ghc_fire.proofs.Calling.{numbered_for, some_there}
 use Rattle.ghc_flat.specs.Clause.{IsClause}
-use Rattle.ghc_match.specs.Told.{outcome_of}
+use Rattle.ghc_match.specs.inner.Told.{outcome_of}
 use Rattle.ghc_console.specs.Looks.{outcome_text}
 use Rattle.ghc_console.proofs.LookReplies.{one_clause_told}
 use Rattle.ghc_console.proofs.clause_lines.clause_lines.Goals as goal

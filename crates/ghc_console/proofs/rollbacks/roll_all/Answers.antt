@@ -1,6 +1,6 @@
 use Rattle.ghc_console.proofs.CitedWords.{rules, ◌≡◌, ◌+◌, [], ◌∷◌, ◌++◌, get_or, take, sym, subst, ◌∙◌, arith, string_bytes, World}
 use Rattle.std.proofs.lemmas.List.{take_all, take_more}
-use Rattle.ghc_console.specs.KeepingCode.{AddsRollbacks}
+use Rattle.ghc_console.specs.inner.KeepingCode.{AddsRollbacks}
 use Rattle.ghc_console.proofs.Keeping.{rolls_none, rolls_next, rolls_some}
 use Rattle.ghc_console.proofs.rollbacks.roll_all.Goals as goal
 

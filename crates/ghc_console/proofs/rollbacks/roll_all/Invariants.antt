@@ -1,6 +1,6 @@
 use Rattle.ghc_console.proofs.CitedWords.{◌≡◌, ◌+◌, ◌≤◌, take, length, codes, string_bytes}
 use Rattle.std.specs.Prelude.{string_capacity, string_len}
-use Rattle.ghc_console.specs.KeepingCode.{AddsRollbacks}
+use Rattle.ghc_console.specs.inner.KeepingCode.{AddsRollbacks}
 use Rattle.ghc_console.proofs.rollbacks.roll_all.Given as goal
 
 abbrev pub invariant-loop-number : goal.invariant-loop-number

@@ -1,5 +1,5 @@
 use Rattle.ghc_depend.proofs.Words.{◌≡◌, ◌≢◌, ◌+◌, [], ◌∷◌, ◌++◌, get_or, take, sym, subst, take_more, Record, VarName, MakesVariable}
-use Rattle.ghc_depend.specs.Sources.{IsPlaceOfOne}
+use Rattle.ghc_depend.specs.inner.Sources.{IsPlaceOfOne}
 use Rattle.ghc_depend.proofs.Sourcing.{AreLeast, least_still, least_more}
 use Rattle.ghc_depend.proofs.sources.least_names.Goals.{in-Some+in_ok-put_least, in_default}
 use Rattle.ghc_depend.proofs.sources.least_names.Goals as goal

@@ -1,5 +1,5 @@
 use Rattle.ghc_depend.proofs.Words.{◌≡◌, ◌+◌, [], ◌∷◌, ◌++◌, get_or, take, sym, ap, ◌∙◌, subst, arith, take_more, take_all, VarName, Binds}
-use Rattle.ghc_depend.specs.Sources.{IsPlaceOfOne}
+use Rattle.ghc_depend.specs.inner.Sources.{IsPlaceOfOne}
 use Rattle.ghc_depend.proofs.Sourcing.{AreLeast, least_still, least_more, are_reads}
 use Rattle.ghc_depend.proofs.sources.least_reads.Goals.{in-Some+in_ok-put_least, in_default}
 use Rattle.ghc_depend.proofs.sources.least_reads.Goals as goal

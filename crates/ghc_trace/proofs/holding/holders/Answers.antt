@@ -2,7 +2,7 @@ use Rattle.ghc_trace.proofs.Words.{◌≡◌, [], ◌∷◌, ◌++◌, List, map
 use Rattle.std.specs.FinMap as finite
 use Rattle.ghc_term.specs.Sets.{IsSetOf}
 use Rattle.ghc_trace.specs.GoalLines.{Named}
-use Rattle.ghc_trace.specs.GoalLinesCode.{lent}
+use Rattle.ghc_trace.specs.inner.GoalLinesCode.{lent}
 use Rattle.ghc_trace.specs.Holding.{AreHolders, GoalReaches, HasGained, IsUnboundIn}
 use Rattle.ghc_trace.proofs.Giving.{if_ok}
 use Rattle.ghc_trace.proofs.Held.{IsHeldOfThem, held_of_more, held_of_none, holders_are}

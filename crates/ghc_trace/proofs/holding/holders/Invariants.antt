@@ -1,7 +1,7 @@
 use Rattle.ghc_trace.proofs.Words.{◌≡◌, ◌++◌, [], List, value_at}
 use Rattle.std.specs.FinMap as finite
 use Rattle.ghc_trace.specs.GoalLines.{Named}
-use Rattle.ghc_trace.specs.GoalLinesCode.{lent}
+use Rattle.ghc_trace.specs.inner.GoalLinesCode.{lent}
 use Rattle.ghc_trace.specs.Holding.{HasGained}
 use Rattle.ghc_trace.proofs.Held.{IsHeldOfThem}
 use Rattle.ghc_trace.proofs.holding.holders.Given as goal

@@ -1,5 +1,5 @@
 use Rattle.ghc_trace.proofs.Words.{◌≡◌, ◌∙◌, ◌↔◌, false, true, sym, subst, IsTrue, In, AreDistinct, numbers, held_in, HasNumberIn}
-use Rattle.ghc_trace.specs.OtherClausesCode.{OneRestsOn}
+use Rattle.ghc_trace.specs.inner.OtherClausesCode.{OneRestsOn}
 use Rattle.ghc_trace.proofs.OtherClauses.{no_without, yes_where, has_place, its_place}
 use Rattle.ghc_trace.proofs.others.accepts_without.Goals as goal
 

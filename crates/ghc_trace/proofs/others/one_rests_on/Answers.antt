@@ -1,6 +1,6 @@
 use Rattle.ghc_trace.proofs.Words.{◌≡◌, ◌↔◌, nat_eq, true, false, IsTrue, [], sym, ap, subst, option_copied, In, in_last, AreDistinct, numbers, some_of, Binds}
 use Rattle.ghc_trace.specs.Causes.{HasInFront}
-use Rattle.ghc_trace.specs.OtherClausesCode.{OneRestsOn}
+use Rattle.ghc_trace.specs.inner.OtherClausesCode.{OneRestsOn}
 use Rattle.ghc_trace.proofs.CausePlaces.{OfOne}
 use Rattle.ghc_trace.proofs.Resting.{sought_begin, sought_next, top_less, stopped, none_left}
 use Rattle.ghc_trace.proofs.Slicing.{all_in_front, nothing_left}

@@ -4,7 +4,7 @@ use Rattle.ghc_trace.proofs.Reasoning.{search, stands_ahead, still_kept, up_to, 
 use Rattle.ghc_trace.proofs.Slicing.{nothing_left}
 use Rattle.ghc_trace.specs.Causes.{HasInFront}
 use Rattle.ghc_depend.proofs.Sourcing.{kept_as}
-use Rattle.ghc_depend.specs.Sources.{AreSources}
+use Rattle.ghc_depend.specs.inner.Sources.{AreSources}
 use Rattle.ghc_records.specs.Uses.{Uses}
 use Rattle.ghc_trace.proofs.reasons.why.Goals as goal
 

@@ -1,4 +1,4 @@
-use Rattle.ghc_pool.specs.Plans.{GoesOnWithout}
+use Rattle.ghc_pool.specs.inner.Plans.{GoesOnWithout}
 use Rattle.ghc_pool.proofs.deciding.Deciding.take_step.Given as goal
 
 abbrev pub invariant-loop : goal.invariant-loop

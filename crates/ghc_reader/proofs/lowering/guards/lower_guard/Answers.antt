@@ -1,4 +1,4 @@
-use Rattle.ghc_reader.specs.Views.{value_view}
+use Rattle.ghc_reader.specs.inner.Views.{value_view}
 use Rattle.ghc_reader.proofs.ClausesLowered.{compare_says, compare_meets}
 use Rattle.ghc_reader.proofs.lowering.guards.lower_guard.Goals as goal
 

@@ -1,4 +1,4 @@
-use Rattle.ghc_reader.specs.Views.{goal_views}
+use Rattle.ghc_reader.specs.inner.Views.{goal_views}
 use Rattle.ghc_reader.proofs.ClausesLowered.{query_said}
 use Rattle.ghc_reader.proofs.WithinLimits.{few_asked, query_well_asked}
 use Rattle.ghc_reader.proofs.lowering.queries.lower_query.Goals as goal

@@ -1,6 +1,6 @@
 use Rattle.std.proofs.Common.{arith}
 use Rattle.ghc_term.proofs.GoalNames.{goal_total, goal_antisymmetric}
-use Rattle.ghc_term.specs.GoalPlaces.{IsNear}
+use Rattle.ghc_term.specs.inner.GoalPlaces.{IsNear}
 use Rattle.ghc_term.proofs.Slots.{none_put}
 use Rattle.ghc_term.proofs.GoalPlaces.{put_near, put_far, put_past}
 use Rattle.ghc_term.proofs.goal_places.GoalPlaces.put.Goals as goal

@@ -1,5 +1,5 @@
 use Rattle.ghc_term.proofs.Words.{◌≡◌, sym, ap, ◌∙◌, subst, IfSome, Some, slice_get, AreDifferent}
-use Rattle.ghc_term.specs.VariableList.{in_order}
+use Rattle.ghc_term.specs.inner.VariableList.{in_order}
 use Rattle.ghc_term.proofs.VariableLists.{none_at, found_at, absent_at}
 use Rattle.ghc_term.proofs.variable_list.VariableList.place_of.Goals as goal
 

@@ -1,5 +1,5 @@
 use Rattle.ghc_term.proofs.Words.{◌++◌, ◌∷◌, [], refl, sym, ap, ◌∙◌, subst, In, AreDifferent}
-use Rattle.ghc_term.specs.VariableList.{in_order}
+use Rattle.ghc_term.specs.inner.VariableList.{in_order}
 use Rattle.ghc_term.proofs.VariableLists.{pushed, one_alone, one_more}
 use Rattle.ghc_term.proofs.variable_list.VariableList.push.Goals as goal
 

@@ -1,5 +1,5 @@
 use Rattle.ghc_pool.proofs.Words.{◌≡◌, ◌+◌, [], length, worker_view, work_of, Keeps, submits, IsSpent, WentOn}
-use Rattle.ghc_pool.specs.Workers.{HasRoom}
+use Rattle.ghc_pool.specs.inner.Workers.{HasRoom}
 use Rattle.ghc_pool.proofs.rounds.worker.Worker.drain.Given as goal
 
 abbrev pub invariant-loop : goal.invariant-loop

@@ -1,0 +1,9 @@
+-- What calls, invariants and lemmas cite, and no theorem: the other files can be read without these.
+pub mod ActCode
+pub mod AskedCode
+pub mod Calls
+pub mod EffectCode
+pub mod GoalsCode
+pub mod Made
+pub mod Renaming
+pub mod Tail

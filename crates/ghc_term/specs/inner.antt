@@ -1,0 +1,23 @@
+-- What calls, invariants and lemmas cite, and no theorem: the other files can be read without these.
+pub mod BindingList
+pub mod BindingTable
+pub mod Code
+pub mod Equality
+pub mod ExpressionFalls
+pub mod ExpressionShown
+pub mod ExpressionView
+pub mod Falls
+pub mod GoalCode
+pub mod GoalPlaces
+pub mod GoalShape
+pub mod GoalShown
+pub mod Known
+pub mod Measure
+pub mod NameHash
+pub mod Overlay
+pub mod Pieces
+pub mod Seen
+pub mod Shown
+pub mod VariableList
+pub mod VariableMap
+pub mod View

@@ -1,0 +1,9 @@
+-- What calls, invariants and lemmas cite, and no theorem: the other files can be read without these.
+pub mod DisturbedCode
+pub mod Gathering
+pub mod GoalLinesCode
+pub mod NewsCode
+pub mod OtherClausesCode
+pub mod PortCode
+pub mod SpiesCode
+pub mod SpyKeys
