@@ -30,8 +30,9 @@ fn write_numbers(numbers: &[u32], out: &mut String) -> Result<(), AllocError>
     Ok(())
 }
 
-// Writes an entry. The cost is that of the text.
-pub(crate) fn write_entry(entry: &Entry, out: &mut String) -> Result<(), AllocError>
+/// Writes an entry of a journal, as a line of a chronicle has it. The cost is that of the text. It fails where memory is refused, and
+/// may then have written a part.
+pub fn write_entry(entry: &Entry, out: &mut String) -> Result<(), AllocError>
     ensures { OnOk result (string_bytes out.new ≡ string_bytes out.old ++ entry_text (entry_of entry.now)) }
 {
     match entry {

@@ -54,6 +54,7 @@ pub use chronicle_laws::{
 pub use chronicle_reading::{is_chronicle, read_chronicle};
 pub use chronicle_writing::write_chronicle;
 pub use entry::Entry;
+pub use entry_text::write_entry;
 pub use history::History;
 pub use history_laws::{
     cut_texts_are_refused, read_history_is_exact, written_histories_are_read_again,
