@@ -1,4 +1,4 @@
--- What the text behind `ask` asks for.
+-- What the text after `ask` asks for.
 use Rattle.std.specs.Prelude.{◌≡◌, ℕ, List}
 use Rattle.ghc_term.specs.Goal.{Goal}
 use Rattle.ghc_reader.specs.Read.{IsReadAsk}

@@ -59,7 +59,7 @@ command_with_number name number = if bytes_eq name (codes "undo") then Obey (Und
     else (if bytes_eq name (codes "since") then Since number
     else (if bytes_eq name (codes "goal") then GoalOf number else Unknown)))))))
 
--- The same, where the word behind said a number.
+-- The same, where the next word said a number.
 abbrev pub numbered : List ℕ → Option ℕ → LineCommand
 numbered name (Some number) = command_with_number name number
 numbered name None = Unknown
@@ -99,7 +99,7 @@ command_of_two_words name word = if bytes_eq name (codes "step") then step_with 
 abbrev pub command_of_three_words : List ℕ → List ℕ → List ℕ → LineCommand
 command_of_three_words name goal number = if bytes_eq name (codes "step") then step_by (goal_name_of goal) (number_of number) else Unknown
 
--- The command of a word and those behind it, by how many these are.
+-- The command of a word and those after it, by how many these are.
 abbrev pub command_by_count : List ℕ → List (List ℕ) → LineCommand
 command_by_count name [] = command_of_one_word name
 command_by_count name (word ∷ []) = command_of_two_words name word
@@ -127,7 +127,7 @@ abbrev pub ask_with : List ℕ → LineCommand
 ask_with (byte ∷ bytes) = Ask (byte ∷ bytes)
 ask_with [] = Unknown
 
--- The command of the words of a line: `arrange` takes any number of words behind it; `in K T` a number, and all that stands behind the first two words; and `ask T` all that stands behind the first.
+-- The command of the words of a line. `arrange` takes any number of words after it; `in K T` a number, and all that stands after the first two words; and `ask T` all that stands after the first.
 abbrev pub command_of_words : List (List ℕ) → List ℕ → LineCommand
 command_of_words [] line = Nothing
 command_of_words (name ∷ words) line = if bytes_eq name (codes "arrange") then arrange_with (numbers_of words)

@@ -21,7 +21,7 @@ use Rattle.ghc_console.specs.VariableNamed.{IsVariableNamed}
 abbrev pub steps_line : List ℕ → List Record → List ℕ
 steps_line slice kept = codes "steps " ++ (decimal (length slice) ++ (codes " of " ++ (decimal (length kept) ++ codes "\n")))
 
--- RepliesToExplain w word text: the variable that the word names, and the term to which it leads; a line for each goal that holds an unbound variable of that term; a line for each step of its slice, with the other clauses by which it could have been; and how many steps these are. Or the refusal where the word names none, or the term is too long.
+-- RepliesToExplain w word text: the text has the variable that the word names, with the term to which it leads. It has a line for each goal that holds an unbound variable of that term, then one for each step of its slice, with the other clauses by which it could have been, and how many steps these are. Or it is the refusal, where the word names none, or the term is too long.
 pub data RepliesToExplain (w : World) (word : List ℕ) : List ℕ → Type 0 where
   explains : (x : VarName) (term held steps slice : List ℕ) (hs : List Holder) → IsVariableNamed w word x → IsTextOf (value_at w.state.store) (variable x) term → length term ≤ print_limit
       → AreHolders w.state x hs → AreHolderLines w hs held → IsToldSliceOf w.kept w.state x slice → AreStepLines w slice steps

@@ -7,7 +7,7 @@ use Rattle.ghc_console.specs.Commands.{command_of}
 use Rattle.ghc_console.specs.declared.command.LineCommand.{LineCommand}
 use Rattle.ghc_console.specs.declared.command.LineCommand.TheVariants.{Nothing, Step, Obey, Show, Records, Goals, Why, Who, Keep, Shelf, Save, SaveSteps, Spy, Unspy, Input, Ask, Leap, Skip, Quit, Unknown}
 
--- FiresInObeying c old new: obeying the command c of the core takes the count of firings from old to new: a redo fires once, or not at all where it is refused before; no other command fires.
+-- FiresInObeying c old new: obeying the command c of the core takes the count of firings from old to new. A redo fires once, or not at all where it is refused before; no other command fires.
 abbrev pub FiresInObeying : Command → ℕ → ℕ → Type 0
 FiresInObeying (redo n) old new = (new ≡ old) ⊎ (new ≡ one_more old)
 FiresInObeying c old new = new ≡ old

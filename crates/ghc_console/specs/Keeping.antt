@@ -1,4 +1,4 @@
--- What `keep` takes back, and how it is told.
+-- What `keep` takes back, and its text.
 use Rattle.std.specs.Prelude.{◌≡◌, ℕ, List, [], ◌∷◌, ◌++◌, codes, length}
 use Rattle.std.specs.Fmt.{decimal}
 use Rattle.ghc_term.specs.declared.fault.Fault.{Fault}
@@ -11,12 +11,12 @@ use Rattle.ghc_core.specs.Change.{CanChange, Changes}
 use Rattle.ghc_core.specs.World.{World}
 use Rattle.ghc_console.specs.TextLines.{lined, refusal, undone_text}
 
--- RollsBack w n text v: step n is not kept in the world w, which stays, and nothing is told; or it is rolled back, which leaves the world v, and the text tells which steps are undone.
+-- RollsBack w n text v: step n is not kept in the world w, which stays, and the text is empty. Or it is rolled back, which leaves the world v, and the text tells which steps are undone.
 pub data RollsBack (w : World) (n : ℕ) : List ℕ → World → Type 0 where
   not_kept : IsNotKept w.kept n → RollsBack w n [] w
   rolls : {v : World} (gone : Gone) → gone.first.number ≡ n → CanChange w (goes Going.Together gone) → Changes w (goes Going.Together gone) v → RollsBack w n (undone_text (numbers (all_gone gone))) v
 
--- RollBack w ns text v: from the world w on, the steps of these numbers are rolled back one after another, each that is still kept then, which leaves the world v; the text tells it of each.
+-- RollBack w ns text v: from the world w on, the steps of these numbers are rolled back one after another, each that is still kept then. That leaves the world v, and the text tells it of each.
 pub data RollBack (w : World) : List ℕ → List ℕ → World → Type 0 where
   none_yet : RollBack w [] [] w
   and_next : {ns text line : List ℕ} {n : ℕ} {v u : World} → RollBack w ns text v → RollsBack v n line u → RollBack w (ns ++ n ∷ []) (text ++ line) u
@@ -25,7 +25,7 @@ pub data RollBack (w : World) : List ℕ → List ℕ → World → Type 0 where
 abbrev pub kept_line : World → List ℕ
 kept_line v = lined (codes "kept " ++ decimal (length v.kept))
 
--- TellsKept w ns text v: the text tells how the steps of these numbers are rolled back, one after another, and how many steps are kept then; or memory is refused before the end, which is told in place of that, and what was rolled back stays so.
+-- TellsKept w ns text v: the text tells how the steps of these numbers are rolled back, one after another, and how many steps are kept then. Or memory is refused before the end: then F1 stands in place of that, and what was rolled back stays so.
 pub data TellsKept (w : World) (ns : List ℕ) : List ℕ → World → Type 0 where
   rolled_all : {lines : List ℕ} {v : World} → RollBack w ns lines v → TellsKept w ns (lines ++ kept_line v) v
   rolled_some : {front lines : List ℕ} {v : World} (back : List ℕ) → ns ≡ front ++ back → RollBack w front lines v → TellsKept w ns (lines ++ refusal Fault.Memory) v

@@ -23,7 +23,7 @@ abbrev pub BeginsWithNumber : List (List ℕ) → Type 0
 BeginsWithNumber [] = ⊥
 BeginsWithNumber (word ∷ words) = (n : ℕ) × (number_of word ≡ Some n)
 
--- Reading the line takes memory: for the numbers behind `arrange`, from the first of them on, or for a text that its command keeps.
+-- Reading the line takes memory: for the numbers after `arrange`, from the first of them on, or for a text that its command keeps.
 pub data TakesMemory (line : List ℕ) : Type 0 where
   for_numbers : {words : List (List ℕ)} → list_all is_printable line ≡ true → words_of line ≡ codes "arrange" ∷ words → BeginsWithNumber words → TakesMemory line
   for_a_text : KeepsText (command_of line) → TakesMemory line

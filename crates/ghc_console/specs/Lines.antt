@@ -11,7 +11,7 @@ abbrev pub onto : ℕ → List Row → List Row
 onto byte [] = (byte ∷ [], false) ∷ []
 onto byte (row ∷ rows) = (byte ∷ row.0, row.1) ∷ rows
 
--- The rows of an input. Nothing behind the last line feed is no row.
+-- The rows of an input. Nothing after the last line feed is no row.
 abbrev pub rows_of : List ℕ → List Row
 rows_of [] = []
 rows_of (byte ∷ bytes) = if byte == 10 then ([], true) ∷ rows_of bytes else onto byte (rows_of bytes)

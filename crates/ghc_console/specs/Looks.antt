@@ -1,4 +1,4 @@
--- The replies of commands that look and change nothing: at the record from a step on, at all causes, at the goal that a step took, and at what clauses say to a goal.
+-- The replies of commands that look and change nothing. They look at the record from a step on, at all causes, at the goal that a step took, and at what clauses say to a goal.
 use Rattle.std.specs.Prelude.{◌≡◌, ◌⊎◌, ℕ, List, [], ◌∷◌, ◌++◌, codes, length, map, Option, Some, None}
 use Rattle.std.specs.Fmt.{decimal}
 use Rattle.std.specs.FinMap as finite
@@ -24,7 +24,7 @@ use Rattle.ghc_trace.specs.ReasonText.{reason_text}
 use Rattle.ghc_trace.specs.Why.{AreReasonsTold}
 use Rattle.ghc_console.specs.TextLines.{lined, record_lines, refusal, text_lines, text_or_none}
 
--- RepliesToSince w n text: the line of the kept step n and those of all kept steps behind it, in recorded order; or the refusal where no such step is kept.
+-- RepliesToSince w n text: the line of the kept step n and those of all kept steps after it, in recorded order; or the refusal where no such step is kept.
 pub data RepliesToSince (w : World) (n : ℕ) : List ℕ → Type 0 where
   tells_since : (before : List Record) (r : Record) (later : List Record) → w.kept ≡ before ++ r ∷ later → r.number ≡ n → RepliesToSince w n (record_lines (r ∷ later))
   since_no_step : IsNotKept w.kept n → RepliesToSince w n (refusal Fault.NotKept)
@@ -37,7 +37,7 @@ cause_text n reason = decimal n ++ (codes " " ++ reason_text reason)
 abbrev pub TellsCausesOf : List Record → Record → List ℕ → Type 0
 TellsCausesOf kept r text = (reasons : List Reason) × AreReasonsTold kept r.number reasons × (text ≡ text_lines (map (cause_text r.number) reasons))
 
--- The text behind is that in front and the causes of the step in the slot; the same text, where that is a gap.
+-- The new text is the old one and the causes of the step in the slot; the same text, where that is a gap.
 abbrev pub TellsCausesAt : List Record → SlotList → ℕ → List ℕ → List ℕ → Type 0
 TellsCausesAt kept ss place before after =
     ((r : Record) × (text : List ℕ) × StandsIn ss place r × TellsCausesOf kept r text × (after ≡ before ++ text)) ⊎ (((r : Record) → ¬ StandsIn ss place r) × (after ≡ before))
@@ -46,12 +46,12 @@ TellsCausesAt kept ss place before after =
 abbrev pub RepliesToCauses : World → List ℕ → Type 0
 RepliesToCauses w text = (told : List (List ℕ)) × AllZip (TellsCausesOf w.kept) w.kept told × (text ≡ text_or_none (concat told))
 
--- the goal that a step took, as it was written then, behind a space; nothing where it took none
+-- the goal that a step took, as it was written then, after a space; nothing where it took none
 abbrev pub goal_behind : Option Goal → List ℕ
 goal_behind None = []
 goal_behind (Some b) = codes " " ++ goal_text b
 
--- RepliesToGoalOf w n text: the kept step n, and behind it the goal that it took, as it was written then; or the refusal where no such step is kept.
+-- RepliesToGoalOf w n text: the kept step n, and then the goal that it took, as it was written then; or the refusal where no such step is kept.
 pub data RepliesToGoalOf (w : World) (n : ℕ) : List ℕ → Type 0 where
   tells_goal : (r : Record) → IsKeptAs w.kept n r → RepliesToGoalOf w n (lined (step_text (step_of r) ++ goal_behind r.consumed))
   goal_of_no_step : IsNotKept w.kept n → RepliesToGoalOf w n (refusal Fault.NotKept)
@@ -74,7 +74,7 @@ pub record TellsClause (P : Program) (ts : List Tree) (S : VarName → Option Tr
 abbrev pub TellsClauses : Program → List ℕ → List Tree → (VarName → Option Tree) → List ℕ → Type 0
 TellsClauses P f ts S text = (ks : List ℕ) × (told : List (List ℕ)) × AreNumbersFor P f (length ts) ks × AllZip (TellsClause P ts S) ks told × (text ≡ text_lines told)
 
--- What is told of the clauses for the goal, if it is there: what each says to a call; for a unification or an assignment no clause is; and a stream goal is none to be taken.
+-- The reply on the clauses for the goal, if it is there: what each says to a call. No clause is for a unification or an assignment, and a stream goal is none to be taken.
 abbrev pub TellsClausesFor : World → Option Goal → List ℕ → Type 0
 TellsClausesFor w (Some (call f ts)) text = TellsClauses w.opening.program f ts (value_at w.state.store) text
 TellsClausesFor w (Some (unify l r)) text = text ≡ refusal Fault.NoClause

@@ -48,7 +48,7 @@ IsGatheredAs NoMemory held bytes = 0 < length bytes
 abbrev pub HasGathered : Gathered → List ℕ → Type 0
 HasGathered g bytes = IsGatheredAs g.state (g.bytes.items) bytes
 
--- A front of what was read ahead went to the line; where the line ended, the line feed behind it was dropped, and else nothing is left.
+-- A front of what was read ahead went to the line; where the line ended, the line feed after it was dropped, and else nothing is left.
 pub record TakesFront (old new : List ℕ) (line later : Gathered) (ended : Bool) : Type 0 where
   pub piece : List ℕ
   pub plain : All (λ b. b ≢ 10) piece
@@ -63,7 +63,7 @@ IsMadeOf (Some (line.Whole v)) row = (v.items ≡ line_of row) × (length (line_
 IsMadeOf (Some line.TooLong) row = (line_limit < length (line_of row)) × (0 < length row.0)
 IsMadeOf (Some line.NoMemory) row = 0 < length row.0
 
--- A read was made where the bytes that were there of the line, seen, had no line feed: `asked` bytes had been given then, and `given` with those of `ahead` when the line began.
+-- A read was made where the bytes that were there of the line, seen, had no line feed. `asked` bytes had been given then, and `given` with those of `ahead` when the line began.
 pub record AsksForMore (ahead : List ℕ) (old : Option (List ℕ)) (given asked : ℕ) : Type 0 where
   pub seen : List ℕ
   pub plain : All (λ b. b ≢ 10) seen

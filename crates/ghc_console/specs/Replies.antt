@@ -68,7 +68,7 @@ pub data Settled (w v : World) (front : List ℕ) : List ℕ → Type 0 where
   settled : {news : List Standing} → AreNews w v news → Settled w v front (front ++ news_text news)
   unsettled : Settled w v front (front ++ refusal Fault.Memory)
 
--- Takes w p text v: the step that was proposed is taken; its ports are told, and what is stuck then. Or the world is full, which refuses it.
+-- Takes w p text v: the step that was proposed is taken; the text has its ports, and what is stuck then. Or the world is full, which refuses it.
 pub data Takes (w : World) (p : Proposal) : List ℕ → World → Type 0 where
   takes : (r : Record) {ports : List Port} {text : List ℕ} → IsCommitOf w p r → ArePorts w r ports → Settled w (with_step r w) (ports_text ports) text
       → Takes w p text (with_step r w)
@@ -79,7 +79,7 @@ pub data RepliesToStep (w : World) (g : GoalName) (choice : Option ℕ) (text : 
   steps : (p : Proposal) → p.goal ≡ g → AttemptAnswers w g choice (proposes p.act p.effect) → Takes w p text v → RepliesToStep w g choice text v
   fails : (f : Fault) → AttemptAnswers w g choice (refused f) → text ≡ refusal f → v ≡ w → RepliesToStep w g choice text v
 
--- IsFrontOf w change front: the front of a text tells the change of the world w: the ports of the step that comes, which steps are undone, or that the record is arranged.
+-- IsFrontOf w change front: the front of a text tells the change of the world w. It has the ports of the step that comes, which steps are undone, or that the record is arranged.
 abbrev pub IsFrontOf : World → Change → List ℕ → Type 0
 IsFrontOf w (comes from r) front = (ports : List Port) × ArePorts w r ports × (front ≡ ports_text ports)
 IsFrontOf w (goes how gone) front = front ≡ undone_text (numbers (all_gone gone))
@@ -89,7 +89,7 @@ IsFrontOf w (reorders a) front = front ≡ lined (codes "arranged")
 abbrev pub TellsChange : World → Change → List ℕ → World → Type 0
 TellsChange w change text v = (front : List ℕ) × IsFrontOf w change front × Changes w change v × Settled w v front text
 
--- IsObeyed w c text v: the change for which the command c asks is made and told, which leaves the world v; or it is told why the command is refused, which changes nothing.
+-- IsObeyed w c text v: the change for which the command c asks is made, which leaves the world v, and the text tells it. Or the text is the refusal of the command, which changes nothing.
 pub data IsObeyed (w : World) (c : Command) (text : List ℕ) (v : World) : Type 0 where
   obeys : (change : Change) → IsAskedFor w c change → TellsChange w change text v → IsObeyed w c text v
   refuses : (f : Fault) → Fails w c f → text ≡ refusal f → v ≡ w → IsObeyed w c text v
@@ -112,7 +112,7 @@ pub data RepliesToShow (w : World) (word : List ℕ) : List ℕ → Type 0 where
       → RepliesToShow w word (refusal (Fault.Limit limit.Print))
   no_variable : ((x : VarName) → ¬ IsVariableNamed w word x) → RepliesToShow w word (refusal Fault.NoVariable)
 
--- The text behind is that in front and the line of the record in the slot; the same text, where that is a gap.
+-- The new text is the old one and the line of the record in the slot; the same text, where that is a gap.
 abbrev pub TellsSlot : SlotList → ℕ → List ℕ → List ℕ → Type 0
 TellsSlot ss place before after = ((r : Record) × StandsIn ss place r × (after ≡ before ++ record_lines (r ∷ []))) ⊎ (((r : Record) → ¬ StandsIn ss place r) × (after ≡ before))
 
@@ -135,23 +135,23 @@ steps_told rs = map (λ e. step_text (step_of e.1)) rs
 abbrev pub shelf_text : Shelf → List ℕ
 shelf_text held = lines_or_none (steps_told (finite.entries held))
 
--- RepliesToWhy w n text: each step on which the kept step n depends directly, in recorded order, with its cause, and `none` where there is none; or the refusal where no such step is kept.
+-- RepliesToWhy w n text: each step on which the kept step n depends directly, in recorded order, with its cause, and `none` where there is none. Or the refusal where no such step is kept.
 pub data RepliesToWhy (w : World) (n : ℕ) : List ℕ → Type 0 where
   tells_reasons : (reasons : List Reason) → AreReasonsTold w.kept n reasons → RepliesToWhy w n (lines_or_none (map reason_text reasons))
   not_kept : IsNotKept w.kept n → RepliesToWhy w n (refusal Fault.NotKept)
 
--- RepliesToWho w word text: the bound variables of the chain of the variable that the word names, in its order, each with the kept step that bound it, and `none` where there is none; or the refusal where the word names none.
+-- RepliesToWho w word text: the bound variables of the chain of the variable that the word names, in its order, each with the kept step that bound it. `none` where there is none, or the refusal where the word names none.
 pub data RepliesToWho (w : World) (word : List ℕ) : List ℕ → Type 0 where
   tells_binders : (x : VarName) (binders : List Binder) → IsVariableNamed w word x → AreBindersTold w x binders → RepliesToWho w word (lines_or_none (map binder_text binders))
   names_nothing : ((x : VarName) → ¬ IsVariableNamed w word x) → RepliesToWho w word (refusal Fault.NoVariable)
 
--- RepliesToKeep w word text v: the kept steps outside of the slice of the variable that the word names are rolled back, which leaves the world v, and it is told how many are kept; or the refusal where the word names none.
+-- RepliesToKeep w word text v: the kept steps outside of the slice of the variable that the word names are rolled back, which leaves the world v. The text tells how many are kept, or is the refusal where the word names none.
 pub data RepliesToKeep (w : World) (word : List ℕ) : List ℕ → World → Type 0 where
   keeps : (x : VarName) (slice rest : List Record) {text : List ℕ} {v : World} → IsVariableNamed w word x → IsSliceOf w.kept w.state x slice rest → TellsKept w (numbers rest) text v
       → RepliesToKeep w word text v
   keeps_nothing : ((x : VarName) → ¬ IsVariableNamed w word x) → RepliesToKeep w word (refusal Fault.NoVariable) w
 
--- the text of the whole session: what it began with, the entries of the journal behind that, the spies in order, and the next number
+-- the text of the whole session: what it began with, the entries of the journal after that, the spies in order, and the next number
 abbrev pub saved_text : World → Spies → List ℕ
 saved_text w spies = chronicle_text (chronicle_of_world w (spies_in_order spies))
 
@@ -165,7 +165,7 @@ pub data RepliesToSpy (P : Program) (f : List ℕ) (n : ℕ) : List ℕ → Type
   is_spied : HasClauseFor P f n → RepliesToSpy P f n (lined (codes "spying " ++ predicate_text f n))
   is_undefined : ¬ HasClauseFor P f n → RepliesToSpy P f n (refusal (Fault.Undefined f n))
 
--- Replies workers spies w c text v: where these predicates are spied and so many workers make a run, the reply to the command c in the world w is the text, and it leaves the world v.
+-- Replies workers spies w c text v: the reply to the command c in the world w is the text, and it leaves the world v. These predicates are spied, and so many workers make a run.
 abbrev pub Replies : ℕ → Spies → World → LineCommand → List ℕ → World → Type 0
 Replies workers spies w nothing text v = (text ≡ []) × (v ≡ w)
 Replies workers spies w (step g choice) text v = RepliesToStep w g choice text v

@@ -38,11 +38,11 @@ stop_text memory = codes "memory"
 abbrev pub stop_line : Stop → List ℕ
 stop_line stop = lined (codes "stopped " ++ stop_text stop)
 
--- A line is told by this text: by itself, or by the refusal in its place, where memory was refused for it.
+-- This text stands for a line: the line, or F1 in its place, where memory was refused for it.
 abbrev pub IsLineTold : List ℕ → List ℕ → Type 0
 IsLineTold line text = (text ≡ line) ⊎ (text ≡ refusal Fault.Memory)
 
--- AreLinesTold lines text: the lines are told one after another, each by itself or by the refusal in its place.
+-- AreLinesTold lines text: the text has the lines one after another, each itself or F1 in its place.
 pub data AreLinesTold : List (List ℕ) → List ℕ → Type 0 where
   no_line : AreLinesTold [] []
   and_line : {line told text : List ℕ} {lines : List (List ℕ)} → IsLineTold line told → AreLinesTold lines text → AreLinesTold (line ∷ lines) (told ++ text)
@@ -56,14 +56,14 @@ abbrev pub mode_of : Option GoalName → ℕ → Mode
 mode_of None limit = mode.Leap limit
 mode_of (Some root) limit = mode.Skip root limit
 
--- TellsRun workers spies root limit w text v: a run by so many workers, of at most so many steps, of the goals that descend from the root where one is named, left the world v, with some notes, of which no more is said; the text tells its steps, and why it stopped.
+-- TellsRun workers spies root limit w text v: a run by so many workers, of at most so many steps, left the world v, with some notes, of which no more is said. It took goals that descend from the root, where one is named. The text tells its steps, and why it stopped.
 pub record TellsRun (workers : ℕ) (spies : Spies) (root : Option GoalName) (limit : ℕ) (w : World) (text : List ℕ) (v : World) : Type 0 where
   pub notes : NotesByGoal
   pub report : Report
   pub run : Runs (Unit {0}) workers spies root limit w v notes report
   pub told : AreLinesTold (run_lines run.steps report.stop) text
 
--- RepliesToSkip workers spies w g text v: the goal named g is there, and the text tells a run by so many workers of the goals that descend from it, with the limit of a run for which no number is said; or it is the refusal, where no such goal is there.
+-- RepliesToSkip workers spies w g text v: the goal named g is there, and the text tells a run by so many workers of the goals that descend from it. Its limit is that of a run for which no number is said. Or the text is the refusal, where no such goal is there.
 pub data RepliesToSkip (workers : ℕ) (spies : Spies) (w : World) (g : GoalName) : List ℕ → World → Type 0 where
   skips : (b : Goal) {text : List ℕ} {v : World} → finite.get w.state.goals g ≡ Some b → TellsRun workers spies (Some g) run_limit w text v → RepliesToSkip workers spies w g text v
   no_goal : finite.get w.state.goals g ≡ None → RepliesToSkip workers spies w g (refusal Fault.NoGoal) w

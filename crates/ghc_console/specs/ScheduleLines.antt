@@ -19,7 +19,7 @@ abbrev pub propose_by : Option ℕ → Option GoalName → Option ℕ → Schedu
 propose_by hand goal (Some clause) = propose_with hand goal (Some clause)
 propose_by hand goal None = Unknown
 
--- `W G` or `W G C` behind `propose`: a hand, a goal and, where it is chosen, a clause.
+-- `W G` or `W G C` after `propose`: a hand, a goal and, where it is chosen, a clause.
 abbrev pub propose_of : List (List ℕ) → ScheduleLine
 propose_of (hand ∷ goal ∷ []) = propose_with (number_of hand) (goal_name_of goal) None
 propose_of (hand ∷ goal ∷ clause ∷ []) = propose_by (number_of hand) (goal_name_of goal) (number_of clause)
@@ -32,7 +32,7 @@ abbrev pub commit_with : Option ℕ → ScheduleLine
 commit_with (Some hand) = Event (event.Commit hand)
 commit_with None = Unknown
 
--- `W` behind `commit`.
+-- `W` after `commit`.
 abbrev pub commit_of : List (List ℕ) → ScheduleLine
 commit_of (hand ∷ []) = commit_with (number_of hand)
 commit_of [] = Unknown
@@ -43,7 +43,7 @@ abbrev pub note_with : Option GoalName → ScheduleLine
 note_with (Some goal) = Event (event.Note goal)
 note_with None = Unknown
 
--- `G` behind `note`.
+-- `G` after `note`.
 abbrev pub note_of : List (List ℕ) → ScheduleLine
 note_of (goal ∷ []) = note_with (goal_name_of goal)
 note_of [] = Unknown

@@ -47,13 +47,13 @@ IsTurnedDown f old reply new = (reply ≡ Some (refused f)) × (new ≡ old)
 abbrev pub IsPlayed : Event → Played → Option Reply → Played → Type 0
 IsPlayed e old reply new = (told : Reply) × (reply ≡ Some told) × Meets old e told new
 
--- IsGiven k given old reply new: a test of the reader refuses what is given, whatever stream k is, or memory was refused to read it; or it is read as a term, which the stream gets.
+-- IsGiven k given old reply new: a test of the reader refuses what is given, whatever stream k is, or memory was refused to read it. Or it is read as a term, which the stream gets.
 pub data IsGiven (k : ℕ) (given : List ℕ) (old : Played) (reply : Option Reply) (new : Played) : Type 0 where
   unread : (f : Fault) → IsRefusal a_term given f → IsTurnedDown f old reply new → IsGiven k given old reply new
   no_memory : IsTurnedDown Fault.Memory old reply new → IsGiven k given old reply new
   reads : (u : Tree) → IsReadTerm given u → IsPlayed (command (give k u)) old reply new → IsGiven k given old reply new
 
--- IsAskedOf given old reply new: a test of the reader refuses what is given, or memory was refused to read it; or it is read as goals, which the core is asked for.
+-- IsAskedOf given old reply new: a test of the reader refuses what is given, or memory was refused to read it. Or it is read as goals, for which the event asks the core.
 pub data IsAskedOf (given : List ℕ) (old : Played) (reply : Option Reply) (new : Played) : Type 0 where
   unasked : (f : Fault) → IsRefusal an_ask given f → IsTurnedDown f old reply new → IsAskedOf given old reply new
   no_memory : IsTurnedDown Fault.Memory old reply new → IsAskedOf given old reply new
@@ -79,7 +79,7 @@ IsDoneBy bytes (line.Event e) old reply new = IsPlayed (event_of e) old reply ne
 IsDoneBy bytes line.AsConsole old reply new = IsDoneAsConsole bytes old reply new
 IsDoneBy bytes line.Unknown old reply new = IsTurnedDown Fault.Command old reply new
 
--- Hears bytes old reply new: the line of these bytes gets the reply from a core with hands, or none where it has no words, and leaves the core and the hands so. A line past the limit is refused.
+-- Hears bytes old reply new: a core with hands replies so to the line of these bytes, or not at all where it has no words; old and new are core and hands before and after. A line past the limit is refused.
 pub data Hears (bytes : List ℕ) (old : Played) (reply : Option Reply) (new : Played) : Type 0 where
   does : length bytes ≤ line_limit → IsDoneBy bytes (schedule_line_of bytes) old reply new → Hears bytes old reply new
   too_long : line_limit < length bytes → IsTurnedDown (Fault.Limit limit.Line) old reply new → Hears bytes old reply new

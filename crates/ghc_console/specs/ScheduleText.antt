@@ -19,7 +19,7 @@ hand_count = 64
 abbrev pub with_hands : Core → Played
 with_hands core = record { core = core; hands = empty_hands hand_count; meter = record { firings = 0; tries = 0 } }
 
--- Schedule old lines out new: out are the replies to the lines, in order, from the core and the hands of old on, and behind them the records; they leave the core and the hands of new.
+-- Schedule old lines out new: out are the replies to the lines, in order, and then the records. The core and the hands are those of old before, and those of new after.
 pub data Schedule : Played → List (List ℕ) → List ℕ → Played → Type 0 where
   told_at_end : {new : Played} → Schedule new [] (records_text new.core.world.kept) new
   then_whole :
@@ -50,7 +50,7 @@ WritesSchedule Run old lines written now new = (out : List ℕ) × Appends writt
 abbrev pub ArePlayedOut : {E : Type 0} → Played → List (List ℕ) → Option (List ℕ) → Option (List ℕ) → Played → Result Unit E → Type 0
 ArePlayedOut old lines written now new result = MatchResult result (λ _. WritesSchedule Schedule old lines written now new) (λ _. WritesSchedule BrokenOff old lines written now new)
 
--- IsScheduleOf core text written now left result: what was written are the replies to the lines of the text, by 64 hands that hold nothing at first, and then the records; or a beginning of that where it was broken off. The core is left so.
+-- IsScheduleOf core text written now left result: what was written are the replies to the lines of the text, and then the records, or a beginning of that where it was broken off. The 64 hands hold nothing at first. The core is left so.
 abbrev pub IsScheduleOf : {E : Type 0} → Core → List ℕ → Option (List ℕ) → Option (List ℕ) → Core → Result Unit E → Type 0
 IsScheduleOf core text written now left result = (new : Played) × (new.core ≡ left) × ArePlayedOut (with_hands core) (lines_of text) written now new result
 
@@ -60,6 +60,6 @@ pub record PlaysLine {E : Type 0} (bytes : List ℕ) (old new : Played) (written
   pub heard : Hears bytes old reply new
   pub told : WritesFront written now result (told_text reply)
 
--- It ends without an error and with no failure of the device; or for want of memory, with none; or with one, which is the error then.
+-- It ends without an error and with no failure of the device; or for memory, with none; or with one, which is the error then.
 abbrev pub EndsSo : ℕ → ℕ → Result Unit Fault → Type 0
 EndsSo before after result = MatchResult result (λ _. after ≡ before) (λ f. ((f ≡ Fault.Memory) × (after ≡ before)) ⊎ ((f ≡ Fault.Device) × (after ≡ before + 1)))

@@ -38,7 +38,7 @@ pub record Served {E : Type 0} (s : SessionState) (line : List ℕ) (t : Session
   pub reply : IsReply s line text t ended
   pub written : MatchResult result (λ b. (b ≡ ended) × Appends old new text) (λ _. (n : ℕ) × Appends old new (take n text))
 
--- What was written is that of such a run over the lines of the input; and the bytes that were there when the last read was made, `before` of them, had no more whole lines than those after which the session went on.
+-- What was written is that of such a run over the lines of the input. The bytes that were there when the last read was made, `before` of them, had no more whole lines than those after which the session went on.
 pub record Writes (Run : ℕ → SessionState → List (List ℕ) → List ℕ → SessionState → Type 0) (s : SessionState) (input : List ℕ) (written now : Option (List ℕ)) (before : ℕ) (t : SessionState) : Type 0 where
   pub count : ℕ
   pub out : List ℕ

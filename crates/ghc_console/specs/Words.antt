@@ -24,7 +24,7 @@ abbrev pub from_space : List ℕ → List ℕ
 from_space [] = []
 from_space (byte ∷ bytes) = if byte == 32 then byte ∷ bytes else from_space bytes
 
--- What stands behind the first n words of a line, from the first byte on that is no space, to the end of the line.
+-- What stands after the first n words of a line, from the first byte on that is no space, to the end of the line.
 abbrev pub behind : ℕ → List ℕ → List ℕ
 behind zero line = unindented line
 behind (suc n) line = behind n (from_space (unindented line))

@@ -1,4 +1,4 @@
-// The text behind `ask`, and what it asks for.
+// The text after `ask`, and what it asks for.
 ghost use Rattle.std.specs.Prelude.{◌≡◌, IfOk, OnErr};
 ghost use Rattle.ghc_term.specs.Answered.{Answered};
 ghost use Rattle.ghc_reader.specs.Tests.{an_ask, IsRefusal};
@@ -16,7 +16,7 @@ use ghc_reader::read_ask;
 use ghc_term::Fault;
 use std::alloc::{AllocError, Global};
 
-/// The asking for all that stands behind the spaces, if anything does. It takes memory for that text alone.
+/// The asking for all that stands after the spaces, if anything does. It takes memory for that text alone.
 pub fn ask_command(alloc: Global, words: &[u8]) -> Result<LineCommand, AllocError>
     ensures command { IfOk result (λ command. command ≡ ask_with (unindented_of words.now)) }
     ensures memory { OnErr result (KeepsText (ask_with (unindented_of words.now))) }

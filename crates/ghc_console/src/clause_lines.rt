@@ -51,9 +51,9 @@ fn clause_lines(
     Ok(())
 }
 
-/// Tells what each clause of its predicate says now to the goal of this name, in order, a line each; or the refusal, `NoGoal` where
-/// there is no such goal or it is a stream, and `NoClause` where it is another one that is no call. It costs what `try_clause` costs
-/// for each clause, and the text.
+/// Tells what each clause of its predicate says now to the goal of this name, in order, a line each. It refuses with `NoGoal` where
+/// there is no such goal or it is a stream, and with `NoClause` where it is a goal of another kind that is no call. It costs what
+/// `try_clause` costs for each clause, and the text.
 #[inline(never)]
 pub fn clauses(
     alloc: Global,

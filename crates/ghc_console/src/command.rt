@@ -253,7 +253,7 @@ fn three_word_command(first_word: &[u8], goal: &[u8], word: &[u8]) -> LineComman
     LineCommand::Unknown
 }
 
-// The command of a word and those behind it, by how many these are.
+// The command of a word and those after it, by how many these are.
 fn counted_command(alloc: Global, first_word: &[u8], rest: &[u8]) -> Result<LineCommand, AllocError>
     ensures command { IfOk result (λ command. command ≡ command_by_count first_word.now (words_of rest.now)) }
     ensures memory { OnErr result (KeepsText (command_by_count first_word.now (words_of rest.now))) }
@@ -287,7 +287,7 @@ fn arrange_command(alloc: Global, words: &[u8]) -> Result<LineCommand, AllocErro
     Ok(LineCommand::Obey(Command::Arrange(order)))
 }
 
-// The input to the stream that the first word says, of all that stands behind the spaces behind it.
+// The input to the stream that the first word says, of all that stands after it and the spaces there.
 fn input_command(alloc: Global, words: &[u8]) -> Result<LineCommand, AllocError>
     ensures command { IfOk result (λ command. command ≡ input_to (words_of words.now) (behind 1 words.now)) }
     ensures memory { OnErr result (KeepsText (input_to (words_of words.now) (behind 1 words.now))) }
@@ -359,9 +359,8 @@ fn of_any_line(alloc: Global, line: &[u8]) -> Result<LineCommand, AllocError>
     of_line(alloc, line)
 }
 
-/// The command that a line says; a line that says none is `Unknown`. It takes time in proportion to the
-/// line, and memory for the word of `show`, `who`, `explain` or `keep`, for the name of `spy` or `nospy`, for the numbers of `arrange` and for the
-/// text of `in` or `ask` alone.
+/// The command that a line says; a line that says none is `Unknown`. It takes time in proportion to the line. It takes memory only for
+/// the word of `show`, `who`, `explain` or `keep`, the name of `spy` or `nospy`, the numbers of `arrange` and the text of `in` or `ask`.
 #[inline(always)]
 pub fn parse(alloc: Global, line: &[u8]) -> Result<LineCommand, AllocError>
     ensures command { IfOk result (λ command. command ≡ command_of line.now) }

@@ -55,10 +55,10 @@ fn told(
     Ok(())
 }
 
-/// Tells the term to which the variable leads that the word names; for each unbound variable of it the goals that hold it, with their
-/// status; the kept steps to which it owes its term, in recorded order, each with the other clauses by which it could have been; and
-/// how many of the kept steps these are. Or the refusal. What is untried is tried first. It costs what `print`, `slice_of`, `holders` and
-/// `push_steps` cost.
+/// Tells the term to which the variable leads that the word names, or the refusal. For each unbound variable of it come the goals that
+/// hold it, with their status. Then come the kept steps to which it owes its term, in recorded order, each with the other clauses by
+/// which it could have been, and how many of the kept steps these are. What is untried is tried first. It costs what `print`, `slice_of`,
+/// `holders` and `push_steps` cost.
 #[inline(never)]
 pub fn explain(
     alloc: Global,

@@ -11,7 +11,7 @@ use ghc_records::{Record, push_step};
 use ghc_term::{Fault, push_goal_written};
 use std::alloc::AllocError;
 
-// The goal that the step took, as written, behind a space, if it took one.
+// The goal that the step took, as written, after a space, if it took one.
 fn push_goal_behind(step: &Record, reply: &mut String) -> Result<(), AllocError>
     ensures { OnOk result (string_bytes reply.new ≡ string_bytes reply.old ++ goal_behind step.now.consumed) }
 {

@@ -33,10 +33,10 @@ fn keep_alone(
     take_back(alloc, core, rest.as_slice(), reply)
 }
 
-/// Rolls back each kept step outside of the slice of the variable that the word names, in recorded order, as far as it is still
-/// kept then, and tells which steps are undone, a line for each rollback, and how many are kept then; or the refusal. Where memory
-/// is refused on the way, what was rolled back stays so, and the refusal is told in place of the rest. An error leaves the world as
-/// it was. It costs what `slice_of` costs, a step for each place of the record, and what each rollback costs.
+/// Rolls back each kept step outside of the slice of the variable that the word names, in recorded order, as far as it is still kept
+/// then. It tells which steps are undone, a line for each rollback, and how many are kept then; or the refusal. Where memory is refused
+/// on the way, what was rolled back stays so, and the refusal stands in place of the rest. An error leaves the world as it was. It costs
+/// what `slice_of` costs, a step for each place of the record, and what each rollback costs.
 #[inline(never)]
 pub fn keep(
     alloc: Global,

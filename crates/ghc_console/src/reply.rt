@@ -21,7 +21,7 @@ use ghc_trace::{
 };
 use std::alloc::{AllocError, Global};
 
-/// The line of a refusal. Fails for want of memory, and where that is the refusal.
+/// The line of a refusal. It fails where memory is refused, and where that is the refusal.
 #[inline(never)]
 pub fn refused(fault: &Fault, reply: &mut String) -> Result<(), AllocError>
     requires { string_bytes reply.old ≡ [] }
@@ -127,7 +127,7 @@ fn lines(records: &Records, reply: &mut String) -> Result<(), AllocError>
     Ok(())
 }
 
-/// What is told where nothing was told.
+/// What stands where nothing was told.
 pub(crate) fn or_none(reply: &mut String) -> Result<(), AllocError>
     ensures none { OnOk result (string_bytes reply.old ≡ [] → string_bytes reply.new ≡ lined (codes "none")) }
     ensures some { OnOk result (string_bytes reply.old ≢ [] → string_bytes reply.new ≡ string_bytes reply.old) }

@@ -118,7 +118,7 @@ fn roll_and_tell(
 }
 
 /// Rolls the steps of these numbers back, one after another, and tells that and how many are kept then. Where memory is refused on
-/// the way, what was rolled back stays so, and the refusal is told in place of the rest. An error leaves the world as it was.
+/// the way, what was rolled back stays so, and the refusal stands in place of the rest. An error leaves the world as it was.
 pub(crate) fn take_back(
     alloc: Global,
     core: &mut Core,

@@ -115,8 +115,8 @@ fn write_steps<D: Device>(
 }
 
 /// Writes the lines of a run that was made, one at a time, in place of what stands in the text: that of each step, in recorded
-/// order, and then why it stopped. Where memory is refused for a line, that is told in its place. One look-up for each step, and
-/// memory for one line.
+/// order, and then why it stopped. Where memory is refused for a line, F1 stands in its place. It costs one look-up for each step,
+/// and memory for one line.
 pub fn write_run<D: Device>(
     device: &mut D,
     core: &Core,

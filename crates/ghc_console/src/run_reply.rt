@@ -26,8 +26,8 @@ fn mode_of(root: Option<GoalName>, limit: u32) -> Mode
     }
 }
 
-/// Runs, by as many workers as the debugger says: takes as many steps as the limit at most, of any goal, or where a root is named,
-/// of the goals that descend from it. What it reports is to be told, a line for each step. It costs what the run costs.
+/// Runs, by as many workers as the debugger says. It takes as many steps as the limit at most, of any goal, or where a root is named,
+/// of the goals that descend from it. Its caller tells what it reports, a line for each step. It costs what the run costs.
 pub fn leap<R: Threads + Wait + Sync, G: Gate + Sync>(
     rt: &R,
     alloc: Global,

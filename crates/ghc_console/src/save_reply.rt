@@ -8,9 +8,9 @@ use ghc_records::{write_chronicle, write_history};
 use ghc_trace::SpySet;
 use std::alloc::{AllocError, Global};
 
-/// Tells the history of the whole session, of version 2: what it began with, all entries of the journal behind that, the predicates
-/// that are spied, and the next number. It fails for want of memory alone. It costs the text, and what it takes to put the spies in
-/// order.
+/// Tells the history of the whole session, of version 2: what it began with, all entries of the journal after that, the predicates
+/// that are spied, and the next number. It fails only where memory is refused. It costs the text, and what it takes to put the spies
+/// in order.
 #[inline(never)]
 pub fn save(
     alloc: Global,

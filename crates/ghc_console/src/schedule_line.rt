@@ -41,7 +41,7 @@ fn propose_by_line(hand: Option<u32>, goal: Option<GoalName>, clause: Option<u32
     }
 }
 
-// What the words behind `propose` say.
+// What the words after `propose` say.
 fn of_propose(words: &[u8]) -> ScheduleLine
     ensures { result ≡ propose_of (words_of words.now) }
 {
@@ -70,7 +70,7 @@ fn commit_line(hand: Option<u32>) -> ScheduleLine
     }
 }
 
-// What the words behind `commit` say.
+// What the words after `commit` say.
 fn of_commit(words: &[u8]) -> ScheduleLine
     ensures { result ≡ commit_of (words_of words.now) }
 {
@@ -93,7 +93,7 @@ fn note_line(goal: Option<GoalName>) -> ScheduleLine
     }
 }
 
-// What the words behind `note` say.
+// What the words after `note` say.
 fn of_note(words: &[u8]) -> ScheduleLine
     ensures { result ≡ note_of (words_of words.now) }
 {

@@ -87,7 +87,7 @@ fn write_records<D: Device>(core: &Core, device: &mut D, text: &mut String) -> R
     }
 }
 
-// Plays the lines, one after another, and writes the records behind them.
+// Plays the lines, one after another, and writes the records after them.
 fn play_lines<D: Device>(
     alloc: Global,
     world: &mut World,
@@ -115,10 +115,10 @@ fn play_lines<D: Device>(
 }
 
 /// Plays the lines of the text, one after another, on the core with 64 hands that hold nothing, and writes the reply to each;
-/// then the records. Nothing is settled, and no line is read of the device. A refused event has its refusal for a reply, for want
-/// of memory too, and the lines behind it are played. It ends before with `Memory` where there is no room for the hands, for the
-/// line of a reply or for the text of the records, and with `Device` where the device failed. The core that is given back is
-/// that behind the last event played. Each line costs what its event costs, and no more memory than its reply.
+/// then the records. Nothing is settled, and no line is read of the device. A refused event has its refusal for a reply, F1 too, and the
+/// lines after it are played. It ends before with `Memory` where there is no room for the hands, for the line of a reply or for the text
+/// of the records, and with `Device` where the device failed. It gives back the core as the last event played left it. Each line costs
+/// what its event costs, and no more memory than its reply.
 pub fn schedule<D: Device>(
     alloc: Global,
     core: Core,
@@ -133,7 +133,7 @@ pub fn schedule<D: Device>(
     ensures earlier { D.earlier device.new ≡ D.earlier device.old }
     ensures latest { D.latest device.new ≡ D.latest device.old }
 
-    // It fails for want of memory, or where the device did.
+    // It fails where memory is refused, or where the device did.
     ensures ends { EndsSo (D.failures device.old) (D.failures device.new) result.1 }
 {
     let mut world = match World::new(alloc, core, HANDS) {

@@ -81,7 +81,7 @@ fn reply_as_console(alloc: Global, world: &mut World, line: &[u8]) -> Option<Rep
 }
 
 /// The reply to a line of a schedule, or none where it has no words: its event is met by the core with its hands. It costs what
-/// reading the line and meeting the event cost. What is refused, for want of memory too, has its refusal for a reply.
+/// reading the line and meeting the event cost. What is refused has its refusal for a reply, F1 too.
 pub fn hear(alloc: Global, world: &mut World, line: &[u8]) -> Option<Reply>
     ensures { Hears line.now world.old (option_map reply_of result) world.new }
 {

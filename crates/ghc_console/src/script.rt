@@ -11,7 +11,7 @@ use std::alloc::Global;
 use std::marker::Model;
 use std::sync::ledger::{Blank, Ledger};
 
-/// A device over memory. Its reads stop behind a line feed, and the call that was chosen fails; so does a write that
+/// A device over memory. Its reads stop after a line feed, and the call that was chosen fails; so does a write that
 /// finds no memory.
 #[derive(Drop)]
 pub struct Script<L: Ledger> {
@@ -40,7 +40,7 @@ impl<L: Ledger> Model for Script<L> {
     ghost invariant = { λ s. s.at ≤ vec_len s.input };
 }
 
-// How many of the bytes one read gives: at most `room`, and none behind a line feed.
+// How many of the bytes one read gives: at most `room`, and none after a line feed.
 fn front_len(bytes: &[u8], room: usize) -> usize
     ensures bound { (result ≤ length bytes.now) × (result ≤ room) }
     ensures some { result ≡ 0 → (0 < room) → bytes.now ≡ [] }
@@ -71,7 +71,7 @@ fn give(bytes: &[u8], buf: &mut [u8]) -> usize
 }
 
 impl<L: Ledger> Script<L> {
-    /// A device that gives this input. The call behind the first `fails_after` calls fails, if that is given.
+    /// A device that gives this input. The call after the first `fails_after` calls fails, if that is given.
     pub fn new(alloc: Global, input: Vec<u8>, fails_after: Option<u64>, blank: Blank) -> Script<L>
         requires blank { (blank.name ≡ L.name) × (blank.parts ≡ L.parts) × (1 < L.parts) }
         ensures { result ≡ record { unread = input.items; written = []; failures = 0; earlier = 0; latest = 0; fails_after = fails_after } }
@@ -131,7 +131,7 @@ impl<L: Ledger> Device for Script<L> {
 
     ghost earlier = { λ s. s.earlier };
 
-    /// As `Device` has it; it fails exactly where its turn has come, and gives no byte behind a line feed.
+    /// As `Device` has it; it fails exactly where its turn has come, and gives no byte after a line feed.
     fn read(&mut self, buf: &mut [u8]) -> Result<usize, Broken>
         ensures bound { ReadsAtMost result buf.new }
         ensures bytes { ReadConsumes (Some self.old.unread) (Some self.new.unread) result buf.new }

@@ -100,9 +100,9 @@ fn serve_run<R: Threads + Wait + Sync, G: Gate + Sync, D: Device>(
 }
 
 /// Settles, and answers the lines of the device, up to `quit` or the end of the input. Where a call of the device fails it ends
-/// with `Device`, and the debugger is that after the last line executed. A run is made by as many workers as the debugger says,
-/// which tell the gate; what was written before it is handed on first, and its lines are written behind it, one at a time. Each line
-/// costs what its command costs.
+/// with `Device`, and the debugger is that after the last line executed. A run is made by as many workers as the debugger says, which
+/// tell the gate. What was written before it is handed on first, and its lines are written after it, one at a time. Each line costs
+/// what its command costs.
 pub fn session<R: Threads + Wait + Sync, G: Gate + Sync, D: Device>(
     rt: &R,
     alloc: Global,

@@ -1,4 +1,4 @@
-// Settling: the goals that are untried are tried, and what is stuck then is told behind a reply.
+// Settling: the goals that are untried are tried, and a reply ends with those that are stuck then.
 ghost use Rattle.std.specs.Prelude.{◌≡◌, ◌+◌, ◌≤◌, OnErr, OnOk, length, string_bytes, string_capacity, string_len};
 ghost use Rattle.ghc_hooks.specs.Notes.{NotesByGoal};
 ghost use Rattle.ghc_core.specs.World.{World};
@@ -72,10 +72,9 @@ fn tell_stuck(alloc: Global, core: &mut Core, disturbed: &Disturbed, reply: &mut
     let _ = reply.push_str(UNTOLD);
 }
 
-/// Makes a change that was found where no goal is untried, settles, and tells behind what stands in the reply which goals are
-/// stuck then and were not so before, or that memory was refused for this. The goals that the change disturbs are given. An
-/// error leaves the core as it was; it says that memory was refused for the change itself. It costs the change, and a try of
-/// each goal that was disturbed.
+/// Makes a change that was found where no goal is untried, and settles. It adds to the reply a line for each goal that is stuck then and
+/// was not so before, or `F1 no memory` in place of these. The caller gives the goals that the change disturbs. An error leaves the core
+/// as it was; it says that memory was refused for the change itself. It costs the change, and a try of each goal that was disturbed.
 pub fn make(
     alloc: Global,
     core: &mut Core,

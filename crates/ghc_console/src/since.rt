@@ -7,7 +7,7 @@ use ghc_core::Core;
 use ghc_term::Fault;
 use std::alloc::AllocError;
 
-/// Tells the kept step of this number and all behind it, in recorded order, a line each; or the refusal. It costs a look-up, a step
+/// Tells the kept step of this number and all after it, in recorded order, a line each; or the refusal. It costs a look-up, a step
 /// for each place of the record from there on, and the text.
 #[inline(never)]
 pub fn since(core: &Core, number: u32, reply: &mut String) -> Result<(), AllocError>

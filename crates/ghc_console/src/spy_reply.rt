@@ -19,7 +19,7 @@ fn is_defined(program: &Program, name: &Name, arity: u32) -> bool
     !program.clauses_for(name, arity as usize).is_empty()
 }
 
-// The line of the predicate behind a front.
+// The line of the predicate after a front.
 fn tell(
     alloc: Global,
     front: &str,

@@ -15,7 +15,7 @@ pub(crate) fn without_return(bytes: &[u8]) -> &[u8]
     bytes
 }
 
-/// The first line of a text, without what ends it, and the text behind it; none where the text is empty. It takes time in
+/// The first line of a text, without what ends it, and the text after it; none where the text is empty. It takes time in
 /// proportion to the line, and no memory.
 pub fn next_row(text: &[u8]) -> Option<(&[u8], &[u8])>
     ensures found { IfSome result (λ parts. lines_of text.now ≡ parts.0.now ∷ lines_of parts.1.now) }

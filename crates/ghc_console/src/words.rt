@@ -16,7 +16,7 @@ pub(crate) fn first(bytes: &[u8], wanted: u8) -> Option<usize>
     bytes.iter().position(|b| *b == wanted)
 }
 
-/// The first word of a line, and what stands behind it; none where the line has no word. It takes time in proportion to what it
+/// The first word of a line, and what stands after it; none where the line has no word. It takes time in proportion to what it
 /// goes over, and no memory.
 pub fn next_word(line: &[u8]) -> Option<(&[u8], &[u8])>
     ensures found { IfSome result (λ parts. words_of line.now ≡ parts.0.now ∷ words_of parts.1.now) }
@@ -98,7 +98,7 @@ fn begins(byte: u8) -> bool
     byte.is_ascii_uppercase() || byte == b'_'
 }
 
-// Whether the byte may stand in a variable behind its first.
+// Whether the byte may stand in a variable after its first.
 fn goes_on(byte: u8) -> bool
     ensures { result ≡ is_name_byte byte }
 {

@@ -34,7 +34,7 @@ IsSpiedIn spies w g = (b : Goal) × (finite.get w.state.goals g ≡ Some b) × I
 abbrev pub Proposes : World → GoalName → Proposal → Type 0
 Proposes w g p = (p.goal ≡ g) × AttemptAnswers w g None (proposes p.act p.effect)
 
--- The record is that of a step of the goal named g which was proposed in a world that a core of the same opening can be in, and holds in the world w as its next step.
+-- The record is that of a step of the goal named g. It was proposed in a world that a core of the same opening can be in, and holds in the world w as its next step.
 abbrev pub IsHeldStep : World → GoalName → Record → Type 0
 IsHeldStep w g r = (p : Proposal) × ((before : World) × IsStanding before × (before.opening ≡ w.opening) × Proposes before g p) × IsCommitOf w p r
 
@@ -46,7 +46,7 @@ IsNotedFailed notes g = (note : Note) × (f : Fault) × (finite.get notes g ≡ 
 abbrev pub HasMetNoFailure : Option GoalName → List Record → NotesByGoal → Type 0
 HasMetNoFailure root kept notes = (g : GoalName) → IsInQuestion root kept g → ¬ IsNotedFailed notes g
 
--- A run by so many workers may take the step in the world w, with these notes: it reduces a goal in question that is no call of a spied predicate, as it was proposed; by one worker, as it is proposed in w, a call by the least clause that accepts it, and where the run has met no failed goal.
+-- A run by so many workers may take the step in the world w, with these notes: it reduces a goal in question that is no call of a spied predicate, as it was proposed. By one worker it is as proposed in w, a call by the least clause that accepts it, and the run has met no failed goal.
 pub record IsRunStep (workers : ℕ) (spies : Spies) (root : Option GoalName) (w : World) (notes : NotesByGoal) (r : Record) : Type 0 where
   pub goal : GoalName
   pub taken : IsHeldStep w goal r
@@ -55,7 +55,7 @@ pub record IsRunStep (workers : ℕ) (spies : Spies) (root : Option GoalName) (w
   pub unspied : ¬ IsSpiedIn spies w goal
   pub unfailed : workers ≡ 1 → HasMetNoFailure root w.kept notes
 
--- Takes workers spies root w before steps v after: from the world w, with the notes before, a run by so many workers took these steps, one after another, which left the world v, with the notes after. Goals are tried between the steps. By one worker no note goes or changes by that, and a step leaves just the notes that did not look at what it binds.
+-- Takes workers spies root w before steps v after: from the world w, with the notes before, a run by so many workers took these steps, one after another. They left the world v, with the notes after. Goals are tried between the steps. By one worker no note goes or changes by that, and a step leaves just the notes that did not look at what it binds.
 pub data Takes (workers : ℕ) (spies : Spies) (root : Option GoalName) (w : World) (before : NotesByGoal) : List Record → World → NotesByGoal → Type 0 where
   at_start : Takes workers spies root w before [] w before
   and_tries : {steps : List Record} {v : World} {notes : NotesByGoal} (more : NotesByGoal) → Takes workers spies root w before steps v notes → (workers ≡ 1 → AreKept notes more)
@@ -89,7 +89,7 @@ pub record IsQuiet (root : Option GoalName) (w : World) (notes : NotesByGoal) : 
   pub unready : (g : GoalName) → ¬ IsReady root w g
   pub unfailed : (g : GoalName) → ¬ HasFailed root w g
 
--- The reason to stop holds in the world w, with these notes, where so many steps were taken of as many as the limit allows; of several that hold it is the first. Starved says that memory was refused.
+-- The reason to stop holds in the world w, with these notes, after so many steps of as many as the limit allows. Of several that hold it is the first. Starved says that memory was refused.
 pub data Holds (Starved : Type 0) (spies : Spies) (root : Option GoalName) (limit taken : ℕ) (w : World) (notes : NotesByGoal) : Stop → Type 0 where
   has_failed : (g : GoalName) → HasFailed root w g → Holds Starved spies root limit taken w notes (Stop.Clash g)
   is_spied : (g : GoalName) → ((h : GoalName) → ¬ HasFailed root w h) → IsReady root w g → IsSpiedIn spies w g → Holds Starved spies root limit taken w notes (Stop.Spied g)
@@ -98,7 +98,7 @@ pub data Holds (Starved : Type 0) (spies : Spies) (root : Option GoalName) (limi
   is_quiet : ¬ IsFull w → IsQuiet root w notes → Holds Starved spies root limit taken w notes Stop.Quiet
   all_taken : CanGoOn spies root w → taken ≡ limit → Holds Starved spies root limit taken w notes Stop.Limit
 
--- From the world w, with some notes, a run by so many workers left the world v, with these notes: it took as many steps as it reports, at most the limit, and the reason that it reports holds of what is left.
+-- From the world w, with some notes, a run by so many workers left the world v, with these notes. It took as many steps as it reports, at most the limit, and the reason that it reports holds of what is left.
 pub record Runs (Starved : Type 0) (workers : ℕ) (spies : Spies) (root : Option GoalName) (limit : ℕ) (w v : World) (notes : NotesByGoal) (report : Report) : Type 0 where
   pub before : NotesByGoal
   pub steps : List Record

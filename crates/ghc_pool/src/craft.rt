@@ -20,7 +20,7 @@ pub trait Craft<P> {
     /// Whether steps are taken.
     ghost takes: { Self → Bool };
 
-    /// What is told of a worker: its pass as it was, the names that it took since with their answers, and its pass as it is.
+    /// What one sees of a worker: its pass as it was, the names that it took since with their answers, and its pass as it is.
     ghost tells: { Self → P → List Taken → P → Type 0 };
 
     /// Memory was refused for none of these names.

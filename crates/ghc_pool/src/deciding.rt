@@ -87,7 +87,7 @@ fn stop_of_note(reply: &Reply, goal: GoalName, spied: bool) -> Option<RoundStop>
     }
 }
 
-// Want of memory, if the reply says that memory was refused.
+// The stop for memory, if the reply says that memory was refused.
 fn stop_of_settling(reply: &Reply) -> Option<RoundStop>
     ensures { IsSettlingStop reply.now result }
 {

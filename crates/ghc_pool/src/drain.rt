@@ -79,7 +79,7 @@ fn take_one(
     }
 }
 
-// Lists the goals that a step made, the first one last, as far as memory is found: the others are met behind all that are listed.
+// Lists the goals that a step made, the first one last, as far as memory is found: the others are met after all that are listed.
 fn list_made(step: u32, count: u32, listed: &mut Vec<GoalName>) {
     for index in 0..count {
         let place = count - index;

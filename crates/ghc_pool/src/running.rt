@@ -27,7 +27,7 @@ fn go_on(
     while added < limit {
         let taken = drain(core, alloc, spies, root, limit - added, &mut listed);
         if taken == 0 {
-            // A listed goal is ready, not spied, and has room: its step was refused for want of memory alone.
+            // A listed goal is ready, not spied, and has room: its step was refused only because memory was.
             return Report {
                 added,
                 stop: Stop::Memory,
@@ -45,17 +45,17 @@ fn go_on(
     }
 }
 
-/// Takes steps, one after another, until there is a reason to stop, which it reports with how many it took: at most as many as
-/// the limit says, each of a goal in question that is no call of a spied predicate, a call by the least clause that accepts it.
-/// Any goal is in question, or where a root is named, those that descend from it. Of several reasons that hold it reports the
-/// first of clash, spied, memory, full, quiet and limit; no step is taken where one of them but the last holds at the start, nor once a
-/// failed goal in question was met.
+/// Takes steps, one after another, until there is a reason to stop. It reports that reason, and how many steps it took: at most as many
+/// as the limit says. Each is of a goal in question that is no call of a spied predicate; a call goes by the least clause that accepts it.
+/// Any goal is in question, or where a root is named, those that descend from it. Of several reasons that hold it reports the first of
+/// clash, spied, memory, full, quiet and limit. It takes no step where one of them but the last holds at the start, nor once it has met
+/// a failed goal in question.
 ///
-/// The goals that the run makes come first, the newest step's before the others and of one step the first before the others,
-/// then those that were ready, and then those that the run wakes. A step is found with one attempt and taken at once; a goal is
-/// noted only where its step is refused, where it is spied, or where it is not in question. A run costs its attempts and steps;
-/// with a root named, the way up from each goal that it meets and did not make; and at its start and at its end the tries of the
-/// goals that are untried, each goal put in its place in the order, and a look-up or two for each.
+/// The goals that the run makes come first: the newest step's before the others, and of one step the first before the others. Then come
+/// those that were ready, and then those that the run wakes. A step is found with one attempt and taken at once. A goal is noted only
+/// where its step is refused, where it is spied, or where it is not in question. A run costs its attempts and steps, and with a root
+/// named, the way up from each goal that it meets and did not make. At its start and at its end it costs the tries of the goals that are
+/// untried, each goal put in its place in the order, and a look-up or two for each.
 pub fn run(
     core: &mut Core,
     alloc: Global,

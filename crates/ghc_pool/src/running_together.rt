@@ -60,7 +60,7 @@ impl<R: Threads + Wait + Sync, G: Gate + Sync> Team<'_, R, G> {
             let (left, taken) = self.stretch(core, root, limit - added, listed);
             core = left;
             if taken == 0 {
-                // A listed goal is ready, not spied, and has room: its step was refused for want of memory alone.
+                // A listed goal is ready, not spied, and has room: its step was refused only because memory was.
                 let stop = Stop::Memory;
                 return (core, Report { added, stop });
             }
@@ -91,15 +91,15 @@ impl<R: Threads + Wait + Sync, G: Gate + Sync> Team<'_, R, G> {
     }
 }
 
-/// Runs the core in the mode given, by so many workers, and gives it back with a report: steps are taken until there is a reason to
-/// stop, as `run` does, or, to settle, the untried goals are tried and none is taken. Each step was proposed, of a goal in question
-/// that is no call of a spied predicate, and holds where it is taken; the reason that is reported holds of the core that comes back.
+/// Runs the core in the mode given, by so many workers, and gives it back with a report. Steps are taken until there is a reason to stop,
+/// as `run` does; or, to settle, the untried goals are tried and none is taken. Each step was proposed, holds where it is taken, and is
+/// of a goal in question that is no call of a spied predicate. The reason that is reported holds of the core that comes back.
 ///
-/// One worker does what `run` does. Several share the core for rounds, each behind a look at the core that is alone: all goals that
-/// are ready then are worked off, with those that the workers' steps make, each in any order that threads happen to take. In each
-/// round a step costs a proposal and a commit, which fires again, and a few locks; threads are started for each round. Where one goal
-/// alone is ready, up to 64 steps are taken without threads. So several workers show a program under other orders, and make it no
-/// faster. Where memory is refused, so that no step is taken, the run stops for that. It waits where the gate waits.
+/// One worker does what `run` does. Several share the core for rounds, each after a look at the core that is alone. They work off all
+/// goals that are ready then, and those that their steps make, in any order that threads happen to take. In each round a step costs a
+/// proposal and a commit, which fires again, and a few locks; threads are started for each round. Where one goal alone is ready, up to
+/// 64 steps are taken without threads. So several workers show a program under other orders, and make it no faster. Where memory is
+/// refused, so that no step is taken, the run stops for that. It waits where the gate waits.
 pub fn run_together<R: Threads + Wait + Sync, G: Gate + Sync>(
     rt: &R,
     alloc: Global,

@@ -55,15 +55,14 @@ fn take_apart(workers: Vec<Worker>, done: &mut Vec<Work>)
     }
 }
 
-/// A round over a shared core: as many workers as there are passes, from 1 to 64, each in a thread of its own, work off the names,
-/// and what is made by the steps that they take. The first offers first what is handed in. Where steps are taken, a step of a name
-/// in the scope is proposed and submitted, unless the goal is a call of a spied predicate; a name is noted where it is not in the
-/// scope, where no step of it could be proposed, or where it is spied. Where no steps are taken each name is noted. However names
-/// are weighed, what was offered is what was taken and what was left; each that was taken has an answer that is a receipt in what
-/// its worker's pass has seen, and each step that a pass has made is one of these answers, and stands at the place of its receipt.
-/// Where there is no reason to stop, nothing is left. Where a worker has one, the others end with what they have in hand. Where
-/// memory is refused for what the round has to have room for, nothing is offered, and the passes come back as they were. The passes
-/// come back in their order.
+/// A round over a shared core. As many workers as there are passes, from 1 to 64, each in a thread of its own, work off the names, and
+/// the goals that their steps make. The first offers first what is handed in. Where steps are taken, a worker proposes and submits a
+/// step of each name in the scope, unless the goal is a call of a spied predicate. It notes a name that is not in the scope or is spied,
+/// or of which no step could be proposed. Where no steps are taken it notes each name. However names are weighed, what was offered is
+/// what was taken and what was left. Each that was taken has an answer that is a receipt in what its worker's pass has seen. Each step
+/// that a pass has made is one of these answers, and stands at the place of its receipt. Where there is no reason to stop, nothing is
+/// left. Where a worker has one, the others end with what they have in hand. Where memory is refused for the room that the round needs,
+/// nothing is offered, and the passes come back as they were. They always come back in their order.
 pub fn round<'a, N: Naming + Send + Sync, R: Threads + Wait + Sync, G: Gate + Sync>(
     rt: &'a R,
     alloc: Global,

@@ -101,8 +101,8 @@ fn first_spied(core: &Core, spies: &SpySet, goals: &[GoalName]) -> Option<GoalNa
 }
 
 // The goals in question that are ready, by step, then place, where a run can go on; or else the reason to stop. Each goal that is
-// ready or has failed is put in its place in the order, has a look-up, and is asked whether it is in question; those that are ready
-// have two look-ups more. Goals that wait cost nothing.
+// ready or has failed is put in its place in the order, costs a look-up, and is tested for being in question. A ready one costs two
+// look-ups more. Goals that wait cost nothing.
 pub fn survey(
     core: &Core,
     alloc: Global,

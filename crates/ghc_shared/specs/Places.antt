@@ -14,7 +14,7 @@ numbers_from k zero = []
 numbers_from k (suc n) = k ∷ numbers_from (suc k) n
 
 module _ {E : Type 0} where
-  -- the places of a history behind its first `base` items
+  -- the places of a history after its first `base` items
   abbrev pub places_since : ℕ → List E → List ℕ
   places_since base history = numbers_from base (length history - base)
 

@@ -10,20 +10,20 @@ module _ {E A R : Type 0} (answers : List E → A → R → Option E → Type 0)
   AddsIfAccepted accepted old new ask reply =
       MatchBool accepted ((item : E) × (new ≡ old ++ item ∷ []) × answers old ask reply (Some item)) ((new ≡ old) × answers old ask reply None)
 
-  -- The call was accepted behind these items: it is the last item that the pass has seen, and its place is one more of the pass's.
+  -- The call was accepted after these items: it is the last item that the pass has seen, and its place is one more of the pass's.
   pub record IsAcceptedCall (before : List E) (ask : A) (reply : R) (place : ℕ) (old new : Known E) : Type 0 where
     pub item : E
     pub front : new.front ≡ before ++ item ∷ []
     pub answer : answers before ask reply (Some item)
     pub places : new.places ≡ old.places ++ place ∷ []
 
-  -- The call was refused behind these items: the pass has seen them and no more, and its places are as they were.
+  -- The call was refused after these items: the pass has seen them and no more, and its places are as they were.
   pub record IsRefusedCall (before : List E) (ask : A) (reply : R) (old new : Known E) : Type 0 where
     pub front : new.front ≡ before
     pub answer : answers before ask reply None
     pub places : new.places ≡ old.places
 
-  -- The call was decided behind these items, which begin with all that the pass had seen, and the receipt tells how many they are.
+  -- The call was decided after these items, which begin with all that the pass had seen, and the receipt tells how many they are.
   pub record IsDecided (before : List E) (ask : A) (receipt : Receipt R) (old new : Known E) : Type 0 where
     pub seen : IsPrefix old.front before
     pub place : receipt.place ≡ length before

@@ -21,7 +21,7 @@ module _ {E : Type 0} where
   abbrev pub beside : Knowledge E → Knowledge E → Knowledge E
   beside v w = record { keeps = v.keeps; seen = v.seen; compared = w.seen }
 
-  -- Fits seat log by v: the seat numbered `by` may know v, where `seat` is the keeper's and the log is this: only the keeper knows all of it, and what was seen begins it.
+  -- Fits seat log by v: the seat numbered `by` may know v, where `seat` is the keeper's and the log is this. Only the keeper knows all of it, and what was seen begins it.
   abbrev pub Fits : ℕ → List (ℕ × E) → ℕ → Knowledge E → Type 0
   Fits seat log by v = (v.keeps ≡ true → (by ≡ seat) × (v.seen ≡ log)) × IsPrefix v.seen log × IsPrefix v.compared log
 

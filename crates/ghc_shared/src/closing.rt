@@ -17,8 +17,8 @@ use crate::shared::Shared;
 use std::sync::ledger::Share;
 
 impl<C: Growing + Drop, N: Naming> Shared<C, N> {
-    /// Takes back all passes that the opening gave, in their order, and gives the value: its history begins with each pass's front,
-    /// and each place since the opening is that of one accepted call of one pass. It takes no memory, waits for nobody, and is never
+    /// Takes back all passes that the opening gave, in their order, and gives the value. Its history begins with each pass's front, and
+    /// each place since the opening is that of one accepted call of one pass. It takes no memory, waits for nobody, and is never
     /// refused; it costs a few steps on one word for each pass.
     pub fn close(self, passes: Vec<Pass<C, N>>) -> C
         requires all { AreAll N.passes 0 passes.items }

@@ -70,9 +70,9 @@ impl<N: Naming> Shared<Core, N> {
         self.call(rt, alloc, me, call)
     }
 
-    /// Takes the step that was proposed, as a commit of the core does. Accepted, its entry is the last item of the pass's front; a
-    /// refusal, want of memory too, is the receipt's reply, and that the goal is gone is told whatever memory is left. The receipt's
-    /// place counts the opening, which is the first item: `answered` speaks of the place among the entries, which is one less.
+    /// Takes the step that was proposed, as a commit of the core does. Accepted, its entry is the last item of the pass's front. A
+    /// refusal, F1 too, is the receipt's reply; F1 never hides that the goal is gone. The receipt's place counts the opening, which is
+    /// the first item: `answered` speaks of the place among the entries, which is one less.
     pub fn submit<R: Wait>(
         &self,
         rt: &R,
@@ -90,8 +90,8 @@ impl<N: Naming> Shared<Core, N> {
         self.ask(rt, alloc, me, Call::Submit(proposal))
     }
 
-    /// Tries the goal and notes what was found, as the core does. It adds no entry: the reply is the status of the goal behind just
-    /// the pass's front, or a refusal; that there is no goal to try is told whatever memory is left. The receipt's place is as at `submit`.
+    /// Tries the goal and notes what was found, as the core does. It adds no entry: the reply is the status of the goal after just the
+    /// pass's front, or a refusal. F1 never hides that there is no goal to try. The receipt's place is as at `submit`.
     pub fn note<R: Wait>(
         &self,
         rt: &R,
@@ -109,9 +109,8 @@ impl<N: Naming> Shared<Core, N> {
         self.ask(rt, alloc, me, Call::Note(goal))
     }
 
-    /// Does what the command says, as the core does. Accepted, its entry is the last item of the pass's front; a refusal, want of
-    /// memory too, is the receipt's reply, and what the core refuses whatever memory is left is told so. The receipt's place is as at
-    /// `submit`.
+    /// Does what the command says, as the core does. Accepted, its entry is the last item of the pass's front. A refusal, F1 too, is the
+    /// receipt's reply; F1 hides nothing here that it cannot hide in the core. The receipt's place is as at `submit`.
     pub fn command<R: Wait>(
         &self,
         rt: &R,
@@ -129,9 +128,9 @@ impl<N: Naming> Shared<Core, N> {
         self.ask(rt, alloc, me, Call::Command(command))
     }
 
-    /// The pass sees the history as it is now, and is shown how many entries that is, and which steps are kept behind it. Where
-    /// memory is refused for their numbers nothing is shown, and the pass has seen it still. It costs one step for each place of
-    /// the record, while nobody else reads.
+    /// The pass sees the history as it is now, and learns how many entries that is, and which steps are kept after it. Where memory is
+    /// refused for their numbers it learns nothing, and has seen the history still. It costs one step for each place of the record,
+    /// while nobody else reads.
     pub fn look<R: Wait>(
         &self,
         rt: &R,

@@ -16,7 +16,7 @@ pub trait Growing {
     /// What is replied to it.
     type Reply: Drop;
 
-    /// The history: how the value began, and behind it an item for each accepted call, in their order.
+    /// The history: how the value began, and then an item for each accepted call, in their order.
     ghost history: { Self → List Self.Item };
 
     /// The code of how the value began, which no call changes.
@@ -25,7 +25,7 @@ pub trait Growing {
     /// The history is one that can be.
     ghost legal: { List Self.Item → Type 0 };
 
-    /// What may be replied to a call behind these items: with the item that it adds, where it is accepted, and else with none.
+    /// What may be replied to a call after these items: with the item that it adds, where it is accepted, and else with none.
     ghost answers: { List Self.Item → Self.Ask → Self.Reply → Option Self.Item → Type 0 };
 
     /// What a call with this reply may do to the value beside its history.

@@ -8,9 +8,9 @@ use crate::growing::Growing;
 use crate::knowledge::{CatchUp, Compared, Copied, HistorySeat, HistoryTable};
 use std::snapshot::Snapshot;
 
-// The keeper finds what the claim has seen to begin what it knows, and takes in what the value's history has more, which the
-// pass with this number made: its length was `old` and is `new`. The claim is spent; the seat that is given in its place has
-// seen all that the keeper knows. It takes no memory, and cannot fail: the word is changed by one compare-and-exchange.
+// The keeper finds that what the claim has seen begins what it knows. It takes in what the value's history has more, which the pass
+// with this number made: its length was `old` and is `new`. The claim is spent; the seat given in its place has seen all that the
+// keeper knows. It takes no memory, and cannot fail: the word is changed by one compare-and-exchange.
 pub(crate) fn catch_up<C: Growing>(
     table: &HistoryTable<C>,
     seat: &mut HistorySeat<C>,

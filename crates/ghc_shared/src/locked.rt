@@ -67,7 +67,7 @@ impl<C: Growing, N: Naming> Locked<C, N> {
         drop(self.held.replace(Some(kept)));
     }
 
-    // Makes the call, and the pass sees the whole history behind it.
+    // Makes the call, and the pass sees the whole history after it.
     pub(crate) fn call(
         &mut self,
         table: &HistoryTable<C>,

@@ -1,4 +1,4 @@
--- What is told of the steps of a slice, and of those who hold a variable.
+-- What `explain` tells of the steps of a slice, and of those who hold a variable.
 use Rattle.std.specs.Prelude.{ℕ, List, [], ◌∷◌, ◌++◌, codes}
 use Rattle.std.specs.Fmt.{decimal}
 use Rattle.ghc_term.specs.Text.{variable_text}
@@ -11,12 +11,12 @@ use Rattle.ghc_trace.specs.declared.holding.Holder.{Holder}
 use Rattle.ghc_trace.specs.News.{Stands, status_text}
 use Rattle.ghc_trace.specs.OtherClauses.{AreOtherClauses}
 
--- more of the other clauses, each behind a comma
+-- more of the other clauses, each after a comma
 abbrev pub more_text : List ℕ → List ℕ
 more_text [] = []
 more_text (k ∷ ks) = codes "," ++ (decimal k ++ more_text ks)
 
--- the other clauses behind the text of a record, as ` or 3,4`, and nothing where there is none
+-- the other clauses after the text of a record, as ` or 3,4`, and nothing where there is none
 abbrev pub others_text : List ℕ → List ℕ
 others_text [] = []
 others_text (k ∷ ks) = codes " or " ++ (decimal k ++ more_text ks)

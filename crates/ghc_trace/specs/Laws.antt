@@ -1,4 +1,4 @@
--- Laws of what is told of goals.
+-- Laws of what ghcdb tells of goals.
 use Rattle.std.specs.Prelude.{List, ◌++◌, map}
 use Rattle.std.specs.FinSet as set
 use Rattle.ghc_term.specs.declared.goal_name.GoalName.{GoalName}

@@ -16,7 +16,7 @@ use Rattle.ghc_core.specs.World.{World}
 abbrev pub Stands : World → GoalName → Status → Type 0
 Stands w g s = StandsAs w.opening.program w.state.goals w.state.store g s
 
--- The status is one to be told: the goal waits, or has failed.
+-- A status that has a line: the goal waits, or has failed.
 abbrev pub IsStuck : Status → Type 0
 IsStuck ready = ⊥
 IsStuck (waiting xs) = Unit {0}
@@ -47,7 +47,7 @@ status_text (waiting xs) = codes "waits " ++ variables_text xs
 status_text (failed f) = codes "failed " ++ cause_text (fault_number f)
 status_text streaming = codes "stream"
 
--- the line of a goal that is stuck, as `SUSP 0.1 _0_1,_0_2` or `FAIL 0.1 F10`; of one that is not, nothing is told
+-- the line of a goal that is stuck, as `SUSP 0.1 _0_1,_0_2` or `FAIL 0.1 F10`; of one that is not, nothing
 abbrev pub news_line : Standing → List ℕ
 news_line (g, ready) = []
 news_line (g, waiting xs) = codes "SUSP " ++ (goal_name_text g ++ (codes " " ++ (variables_text xs ++ codes "\n")))

@@ -40,7 +40,7 @@ pub record AreOtherClauses (w : World) (r : Record) (ks : List ℕ) : Type 0 whe
   pub «exactly» : (k : ℕ) → In k ks ↔ CouldBe w r k
   pub rising : IsStrictlyIncreasing ks
 
--- In a reachable world, once a kept step was rolled back, and where a new step has room, a step of its goal by clause k is taken exactly where that is its own clause, or another one by which it could have been.
+-- Roll back a kept step of a reachable world, and let a new step have room. Then a step of its goal by clause k is taken exactly where k is its own clause, or another one by which it could have been.
 abbrev pub OtherClausesAreTaken : Type 0
 OtherClausesAreTaken =
     (w v : World) (hands : Hands) (r : Record) (g : GoalName) (k : ℕ) (ns : List ℕ) → IsReachable w hands → In r w.kept → r.goal ≡ Some g

@@ -10,7 +10,7 @@ port_text (reduced s) = codes "REDU " ++ step_text s
 port_text (called g b) = codes "CALL " ++ (goal_name_text g ++ (codes " " ++ goal_text b))
 port_text (resumed g) = codes "RESU " ++ goal_name_text g
 
--- ports, each with a line feed behind it
+-- ports, each with a line feed after it
 abbrev pub ports_text : List Port → List ℕ
 ports_text [] = []
 ports_text (p ∷ ps) = port_text p ++ (codes "\n" ++ ports_text ps)

@@ -1,4 +1,4 @@
--- Who bound the variables of a chain, as it is told.
+-- Who bound the variables of a chain, as `who` tells it.
 use Rattle.std.specs.Prelude.{◌≡◌, ℕ, List, ◌++◌, codes, map}
 use Rattle.std.specs.Fmt.{decimal}
 use Rattle.ghc_term.specs.declared.var_name.VarName.{VarName}

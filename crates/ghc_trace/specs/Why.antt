@@ -1,4 +1,4 @@
--- Why a step was possible, as it is told.
+-- Why a step was possible, as `why` tells it.
 use Rattle.std.specs.Prelude.{◌≡◌, ℕ, List, map}
 use Rattle.ghc_records.specs.Record.{Record}
 use Rattle.ghc_depend.specs.declared.cause.Cause.{Cause}

@@ -20,7 +20,7 @@ use ghc_records::{Record, push_goal_name, push_record};
 use ghc_term::{push_number, push_variable};
 use std::alloc::{AllocError, Global};
 
-// Writes the clauses from this place on, each behind a comma.
+// Writes the clauses from this place on, each after a comma.
 fn write_more(others: &[u32], from: usize, out: &mut String) -> Result<(), AllocError>
     ensures { OnOk result (string_bytes out.new ≡ string_bytes out.old ++ more_text (drop from others.now)) }
 {
@@ -33,7 +33,7 @@ fn write_more(others: &[u32], from: usize, out: &mut String) -> Result<(), Alloc
     Ok(())
 }
 
-// Writes the other clauses behind the text of a record.
+// Writes the other clauses after the text of a record.
 fn write_others(others: &[u32], out: &mut String) -> Result<(), AllocError>
     ensures { OnOk result (string_bytes out.new ≡ string_bytes out.old ++ others_text others.now) }
 {
@@ -56,8 +56,8 @@ fn write_step(alloc: Global, core: &Core, step: &Record, out: &mut String) -> Re
     out.push_str("\n")
 }
 
-/// Writes a line for each kept step of these numbers, in their order, at the end of `out`: the record, and behind it the other clauses by
-/// which the step could have been, as ` or 3,4`. It costs what `other_clauses` costs for each, and the text.
+/// Writes a line for each kept step of these numbers, in their order, at the end of `out`. A line is the record, and then the other
+/// clauses by which the step could have been, as ` or 3,4`. It costs what `other_clauses` costs for each, and the text.
 pub fn push_steps(
     alloc: Global,
     core: &Core,

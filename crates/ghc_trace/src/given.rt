@@ -46,7 +46,7 @@ fn given_to(alloc: Global, core: &Core, x: VarName) -> Result<Vec<u32>, AllocErr
 }
 
 /// The numbers of the steps of the slice of the variable, in recorded order: of the kept steps those that gave it its term, or made
-/// it, and all on which these depend. It costs the size of the term, and what `slice` costs. It fails for want of memory alone.
+/// it, and all on which these depend. It costs the size of the term, and what `slice` costs. It fails only where memory is refused.
 pub fn slice_of(alloc: Global, core: &Core, x: VarName) -> Result<Vec<u32>, AllocError>
     ensures { IfOk result (λ told. IsToldSliceOf core.now.world.kept core.now.world.state x told.items) }
 {

@@ -86,10 +86,9 @@ fn write_lines(
     Ok(())
 }
 
-/// Writes a line for each goal, by step, then place, with its status and its text in the store, as
-/// `0.1 waits _0_1 append(_0_1,_0_2)`, at the end of `out`, which stays as it was where that is refused: for want of memory, or
-/// by the limit `print`, just where memory is found but the text of a goal has more than `PRINT_LIMIT` bytes. Some look-ups for
-/// each goal, and the cost of `print_goal` for each.
+/// Writes a line for each goal at the end of `out`, by step, then place: its status and its text in the store, as
+/// `0.1 waits _0_1 append(_0_1,_0_2)`. It refuses where there is no memory, or with the limit `print` where there is and the text of
+/// a goal has more than `PRINT_LIMIT` bytes; `out` then stays as it was. It costs some look-ups and a `print_goal` for each goal.
 pub fn push_goals(
     alloc: Global,
     goals: &Goals,

@@ -116,7 +116,7 @@ fn listed(alloc: Global, holders: &BTreeSet<Holder>) -> Result<Vec<Holder>, Allo
 
 /// The unbound variables of the variable's term, each with the goals that reach it: by variable, then goal, each by step, then place.
 /// Where there is no such variable it costs the size of the term; else it goes once through what each goal reaches, and puts what is
-/// found in order. It fails for want of memory alone.
+/// found in order. It fails only where memory is refused.
 pub fn holders(alloc: Global, core: &Core, x: VarName) -> Result<Vec<Holder>, AllocError>
     ensures { IfOk result (λ list. AreHolders core.now.world.state x list.items) }
 {

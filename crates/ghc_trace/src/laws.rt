@@ -12,7 +12,7 @@ pub fn notes_tell_news()
     ensures { NotesTellNews }
 {}
 
-/// Once a kept step was rolled back, its goal can be stepped by the step's own clause, and by just those others that are told for it.
+/// Once a kept step was rolled back, its goal can be stepped by the step's own clause, and by just those others that its line tells.
 pub fn other_clauses_are_taken()
     ensures { OtherClausesAreTaken }
 {}

@@ -1,5 +1,5 @@
-//! What a step shows as it is taken, what a change tells of goals that are stuck, why a step was possible and which other clauses
-//! were, what bound the variables of a chain, which goals descend from a goal, and which predicates are spied.
+//! What a step shows as it is taken, and which goals a change leaves stuck. Why a step was possible, and by which other clauses. What
+//! bound the variables of a chain, which goals descend from a goal, and which predicates are spied.
 #![tactic(auto)]
 
 mod cause_places;

@@ -105,9 +105,8 @@ fn write_each_news(
 }
 
 impl Disturbed {
-    /// Writes the port `RESU` of each goal that waited for a variable that the step binds, by name, each with a line feed behind
-    /// it, at the end of `out`, which stays as it was where memory is refused. The cost is that of the text, and one look-up for
-    /// each variable for which a goal waited.
+    /// Writes the port `RESU` of each goal that waited for a variable that the step binds, by name, a line each, at the end of `out`.
+    /// Where memory is refused, `out` stays as it was. It costs the text, and one look-up for each variable for which a goal waited.
     pub fn push_resumed(&self, step: &Record, out: &mut String) -> Result<(), AllocError>
         ensures ok { OnOk result ((names : List goal_name) × AreResumedBy step.now self.now names × (string_bytes out.new ≡ string_bytes out.old ++ ports_text (map resumed names))) }
         ensures err { OnErr result (string_bytes out.new ≡ string_bytes out.old) }
@@ -117,9 +116,9 @@ impl Disturbed {
         or_cut_back(out, length, written)
     }
 
-    /// Writes the line of each goal that is stuck by its note otherwise than it was before the change, by name, as
-    /// `SUSP 0.1 _0_1,_0_2` or `FAIL 0.1 F10`, each with a line feed behind it, at the end of `out`, which stays as it was where
-    /// memory is refused. The cost is that of the text, and a few look-ups for each goal and each variable for which it waits.
+    /// Writes the line of each goal that is stuck by its note otherwise than it was before the change, by name, at the end of `out`:
+    /// `SUSP 0.1 _0_1,_0_2` or `FAIL 0.1 F10`. Where memory is refused, `out` stays as it was. It costs the text, and a few look-ups
+    /// for each goal and each variable for which it waits.
     pub fn push_news(&self, tries: &Tries, out: &mut String) -> Result<(), AllocError>
         ensures ok { OnOk result ((news : List Standing) × AreStuckOtherwise tries.now.notes self.now news × (string_bytes out.new ≡ string_bytes out.old ++ news_text news)) }
         ensures err { OnErr result (string_bytes out.new ≡ string_bytes out.old) }

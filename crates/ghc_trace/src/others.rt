@@ -49,7 +49,7 @@ fn read_by(
 }
 
 // Whether the binding of one of these variables rests on the step at this place. It goes up from the steps that bound them, the last
-// one first, as far as that place: a look-up for each goal, read and name of a step behind it on which one of the bindings rests.
+// one first, as far as that place. It costs a look-up for each goal, read and name of a later step on which one of the bindings rests.
 fn one_rests_on(
     alloc: Global,
     records: &Records,
@@ -134,10 +134,10 @@ fn others_for(
     Ok(others)
 }
 
-/// The numbers of the other clauses by which the kept step could have been, rising: those that say yes to the goal that it consumed,
-/// in the state without this step and its consequences; none where it consumed no call. It costs a try of each other clause of the
-/// predicate, and where one says yes now, a look-up for each variable that it reads, and for each goal, read and name of the steps
-/// behind this one on which those bindings rest. It fails for want of memory alone.
+/// The numbers of the other clauses by which the kept step could have been, rising. These are the clauses that say yes to the goal
+/// that it consumed, in the state without this step and its consequences; none where it consumed no call. It costs a try of each other
+/// clause of the predicate. Where one says yes now, it costs a look-up for each variable that the clause reads, and for each goal, read
+/// and name of the later steps on which those bindings rest. It fails only where memory is refused.
 pub fn other_clauses(alloc: Global, core: &Core, step: &Record) -> Result<Vec<u32>, AllocError>
     requires { In step.now core.now.world.kept }
     ensures { IfOk result (λ told. AreOtherClauses core.now.world step.now told.items) }

@@ -49,7 +49,7 @@ fn write_port(port: &Port, out: &mut String) -> Result<(), AllocError>
     }
 }
 
-// Writes ports, each with a line feed behind it.
+// Writes ports, each with a line feed after it.
 fn write_ports(ports: &[Port], out: &mut String) -> Result<(), AllocError>
     ensures text { OnOk result (string_bytes out.new ≡ string_bytes out.old ++ ports_text (map port_of ports.now)) }
     ensures begun { StartsWith (string_bytes out.new) (string_bytes out.old) }
@@ -71,8 +71,8 @@ pub fn push_port(port: &Port, out: &mut String) -> Result<(), AllocError>
     or_cut_back(out, length, written)
 }
 
-/// Writes ports at the end of `out`, which stays as it was where memory is refused, each with a line feed behind it. The cost
-/// is that of the text.
+/// Writes ports at the end of `out`, each with a line feed after it. Where memory is refused, `out` stays as it was. It costs the
+/// text.
 pub fn push_ports(ports: &[Port], out: &mut String) -> Result<(), AllocError>
     ensures { string_bytes out.new ≡ (if is_ok result then string_bytes out.old ++ ports_text (map port_of ports.now) else string_bytes out.old) }
 {

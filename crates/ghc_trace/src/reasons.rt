@@ -17,9 +17,9 @@ pub struct Reason {
     pub cause: Cause,
 }
 
-/// The steps on which the kept step of this number depends directly, in recorded order, each with its cause. `NotKept` exactly
-/// where it is not kept, which is told before memory is asked for; else it fails for want of memory alone. It costs some look-ups
-/// for each variable that the step read or that stands in what it asks for, and puts the places of the steps so found in order.
+/// The steps on which the kept step of this number depends directly, in recorded order, each with its cause. It refuses with `NotKept`
+/// exactly where the step is not kept, before it takes memory; else only with `Memory`. It costs some look-ups for each variable that
+/// the step read or that stands in what it asks for, and puts the places of the steps so found in order.
 pub fn why(alloc: Global, records: &Records, number: u32) -> Result<Vec<Reason>, Fault>
     ensures found { IfOk result (λ reasons. AreReasonsTold records.now.held number reasons.items) }
     ensures not_kept { IsNotKept records.now.held number → result ≡ Err Fault.NotKept }

@@ -28,8 +28,8 @@ fn add_numbered(
 }
 
 /// The numbers of the kept steps that have one of these numbers, and of all on which they depend, in recorded order. It costs a
-/// look-up for each number, and for each goal, read and name of a step of the slice, and puts the places of those in order; what
-/// is kept beside the slice costs nothing. It fails for want of memory alone.
+/// look-up for each number, and for each goal, read and name of a step of the slice, and puts the places of those in order. What is
+/// kept beside the slice costs nothing. It fails only where memory is refused.
 pub fn slice(alloc: Global, records: &Records, roots: &[u32]) -> Result<Vec<u32>, AllocError>
     ensures { IfOk result (λ told. IsSliceTold records.now.held roots.now told.items) }
 {

@@ -86,7 +86,8 @@ impl SpySet {
         }
     }
 
-    /// The set of these predicates, in whatever order they stand and however often: one look-up for each. It fails for want of memory alone.
+    /// The set of these predicates, in whatever order they stand and however often. It costs one look-up for each. It fails only where
+    /// memory is refused.
     pub fn of(alloc: Global, predicates: &[Written]) -> Result<SpySet, AllocError>
         ensures { IfOk result (λ spies. spies ≡ spied_of predicates.now) }
     {
@@ -98,7 +99,7 @@ impl SpySet {
     }
 
     /// The predicates of the set, each once, by name, byte by byte, then arity. It costs what it takes to put them in order. It fails
-    /// for want of memory, or where a count of handles is full.
+    /// where memory is refused, or a count of handles is full.
     pub fn in_order(&self, alloc: Global) -> Result<Vec<Written>, AllocError>
         ensures { IfOk result (λ listed. listed.items ≡ spies_in_order self.now) }
     {

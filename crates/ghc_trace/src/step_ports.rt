@@ -67,8 +67,8 @@ fn write_ports_of(taken: &Record, out: &mut String) -> Result<(), AllocError>
     write_calls(taken.number(), taken.effect(), out)
 }
 
-/// Writes the ports of a step without those of the goals that it resumes at the end of `out`, which stays as it was where
-/// memory is refused, each with a line feed behind it. The cost is that of the text.
+/// Writes the ports of a step, but for those of the goals that it resumes, a line each, at the end of `out`. Where memory is refused,
+/// `out` stays as it was. It costs the text.
 pub fn push_ports_of(taken: &Record, out: &mut String) -> Result<(), AllocError>
     ensures { string_bytes out.new ≡ (if is_ok result then string_bytes out.old ++ ports_text (taken_ports taken.now) else string_bytes out.old) }
 {

@@ -43,9 +43,9 @@ pub fn binders(alloc: Global, core: &Core, x: VarName) -> Result<Vec<Binder>, Al
     binders_of(alloc, core, chain.as_slice())
 }
 
-/// The variables of the chain of `x` that are bound, in its order, each with the kept step that bound it; none where `x` is
-/// unbound. `NoVariable` exactly where `x` is neither a variable of the query nor one that a kept step made, which is told before
-/// memory is asked for; else it fails for want of memory alone. It costs what `binders` costs, and a look-up.
+/// The variables of the chain of `x` that are bound, in its order, each with the kept step that bound it; none where `x` is unbound.
+/// It refuses with `NoVariable` exactly where `x` is neither a variable of the query nor one that a kept step made, before it takes
+/// memory; else only with `Memory`. It costs what `binders` costs, and a look-up.
 pub fn who(alloc: Global, core: &Core, x: VarName) -> Result<Vec<Binder>, Fault>
     ensures found { IfOk result (λ told. AreBindersTold core.now.world x told.items) }
     ensures no_variable { IsNoVariable core.now.world x → result ≡ Err Fault.NoVariable }

@@ -16,7 +16,7 @@ heading_bytes = 14
 abbrev pub IsHeadingLine : List ℕ → Type 0
 IsHeadingLine bytes = (bytes ≡ heading ++ codes "\n") ⊎ (bytes ≡ chronicle_heading ++ codes "\n")
 
--- IsReadOf whole text: this text is read of the whole one: all of it where it begins with the first line of a history, else as many bytes as such a line has.
+-- IsReadOf whole text: this text is read of the whole one. It is all of it where that begins with the first line of a history, else as many bytes as such a line has.
 abbrev pub IsReadOf : List ℕ → List ℕ → Type 0
 IsReadOf whole text = (IsHeadingLine (take heading_bytes whole) × (text ≡ whole)) ⊎ ((¬ IsHeadingLine (take heading_bytes whole)) × (text ≡ take heading_bytes whole))
 

@@ -1,4 +1,4 @@
--- What the texts of a program, a query and a history start: the core of the program and the query, on which the history is loaded where there is one, and the predicates that are spied; or a refusal.
+-- What the texts of a program, a query and a history start. It is the core of the program and the query, on which the history is loaded where there is one, and the predicates that are spied; or a refusal.
 use Rattle.std.specs.Prelude.{◌≡◌, ℕ, List, Option, None, Some, Ok, Err}
 use Rattle.std.specs.FinSet as set
 use Rattle.ghc_term.specs.declared.fault.Fault.{Fault}
@@ -31,7 +31,7 @@ OpensOn s (Some text) w spies = GivesBack s text w spies
 abbrev pub IsOfVersionTwo : List ℕ → Type 0
 IsOfVersionTwo text = IsLine text 0 chronicle_heading
 
--- Why the text gives nothing back: a text of version 1 tells no history, or a step of that is not possible; one of version 2 tells no chronicle, or that is not carried out.
+-- Why the text gives nothing back: a text of version 1 tells no history, or a step of that is not possible. One of version 2 tells no chronicle, or that is not carried out.
 pub data IsHistoryFault (s : Started) (text : List ℕ) (fault : Fault) : Type 0 where
   of_text : ¬ IsOfVersionTwo text → IsHistoryRefusal text fault → IsHistoryFault s text fault
   of_step : (h : History) → TellsHistory text h → Loads ⊥ s.program s.query.goals s.query.variables h (Err fault) → IsHistoryFault s text fault

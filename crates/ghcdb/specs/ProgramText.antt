@@ -11,7 +11,7 @@ use Rattle.ghc_reader.specs.Written.{WrittenClause}
 abbrev pub most_read : ℕ
 most_read = most_bytes + 1
 
--- The bytes to come are now those behind the ones that were taken, which are no more than this.
+-- The bytes to come are now those after the ones that were taken, which are no more than this.
 abbrev pub TakesAtMost : ℕ → Option (List ℕ) → Option (List ℕ) → Type 0
 TakesAtMost most old new = (taken : List ℕ) × Consumes old new taken × (length taken ≤ most)
 

@@ -11,7 +11,7 @@ use Rattle.ghcdb.specs.Start.{IsStarted}
 use Rattle.ghcdb.specs.Opening.{OpensOn}
 use Rattle.ghcdb.specs.declared.start.Started.{Started}
 
--- A session on what was started can be in the world w with these spies: changes lead to the world, it is of that program and query, and the program has a clause of each predicate that is spied.
+-- A session on what was started can be in the world w with these spies. Changes lead to the world, it is of that program and query, and the program has a clause of each predicate that is spied.
 pub record IsSessionOf (s : Started) (w : World) (spies : Spies) : Type 0 where
   pub standing : IsStanding w
   pub program : w.opening.program ≡ s.program
@@ -29,7 +29,7 @@ WhatOpensIsASession =
 abbrev pub IsStateOf : Started → SessionState → Type 0
 IsStateOf s t = IsSessionOf s t.world t.spies
 
--- What lines leave, in a session that is whole or broken off, is a session on what was started, where it was one in front of them; and so it is behind each line.
+-- What lines leave, in a session that is whole or broken off, is a session on what was started, where it was one before them. So it is after each line.
 pub record SessionsStaySessions : Type 0 where
   pub line : (s : Started) (before after : SessionState) (bytes text : List ℕ) (ended : Bool) → IsStateOf s before → IsReply before bytes text after ended → IsStateOf s after
   pub whole : (s : Started) (count : ℕ) (before after : SessionState) (lines : List (List ℕ)) (out : List ℕ) → IsStateOf s before → Session count before lines out after ⊎ Began count before lines out after → IsStateOf s after

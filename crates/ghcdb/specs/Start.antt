@@ -20,7 +20,7 @@ pub record IsStarted (program_text : List ℕ) (query_text : List ℕ) (started 
   pub reads_query : IsReadQuery query_text started.query
   pub accepted : IsAcceptedAs written started.query.goals started.program
 
--- No memory is left, which is told of this part.
+-- No memory is left, and the refusal names this part.
 pub record IsNoMemoryFor (told_of : RefusedPart) (refusal : Refusal) : Type 0 where
   pub fault : refusal.fault ≡ Memory
   pub part_is : refusal.part ≡ told_of
@@ -35,7 +35,7 @@ pub record AreRead (program_text : List ℕ) (query_text : List ℕ) (written : 
   pub reads_program : IsReadProgram program_text written
   pub reads_query : IsReadQuery query_text query
 
--- The refusal is the first of these: of the program's text; of the query's text, where the program's is read; for the fault of the program's clauses, where both texts are read; for the query's undefined call, where nothing is wrong with the program.
+-- The refusal is the first of these: of the program's text; of the query's text, where the program's is read; for the fault of the program's clauses, where both are read; for the query's undefined call, where the program is right.
 pub data IsStartRefusal (program_text : List ℕ) (query_text : List ℕ) (refusal : Refusal) : Type 0 where
   of_program : refusal.part ≡ part.Program → IsRefusal a_program program_text refusal.fault → IsStartRefusal program_text query_text refusal
   of_query :
@@ -65,7 +65,7 @@ StartIsExact =
     → AnsweredUnless (IsOutOfMemory program_text) (IsStarted program_text query_text) (IsStartRefusal program_text query_text) result
     → IsExactUnless (IsOutOfMemory program_text) (IsStarted program_text query_text) (IsStartRefusal program_text query_text) result
 
--- what is told of a refusal by the checker: the fault, of the text at fault
+-- what a refusal by the checker is: the fault, of the text at fault
 abbrev pub told_of : Refused → Refusal
 told_of (refused.Program e) = record { part = part.Program; fault = e }
 told_of (refused.Query e) = record { part = part.Query; fault = e }

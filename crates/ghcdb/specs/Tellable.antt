@@ -19,17 +19,17 @@ use Rattle.ghcdb.specs.Saving.{OpensAs}
 use Rattle.ghcdb.specs.Sessions.{IsStateOf}
 use Rattle.ghcdb.specs.declared.start.Started.{Started}
 
--- A text can tell the state of a session, as far as its length goes: the steps of its opening consume a goal each, lines can say the entries of its journal, and each predicate that is spied has a name of the grammar, and an arity of 32 bits.
+-- A text can tell the state of a session, but for its length. The steps of its opening consume a goal each, lines can say the entries of its journal, and each predicate that is spied has a name of the grammar, and an arity of 32 bits.
 pub record IsTellable (t : SessionState) : Type 0 where
   pub steps : (s : Step) → In s t.world.opening.steps → IsOfAGoal s
   pub entries : (e : Entry) → In e t.world.journal → CanBeSaid e
   pub names : (f : List ℕ) (n : ℕ) → HasPredicate t.spies f n → IsNameText f × (n ≤ greatest_number)
 
--- No more entries stand behind the opening than a text may have.
+-- No more entries stand after the opening than a text may have.
 abbrev pub HasFewEntries : World → Type 0
 HasFewEntries w = let c = chronicle_of_world w [] in length c.entries ≤ entry_limit
 
--- What opens on program and query that are started is tellable, and so is what lines leave of a session on them that was, in one that is whole or broken off; and a text can tell the chronicle of such a state, where that has no more entries than a text may have.
+-- What opens on program and query that are started is tellable, and so is what lines leave of a tellable session on them, whole or broken off. A text can tell the chronicle of such a state, where that has no more entries than a text may have.
 pub record SessionsStayTellable : Type 0 where
   pub opened :
       (program_text query_text : List ℕ) (s : Started) (history : Option (List ℕ)) (t : SessionState)
@@ -41,7 +41,7 @@ pub record SessionsStayTellable : Type 0 where
       (program_text query_text : List ℕ) (s : Started) (t : SessionState)
       → IsStarted program_text query_text s → IsStateOf s t → IsTellable t → HasFewEntries t.world → CanBeTold (chronicle_of_world t.world (spies_in_order t.spies))
 
--- What `save` tells anywhere in a session that was opened, also in one that was broken off, opens as that session: its world, whole, and its spies; where the journal has no more entries than a text may have.
+-- Take any point of a session that was opened, also of one that was broken off, where the journal has no more entries than a text may have. What `save` tells there opens as that session, with its world, whole, and its spies.
 abbrev pub EachSaveOpensAgain : Type 0
 EachSaveOpensAgain =
     (program_text query_text : List ℕ) (s : Started) (history : Option (List ℕ)) (first last : SessionState) (count : ℕ) (lines : List (List ℕ)) (out : List ℕ)

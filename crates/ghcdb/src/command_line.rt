@@ -91,8 +91,8 @@ fn command<'a>(alloc: Global) -> Result<Command<'a>, AllocError>
     Ok(command)
 }
 
-/// Reads the command line, of which the first word is the program's name. What is no command line
-/// of this program, a call for help or for the version, and want of memory are answered by `clap`'s error.
+/// Reads the command line, of which the first word is the program's name. It answers with `clap`'s error to what is no command line of
+/// this program, to a call for help or for the version, and where memory is refused.
 pub fn options<'a>(alloc: Global, words: &'a [String]) -> Result<Given<'a>, Error>
     ensures { IfOk result (IsGivenBy (map string_bytes words.now)) }
 {

@@ -1,4 +1,4 @@
-// What `--help` tells behind the words of the command line.
+// What `--help` tells after the words of the command line.
 
 pub const AFTER_HELP: &str = "Commands of the session, a line each:
   step G [C]        reduce goal G, by clause C

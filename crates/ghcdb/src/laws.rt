@@ -28,7 +28,7 @@ pub fn a_front_tells_no_history()
     ensures { WhatIsReadTells }
 {}
 
-/// What opens on program and query that are started is a session on them: changes lead to its world, which is of that program and query,
+/// What opens on program and query that are started is a session on them. Changes lead to its world, which is of that program and query,
 /// and the program has a clause of each predicate that is spied.
 pub fn what_opens_is_a_session()
     ensures { WhatOpensIsASession }
@@ -57,8 +57,8 @@ pub fn saved_sessions_open_again()
     listed_spies_come_back();
 }
 
-/// What opens on program and query that are started is tellable, and so is what lines leave of it; and a text can tell the chronicle of
-/// what is, where that has no more entries than a text may have.
+/// What opens on program and query that are started is tellable, and so is what lines leave of it. A text can tell the chronicle of what
+/// is tellable, where that has no more entries than a text may have.
 pub fn sessions_stay_tellable()
     ensures { SessionsStayTellable }
 {

@@ -17,11 +17,11 @@ use ghc_term::Fault;
 use ghc_trace::SpySet;
 use std::alloc::Global;
 
-/// The core of the program and the query that the texts say, on which the history that its text tells is loaded where one is
-/// given, of the version that its first line says; and the predicates that are spied, which a history of version 2 tells. The refusal
-/// is that of the program or the query, else that of the history's text, else that of its first step that is not possible or entry
-/// that is refused, else that of the first of its predicates that the program has not; or want of memory. Time and memory grow
-/// with the texts, and with what the steps and entries of the history do.
+/// The core of the program and the query that the texts say, and the predicates that are spied. Where a history is given, of the version
+/// that its first line says, it is loaded on that core; one of version 2 tells the spies. The refusal is that of the program or the query,
+/// else that of the history's text, else that of its first step that is not possible or entry that is refused, else that of the first of
+/// its predicates that the program has not; or F1. Time and memory grow with the texts, and with what the steps and entries of the
+/// history do.
 pub fn open(
     alloc: Global,
     program: &[u8],
@@ -41,7 +41,7 @@ pub fn open(
     }
 }
 
-// The core before any step, with no predicate spied. Want of memory is told of the program.
+// The core before any step, with no predicate spied. F1 is the program's refusal.
 fn fresh(alloc: Global, started: Started) -> Result<Debugger, Refusal>
     requires { IsQuery started.program started.query.goals }
     ensures answer { AnsweredUnless (IsNoMemoryFor RefusedPart.Program) (λ debugger. OpensOn started None debugger.core.world debugger.spies) (λ _. ⊥) result }
@@ -57,7 +57,7 @@ fn fresh(alloc: Global, started: Started) -> Result<Debugger, Refusal>
     }
 }
 
-// What the text of a history gives back. Each refusal is told of the history.
+// What the text of a history gives back. Each refusal is the history's.
 fn given_back(alloc: Global, started: Started, text: &[u8]) -> Result<Debugger, Refusal>
     requires { IsQuery started.program started.query.goals }
     ensures answer { AnsweredUnless (IsNoMemoryFor RefusedPart.History) (λ debugger. OpensOn started (Some text.now) debugger.core.world debugger.spies) (IsHistoryRefused started (Some text.now)) result }

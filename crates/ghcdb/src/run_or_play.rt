@@ -40,7 +40,7 @@ fn play_and_forget<L: Ledger, I: Read, O: Write + Drop>(
     result
 }
 
-// Runs a session on the device. As above, nothing is taken apart behind it.
+// Runs a session on the device. As above, nothing is taken apart after it.
 fn run_and_forget<L: Ledger, R: Threads + Wait + Sync, I: Read, O: Write + Drop>(
     rt: &R,
     alloc: Global,
@@ -162,10 +162,10 @@ fn run_or_play_counted<L: Ledger, R: Threads + Wait + Sync + Input + Print + All
     run_or_play_between::<L, _, _, _>(rt, debugger, schedule, rt.reader(), writer, blank)
 }
 
-/// Plays the schedule on the core, where one is given, and writes its replies to the standard output; or else runs a session over
-/// the standard streams, up to `quit` or the end of the input. The refusal is that of the schedule or of the session: `Device`
-/// where a stream fails, and `Memory` where there is none for the output that is gathered, or, of a schedule, for the hands, for
-/// the line of a reply or for the records.
+/// Plays the schedule on the core, where one is given, and writes its replies to the standard output. Else it runs a session over the
+/// standard streams, up to `quit` or the end of the input. The refusal is that of the schedule or of the session. It is `Device` where a
+/// stream fails, and `Memory` where there is none for the output that is gathered, or, of a schedule, for the hands, for the line of a
+/// reply or for the records.
 pub fn run_or_play<R: Threads + Wait + Sync + Input + Print + AllocGlobal>(
     rt: &R,
     debugger: Debugger,

@@ -16,9 +16,9 @@ pub struct Started {
     pub query: Query,
 }
 
-/// The program and the query that the texts say. Both texts are read before either is checked: the refusal is that of
-/// the program's text, else that of the query's text, else the fault of the program, else that of the query; or want
-/// of memory, which is told of the query while that is read, and else of the program. Time and memory grow with the texts.
+/// The program and the query that the texts say. Both texts are read before either is checked: the refusal is that of the program's
+/// text, else that of the query's text, else the fault of the program, else that of the query. Or it is F1, of the query while that is
+/// read, and else of the program. Time and memory grow with the texts.
 pub fn start(alloc: Global, program: &[u8], query: &[u8]) -> Result<Started, Refusal>
     ensures answer { AnsweredUnless (IsOutOfMemory program.now) (IsStarted program.now query.now) (IsStartRefusal program.now query.now) result }
 {

@@ -90,9 +90,9 @@ fn is_heading(bytes: &[u8]) -> bool
     bytes == b"ghc-history 1\n".as_slice() || bytes == b"ghc-history 2\n".as_slice()
 }
 
-/// The text of a history. Of one that does not begin with the first line of a history no more is taken from the reader than such a
-/// line has, and that much is given: the text is refused for its first line then, whatever follows. It fails where a read does, or
-/// where no memory is left.
+/// The text of a history. Of one that does not begin with the first line of a history it takes no more from the reader than such a line
+/// has, and gives that much: the text is refused for its first line then, whatever follows. It fails where a read does, or where no
+/// memory is left.
 pub fn read_history_text<R: Read>(alloc: Global, reader: &mut R) -> io::Result<Vec<u8>>
     ensures text { IfOk result (λ text. IfSome (R.remaining reader.old) (λ whole. IsReadOf whole text.items)) }
     ensures no_further { IfOk result (λ text. ¬ IsHeadingLine (take heading_bytes text.items) → TakesAtMost heading_bytes (R.remaining reader.old) (R.remaining reader.new)) }

@@ -16,7 +16,7 @@ use Rattle.ghc_console.specs.declared.answered.Answered.TheVariants.{Told as tol
 use Rattle.ghc_console.specs.declared.command.LineCommand.{LineCommand}
 use Rattle.ghc_console.specs.declared.command.LineCommand.TheVariants.{Leap as leap, Skip as skip}
 
--- AsksForRun w c root limit: in the world w the command c asks for a run of at most so many steps: `leap` of any goals; `skip` of those that descend from a goal that is there, with the limit of a run for which no number is said.
+-- AsksForRun w c root limit: in the world w the command c asks for a run of at most so many steps. `leap` asks for one of any goals; `skip` for one of those that descend from a goal that is there, with the limit of a run for which no number is said.
 pub data AsksForRun (w : World) : LineCommand → Option GoalName → ℕ → Type 0 where
   leap_asks : (limit : ℕ) → AsksForRun w (leap limit) None limit
   skip_asks : (g : GoalName) (b : Goal) → finite.get w.state.goals g ≡ Some b → AsksForRun w (skip g) (Some g) run_limit
@@ -33,7 +33,7 @@ IsCommandAnsweredBy s c text t told = Answers s c text t × (quits c ≡ false)
 IsCommandAnsweredBy s c text t ends = Answers s c text t × (quits c ≡ true)
 IsCommandAnsweredBy s c text t (asks root limit) = (t ≡ s) × AsksForRun s.world c root limit
 
--- HasRun s root limit text t: a run in the state s, of at most so many steps, of the goals that descend from the root where one is named, left the state t; the text tells its steps, and why it stopped.
+-- HasRun s root limit text t: a run in the state s, of at most so many steps, left the state t. It took goals that descend from the root, where one is named. The text tells its steps, and why it stopped.
 pub record HasRun (s : SessionState) (root : Option GoalName) (limit : ℕ) (text : List ℕ) (t : SessionState) : Type 0 where
   pub run : TellsRun s.workers s.spies root limit s.world text t.world
   pub spies : t.spies ≡ s.spies

@@ -2,7 +2,7 @@
 use Rattle.std.specs.Prelude.{◌≡◌, ℕ, ◌+◌, ◌<◌, false, List, ◌++◌, take, Option, IfSome, MatchResult, Result, if◌then◌else◌, is_ok}
 use Rattle.std.specs.Io.KnownBytes.{Appends}
 
--- What a buffered device tells: the bytes to come and the bytes written, where they are known; those of them that it still holds back, and those that it has handed on, where these are known; how many calls have failed; how many bytes the last read gave, and how many those before it.
+-- What a buffered device tells, as far as its bytes are known: the bytes to come, the bytes written, those of them that it still holds back, and those that it has handed on. Then how many calls have failed, how many bytes the last read gave, and how many those before it.
 pub record LinesValue : Type 0 where
   pub unread : Option (List ℕ)
   pub written : Option (List ℕ)

@@ -1,7 +1,7 @@
 -- What contracts see of a device over memory.
 use Rattle.std.specs.Prelude.{ℕ, ◌-◌, ◌==◌, Bool, false, List, Option, None, Some, if◌then◌else◌}
 
--- The bytes to come, the bytes written, how many calls have failed, how many bytes the last read gave and how many those before it, and how many calls come before the one that is to fail.
+-- A script is the bytes to come, the bytes written, and how many calls have failed; how many bytes the last read gave, and those before it; and how many calls come before the one that is to fail.
 pub record ScriptValue : Type 0 where
   pub unread : List ℕ
   pub written : List ℕ

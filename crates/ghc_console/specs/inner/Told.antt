@@ -1,4 +1,4 @@
--- What is known of a core behind a change, before its goals were tried again.
+-- What is known of a core after a change, before its goals were tried again.
 use Rattle.ghc_hooks.specs.Notes.{NotesByGoal, AreLeft}
 use Rattle.ghc_core.specs.World.{World}
 use Rattle.ghc_core.specs.declared.change.Change.{Change}

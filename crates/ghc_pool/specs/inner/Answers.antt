@@ -21,7 +21,7 @@ abbrev pub one_if : Bool → ℕ
 one_if true = 1
 one_if false = 0
 
--- The reason to stop, if there is one, is what one of these names asks for, or want of memory; where it is another, memory was refused for none of them.
+-- The reason to stop, if there is one, is what one of these names asks for, or memory; where it is not memory, memory was refused for none of them.
 abbrev pub IsReason : (List Taken → Type 0) → (List Taken → RoundStop → Type 0) → Option RoundStop → List Taken → Type 0
 IsReason fed asks None taken = fed taken
 IsReason fed asks (Some Memory) taken = Unit {0}

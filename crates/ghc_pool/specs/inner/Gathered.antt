@@ -93,7 +93,7 @@ AreDrainedTo j [] = Unit {0}
 AreDrainedTo zero (w ∷ ws) = IsPending w × AreDrainedTo zero ws
 AreDrainedTo (suc j) (w ∷ ws) = IsDrained w × AreDrainedTo j ws
 
--- Of each worker and its pass, which was so at the start, this is told.
+-- This holds of each worker and its pass, which was so at the start.
 abbrev pub AreTold : {P : Type 0} → (P → List Taken → P → Type 0) → List P → List Work → List P → Type 0
 AreTold tells [] [] [] = Unit {0}
 AreTold tells [] [] (p ∷ ps) = ⊥

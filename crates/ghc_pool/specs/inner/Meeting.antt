@@ -21,19 +21,19 @@ use Rattle.ghc_pool.specs.Runs.{IsInQuestion, HasMetNoFailure, IsRunStep}
 abbrev pub TookInQuestion : Option GoalName → List Record → ℕ → Type 0
 TookInQuestion root kept since = (1 ≤ since) × ((r : Record) → In r kept → since ≤ r.number → (g : GoalName) × (r.goal ≡ Some g) × IsInQuestion root kept g)
 
--- WasTried w g before result after: in the world w the goal named g was tried and has a note, and the others have what they had; or memory was refused for that, and the notes stay.
+-- WasTried w g before result after: in the world w the goal named g was tried and has a note, and the others have what they had. Or memory was refused for that, and the notes stay.
 abbrev pub WasTried : World → GoalName → NotesByGoal → Met → NotesByGoal → Type 0
 WasTried w g before (stepped n k) after = ⊥
 WasTried w g before stop after = after ≡ before
 WasTried w g before passed after = IsNoted w g before after
 
--- WasTaken w before r result v after: this step was taken, and the notes are left that did not look at what it binds; or memory was refused for that, and nothing changed.
+-- WasTaken w before r result v after: this step was taken, and the notes are left that did not look at what it binds. Or memory was refused for that, and nothing changed.
 abbrev pub WasTaken : World → NotesByGoal → Record → Met → World → NotesByGoal → Type 0
 WasTaken w before r (stepped n k) v after = (v ≡ with_step r w) × AreLeft v.state.goals (Binds r) before after
 WasTaken w before r stop v after = (v ≡ w) × (after ≡ before)
 WasTaken w before r passed v after = ⊥
 
--- From the world w, with the notes before, a run by one worker tried goals, and then took this step, which it may take; that left the world v, with the notes after, and it has still met no failed goal.
+-- From the world w, with the notes before, a run by one worker tried goals, and then took this step, which it may take. That left the world v, with the notes after, and the run has still met no failed goal.
 pub record HasStepped (spies : Spies) (root : Option GoalName) (w : World) (before : NotesByGoal) (r : Record) (v : World) (after : NotesByGoal) : Type 0 where
   pub notes : NotesByGoal
   pub tried : AreKept before notes

@@ -52,7 +52,7 @@ abbrev pub AreHandfuls : List (RowsId × Global) → List (Vec Victim) → Type 
 AreHandfuls ds [] = Unit {0}
 AreHandfuls ds (v ∷ vs) = IsHandful ds v.items × AreHandfuls ds vs
 
--- A worker that took nothing so far, with so many parts of its deque, a pass of each of these deques, and room; it left nothing, or stopped for want of memory.
+-- A worker that took nothing so far, with so many parts of its deque, a pass of each of these deques, and room; it left nothing, or stopped for memory.
 pub record IsStarting (k : ℕ) (ds : List (RowsId × Global)) (w : Worker) : Type 0 where
   pub able : IsAble w
   pub balanced : (h : GoalName → ℕ) → in_of h w ≡ out_of h w

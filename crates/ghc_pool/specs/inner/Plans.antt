@@ -19,7 +19,7 @@ use Rattle.ghc_pool.specs.declared.scope.Scope.{Scope}
 use Rattle.ghc_pool.specs.inner.Answers.{Taken, submits_in, one_if, IsReason}
 use Rattle.ghc_pool.specs.inner.Told.{IsInScope, TellsStatus, IsSpiedGoal, IsRefusedGoal, IsStarvedGoal, IsUnspiedStep, IsPassAfter, AreFedAnswers, Asks}
 
--- A step of the goal, which the round may step, is there to be submitted; or the round may not step it; or the goal is passed over, as a call of a spied predicate; or no step of it could be proposed; or memory was refused for that.
+-- A step of the goal, which the round may step, is there to be submitted. Or there is none: the round may not step the goal; or it is a call of a spied predicate, and passed over; or no step of it could be proposed; or memory was refused for that.
 abbrev pub IsPlan : Gv → Scope → Spies → GoalName → Plan → Type 0
 IsPlan opened scope spies g (Submit p) = IsInScope scope g × IsUnspiedStep opened spies g p
 IsPlan opened scope spies g Outside = ¬ IsInScope scope g
@@ -63,7 +63,7 @@ module _ (opened : Gv) (scope : Scope) (spies : Spies) (steps : Bool) where
   abbrev pub GoesOnWithout : Known Item → Known Item → Type 0
   GoesOnWithout old new = (start : Known Item) (taken : List Taken) → IsPassAfter opened scope spies steps start taken old → IsPassAfter opened scope spies steps start taken new
 
-  -- The goal named g was decided: a pass that went on so far goes on with this answer, which tells of a submit at most, and of none where no steps are taken; the reason to stop, if there is one, is this answer's.
+  -- The goal named g was decided: a pass that went on so far goes on with this answer. It tells of a submit at most, and of none where no steps are taken. The reason to stop, if there is one, is this answer's.
   pub record IsDecidedAs (g : GoalName) (old new : Known Item) (d : Decided) : Type 0 where
     pub told : (start : Known Item) (taken : List Taken) → IsPassAfter opened scope spies steps start taken old → IsPassAfter opened scope spies steps start (taken ++ (g, d.answer) ∷ []) new
     pub submits : submits_in d.answer ≤ one_if steps

@@ -5,7 +5,7 @@ use Rattle.ghc_pool.specs.declared.answer.RoundStop.TheVariants.{Memory, Limit, 
 use Rattle.ghc_pool.specs.inner.Answers.{Taken, IsReason}
 use Rattle.ghc_pool.specs.inner.Workers.{Work}
 
--- want of memory, if it is one of the two; else the first, if there is one, and else the second
+-- the stop for memory, if it is one of the two; else the first, if there is one, and else the second
 abbrev pub joined : Option RoundStop → Option RoundStop → Option RoundStop
 joined None second = second
 joined (Some s) None = Some s
@@ -66,7 +66,7 @@ module _ (fed : List Taken → Type 0) (asks : List Taken → RoundStop → Type
   OneAsks s [] = ⊥
   OneAsks s (w ∷ ws) = asks w.taken.items s ⊎ OneAsks s ws
 
-  -- The reason to stop of all workers, or that there is none: it is want of memory wherever memory was refused for a name.
+  -- The reason to stop of all workers, or that there is none: it is memory wherever memory was refused for a name.
   abbrev pub AreJudged : Type 0 → Option RoundStop → List Work → Type 0
   AreJudged spent None ws = AreOpen ws
   AreJudged spent (Some Memory) ws = Unit {0}

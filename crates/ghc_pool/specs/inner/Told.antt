@@ -1,4 +1,4 @@
--- What is told of the workers of a round over a shared core.
+-- What a round over a shared core tells of its workers.
 use Rattle.std.specs.Prelude.{◌≡◌, ◌≢◌, ◌⊎◌, ℕ, ◌≤◌, ◌++◌, List, [], ◌∷◌, length, Bool, true, false, Option, Some, None, Ok, Err}
 use Rattle.ghc_core.specs.Playing.{IsRefusal}
 use base.Stored.{Gv}
@@ -38,7 +38,7 @@ Covers None w scope = Unit {0}
 Covers (Some root) w Any = ⊥
 Covers (Some root) w (Of names since) = (since ≡ w.next) × ((g : GoalName) → In g names.keys → IsInQuestion (Some root) w.kept g)
 
--- The submit of the proposal, which was told this, was accepted: it stands in the front, at the place of which the receipt tells, behind a history where a commit of what was proposed is told this and adds this entry.
+-- The submit of the proposal was accepted with this reply. It stands in the front, at the receipt's place, after a history where a commit of what was proposed gets this reply and adds this entry.
 pub record StandsIn (front : List Item) (p : Proposal) (r : given.Receipt Reply) : Type 0 where
   pub before : List Item
   pub entry : Entry
@@ -67,11 +67,11 @@ module _ (opened : Gv) where
   abbrev pub IsUnspiedStep : Spies → GoalName → Proposal → Type 0
   IsUnspiedStep spies g p = (w : World) × IsProposal opened w g None (Ok p) × (¬ IsSpiedIn spies w g)
 
-  -- Where steps are taken, the goal named g is noted since the round may not step it; or since it is a call of a spied predicate; or since no step of it could be proposed, and the note does not tell that it is ready.
+  -- Where steps are taken, the goal named g is noted for one of these reasons: the round may not step it; it is a call of a spied predicate; or no step of it could be proposed, and the note does not tell that it is ready.
   abbrev pub IsNotedFor : Scope → Spies → GoalName → Reply → Type 0
   IsNotedFor scope spies g reply = (¬ IsInScope scope g) ⊎ (IsSpiedGoal spies g ⊎ (IsRefusedGoal g × (¬ TellsStatus ready reply)))
 
-  -- IsAnswerOf scope spies steps base front g answer: a worker whose pass had seen `base` and has seen `front` got this answer to the name g. It is a receipt in the front, behind all that had been seen: of the commit of a step that was proposed of g, which the round may step and which is no call of a spied predicate, and where it was accepted it stands there, and else its reply is a refusal; or of a note of g, for which there is a cause where steps are taken. Or memory was refused for the proposal of a step.
+  -- IsAnswerOf scope spies steps base front g answer: a worker whose pass had seen `base` and has seen `front` got this answer to the name g. It is a receipt in the front, after all that had been seen. It is of the commit of a step that was proposed of g, which the round may step and which is no call of a spied predicate; accepted, it stands there, else its reply is a refusal. Or it is of a note of g, for which there is a cause where steps are taken. Or memory was refused for the proposal of a step.
   abbrev pub IsAnswerOf : Scope → Spies → Bool → List Item → List Item → GoalName → Answer → Type 0
   IsAnswerOf scope spies steps base front g (Submitted r) =
       (p : Proposal) × IsInScope scope g × IsUnspiedStep spies g p × IsReceipt (Unit {0}) front (holding p) (events.commit 1) (receipt_of r) × (length base ≤ r.place)
@@ -101,7 +101,7 @@ abbrev pub step_places : List Taken → List ℕ
 step_places [] = []
 step_places (x ∷ xs) = places_in x.1 ++ step_places xs
 
--- IsPassAfter opened scope spies steps start taken now: the pass went on from what it was at the start. It has the answers to the names taken; its front begins with the one at the start, and the places that it has more are those of the steps of which the answers tell.
+-- IsPassAfter opened scope spies steps start taken now: the pass went on from what it was at the start. It has the answers to the names taken. Its front begins with the one at the start, and the places that it has more are those of the steps of which the answers tell.
 pub record IsPassAfter (opened : Gv) (scope : Scope) (spies : Spies) (steps : Bool) (start : Known Item) (taken : List Taken) (now : Known Item) : Type 0 where
   pub number : now.number ≡ start.number
   pub begins : IsPrefix start.front now.front
@@ -118,7 +118,7 @@ IsStarved Starved = Unit {0}
 abbrev pub AreFedAnswers : List Taken → Type 0
 AreFedAnswers taken = (x : Taken) → In x taken → ¬ IsStarved x.1
 
--- A submit was told that no new step has room.
+-- The reply to a submit is that no new step has room.
 abbrev pub IsToldFull : Answer → Type 0
 IsToldFull (Submitted r) = reply_of r.reply ≡ events.refused Fault.Full
 IsToldFull (Noted r) = ⊥

@@ -102,7 +102,7 @@ pub record IsRoomier (old new : Worker) : Type 0 where
 abbrev pub KeepsRoom : Worker → Worker → Type 0
 KeepsRoom old new = (but : ℕ) → HasRoom but old → HasRoom but new
 
--- The worker went from names in hand to names in hand, and lost none and made none up: however names are weighed, what came to it is what became of it and what is in hand, as before. It has the same deque, as many parts of it, and the same victims, and goes on with what it offered.
+-- The worker went from names in hand to names in hand, and lost none and made none up. However names are weighed, what came to it is what became of it and what is in hand, as before. It has the same deque, as many parts of it, and the same victims, and goes on with what it offered.
 pub record Keeps (before after : List GoalName) (old new : Worker) : Type 0 where
   pub able : IsAble new
   pub balance : (h : GoalName → ℕ) → in_of h new + (out_of h old + weigh h before) ≡ in_of h old + (out_of h new + weigh h after)
@@ -119,7 +119,7 @@ pub record DidNothing (old new : Worker) : Type 0 where
   pub stop : new.stop ≡ old.stop
   pub put : (worker_view new.owner).put ≡ (worker_view old.owner).put
 
--- Nothing was left and nothing stopped the worker; or it stopped for want of memory.
+-- Nothing was left and nothing stopped the worker; or it stopped for memory.
 abbrev pub IsOfferedOrStopped : Worker → Worker → Type 0
 IsOfferedOrStopped old new = ((new.left.items ≡ old.left.items) × (new.stop ≡ old.stop)) ⊎ (new.stop ≡ Some RoundStop.Memory)
 

@@ -1,4 +1,4 @@
-// The passes come back to the deques, behind the threads.
+// The passes come back to the deques, after the threads.
 ghost use Rattle.std.specs.Prelude.{◌≡◌, ◌+◌, ◌<◌, ℕ, []};
 ghost use Rattle.std.specs.Vec.{vec_len};
 ghost use Rattle.crossbeam_deque.specs.Handles.{worker_deque, worker_view, view, IsPassOf};

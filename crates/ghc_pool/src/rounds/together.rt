@@ -101,7 +101,7 @@ fn dismiss<P: Drop, L: Limited>(
     unused
 }
 
-// Want of memory, if it is one of the two; else the first, if there is one, and else the second.
+// The stop for memory, if it is one of the two; else the first, if there is one, and else the second.
 fn joined(first: Option<RoundStop>, second: Option<RoundStop>) -> Option<RoundStop>
     ensures { result ≡ joined first second }
 {
@@ -127,7 +127,7 @@ fn first_stop<P, C: Craft<P>>(craft: &C, workers: &Vec<Worker>) -> Option<RoundS
     found
 }
 
-// The end of a round, behind the threads: the passes come back, what is still in the deques is decided or left, and the budget is
+// The end of a round, after the threads: the passes come back, what is still in the deques is decided or left, and the budget is
 // closed.
 fn finish<P, C: Craft<P>, L: Limited, R: Wait>(
     rt: &R,
@@ -191,7 +191,7 @@ fn work_in_threads<P: Send, C: Craft<P> + Sync, L: Limited + Send + Sync, R: Thr
     budget.into_inner()
 }
 
-// What comes behind the threads: the jobs are taken apart, and the round ends.
+// What comes after the threads: the jobs are taken apart, and the round ends.
 fn conclude<P: Drop, C: Craft<P>, L: Limited, R: Wait>(
     rt: &R,
     alloc: Global,

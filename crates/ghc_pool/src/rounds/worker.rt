@@ -31,7 +31,7 @@ pub enum Found {
 }
 
 impl Worker {
-    // Offers a name for which there is room. One that the deque refuses is left, and the worker stops for want of memory.
+    // Offers a name for which there is room. One that the deque refuses is left, and the worker stops for memory.
     pub fn offer_reserved(&mut self, name: GoalName)
         requires able { IsAble self.old }
         requires room { HasRoomToOffer 1 self.old }

@@ -1,4 +1,4 @@
--- Calls of a shared core, and what is told of them.
+-- Calls of a shared core, and their answers.
 use base.Stored.{Gv}
 use Rattle.std.specs.Prelude.{◌≡◌, ◌⊎◌, ℕ, ◌-◌, false, List, Option, Some, None, Result, Err}
 use Rattle.std.specs.FinMap as finite
@@ -40,7 +40,7 @@ event_of (Submit p) = events.commit 1
 event_of (Note g) = events.note g
 event_of (Command c) = events.command (command_of c)
 
--- the receipt of a call behind these items
+-- the receipt of a call after these items
 abbrev pub receipt_behind : List Item → Reply → Receipt
 receipt_behind items reply = record { place = entry_count items; reply = reply_of reply }
 
@@ -48,28 +48,28 @@ receipt_behind items reply = record { place = entry_count items; reply = reply_o
 abbrev pub receipt_of : given.Receipt Reply → Receipt
 receipt_of receipt = record { place = receipt.place - 1; reply = reply_of receipt.reply }
 
--- In this world the call is told what it is refused for whatever memory is left.
+-- In this world the call has a refusal that F1 cannot hide.
 abbrev pub IsToldAnyway : World → Call → Reply → Type 0
 IsToldAnyway w call reply = (f : Fault) → IsRefusedAnyway w (hands_of call) (event_of call) f → reply_of reply ≡ events.refused f
 
--- Behind these items, a legal history, the call adds no entry and is told this, by the definitions of the core; no want of memory hides what it is refused for anyway.
+-- After these items, a legal history, the call adds no entry and gets this reply, by the definitions of the core; F1 hides no refusal that it cannot hide there.
 pub record IsToldCall (items : List Item) (call : Call) (reply : Reply) : Type 0 where
   pub told : IsTold (Unit {0}) items (hands_of call) (event_of call) (receipt_behind items reply)
   pub anyway : IsToldAnyway told.before call reply
 
--- IsAnswerTo items call reply item: behind these items the call may get the reply, with this item where it is accepted.
+-- IsAnswerTo items call reply item: after these items the call may get the reply, with this item where it is accepted.
 abbrev pub IsAnswerTo : List Item → Call → Reply → Option Item → Type 0
 IsAnswerTo items call reply (Some item) =
     (entry : Entry) × (item ≡ entered entry) × IsAccepted items (hands_of call) (event_of call) (receipt_behind items reply) entry
 IsAnswerTo items call reply None = IsToldCall items call reply
 
--- What a call with this reply does to notes, untried goals and counts of a core: what the event does that the call is; a refused one leaves notes and untried goals as they were.
+-- What a call with this reply does to notes, untried goals and counts of a core: what the event does that the call is. A refused one leaves notes and untried goals as they were.
 pub record CallDoes (old : Core) (call : Call) (reply : Reply) (new : Core) : Type 0 where
   pub carries : IsRefusal (reply_of reply) ⊎ CarriesNotes (event_of call) old new
   pub stays : IsRefusal (reply_of reply) → Stays old new
   pub counts : Counts old.world (hands_of call) (event_of call) old.meter new.meter
 
--- Where the call was not accepted, it is told what it is refused for, whatever memory is left, in the world that the front leaves.
+-- A call that was not accepted gets the refusal that F1 cannot hide, if it has one in the world that the front leaves.
 abbrev pub IsToldOnFront : List Item → Call → given.Receipt Reply → Type 0
 IsToldOnFront front call receipt = (w : World) → receipt.accepted ≡ false → Leaves front w → IsToldAnyway w call receipt.reply
 
@@ -77,7 +77,7 @@ IsToldOnFront front call receipt = (w : World) → receipt.accepted ≡ false �
 abbrev pub code_of : Opening → Gv
 code_of o = opening_code.code o
 
--- In this world, which a core of the opening with this code can be in, an attempt at the goal, with a clause chosen or not, answers this; no want of memory hides that the goal or the clause is not there.
+-- In this world, which a core of the opening with this code can be in, an attempt at the goal, with a clause chosen or not, answers this. F1 never hides that the goal or the clause is not there.
 pub record IsProposal (opened : Gv) (w : World) (goal : GoalName) (choice : Option ℕ) (result : Result Proposal Fault) : Type 0 where
   pub of_opening : code_of w.opening ≡ opened
   pub standing : IsStanding w

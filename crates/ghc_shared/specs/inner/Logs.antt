@@ -10,7 +10,7 @@ module _ {E : Type 0} where
   abbrev pub items_of : List (ℕ × E) → List E
   items_of log = map (λ entry. entry.1) log
 
-  -- the log, and behind it what the history has more, which this pass made
+  -- the log, and then what the history has more, which this pass made
   abbrev pub extended : List (ℕ × E) → ℕ → List E → List (ℕ × E)
   extended log by history = log ++ map (λ item. (by, item)) (drop (length log) history)
 

@@ -63,7 +63,7 @@ impl<N: Naming, R: Wait> Hands<'_, N, R> {
         }
     }
 
-    // The goals behind those of the passes in front of this one.
+    // The goals after those of the earlier passes.
     fn are_taken(&self, me: &mut Pass<Core, N>) -> bool
         ensures { me.new.number ≡ me.old.number }
     {
@@ -181,7 +181,7 @@ fn four_passes(rt: HostRuntime) -> Result<(), Fail> {
     four_named::<Brand, _>(&rt, rt.alloc(), opening)
 }
 
-// Each pass takes 25 goals; then each of the places 1 to 100, behind the opening at place 0, is one pass's, and all 100 steps are kept.
+// Each pass takes 25 goals; then each of the places 1 to 100, after the opening at place 0, is one pass's, and all 100 steps are kept.
 fn four_named<N: Naming + Send + Sync, R: Threads + Wait + Abort + Sync>(
     rt: &R,
     alloc: Global,

@@ -57,12 +57,12 @@ pub record IsGhcdb (command : Command) : Type 0 where
   pub workers_is : IsWorkersValue workers
   pub chain : AddsInTurn AddsArg start (file ∷ query ∷ load ∷ schedule ∷ workers ∷ []) command
 
--- SaysWorkers text n: the text, where there is one, is a numeral, with or without a plus sign in front, that says n, a number of 1 to 64; where there is none, n is 1.
+-- SaysWorkers text n: the text, where there is one, is a numeral, with or without a plus sign in front. It says n, a number of 1 to 64; where there is no text, n is 1.
 abbrev pub SaysWorkers : Option (List ℕ) → ℕ → Type 0
 SaysWorkers None n = n ≡ 1
 SaysWorkers (Some text) n = IsNumeral 10 (without_leading_plus text) × (n ≡ digits_value 10 (without_leading_plus text)) × (1 ≤ n) × (n ≤ 64)
 
--- the options that are given are the values that a parse of that command found for FILE, for the query, and for the file to load and the schedule's, if there are such; and the workers are as many as it found, or 1
+-- the options are the values that a parse of that command found for FILE and for the query, and for the files to load and to play, if there are such; the workers are as many as it found, or 1
 pub record IsGivenBy (words : List (List ℕ)) (given : Given) : Type 0 where
   pub command : Command
   pub matches : ArgMatches

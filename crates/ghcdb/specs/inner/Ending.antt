@@ -17,7 +17,7 @@ abbrev pub ended_as : RefusedPart → Result Unit Fault → Result Unit Refusal
 ended_as part (Ok done) = Ok done
 ended_as part (Err fault) = Err (record { part = part; fault = fault })
 
--- what is told of where the program does not end well: the schedule, where one is given, or else the session
+-- what a refusal names where the program does not end well: the schedule, where one is given, or else the session
 abbrev pub part_at_end : Option (List ℕ) → RefusedPart
 part_at_end None = part.Session
 part_at_end (Some text) = part.Schedule

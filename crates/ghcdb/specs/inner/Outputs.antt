@@ -7,7 +7,7 @@ use Rattle.ghc_console.specs.Session.{Began, Session, Tells}
 use Rattle.ghc_console.specs.SessionState.{SessionState, state_of}
 use Rattle.ghc_console.specs.declared.debugger.Debugger.{Debugger}
 
--- HasReplies s unread before after: where the bytes to come and those written before are known, the replies to all lines behind these are written.
+-- HasReplies s unread before after: where the bytes to come and those written before are known, the replies to all lines to come are written after these.
 abbrev pub HasReplies : SessionState → Option (List ℕ) → Option (List ℕ) → Option (List ℕ) → Type 0
 HasReplies s unread before after = (asked : ℕ) × (t : SessionState) × Tells Session s unread before after asked t
 

@@ -10,7 +10,7 @@ abbrev pub status_of : Fault → Status
 status_of Device = Broken
 status_of _ = Refused
 
--- the refusal that is told where no memory is left to tell of this one, with the same status
+-- the refusal in place of this one where no memory is left to write it, with the same status
 abbrev pub spare_fault : Fault → Fault
 spare_fault Device = Device
 spare_fault _ = Memory

@@ -170,7 +170,7 @@ fn is_asked(alloc: Global, core: &mut Core, text: &str, number: u32, wanted: &st
         && is_kept(alloc, core, number, wanted)
 }
 
-// Whether the chronicle of the core tells one entry, the step 1, behind an opening without steps.
+// Whether the chronicle of the core tells one entry, the step 1, after an opening without steps.
 fn tells_one_entry(alloc: Global, core: &Core) -> bool {
     match core.chronicle(alloc, Vec::new(alloc)) {
         Ok(told) => told.opening().steps().is_empty()

@@ -83,8 +83,8 @@ fn is_stale(alloc: Global, query: &str, place: u32) -> bool {
     }
 }
 
-// The query, and the place of the goal of which a step is proposed before one of the first goal is taken: the goal is gone,
-// it would bind another variable, or it would close a cycle, so that what the occurs test said is old.
+// The query, and the place of the goal of which a step is proposed before one of the first goal is taken. Then the goal is gone, it
+// would bind another variable, or it would close a cycle, so that what the occurs test said is old.
 const STALE: &[(&str, u32)] = &[("X = 1", 1), ("X = Y, X = 3", 2), ("X = f(Y), Y = g(X)", 2)];
 
 #[test]

@@ -50,14 +50,14 @@ fn ones(alloc: Global, elements: u32) -> Result<String, AllocError> {
     Ok(text)
 }
 
-// How many bytes are told of such a list.
+// How many bytes `show` writes of such a list.
 fn told_len(alloc: Global, elements: u32) -> Result<usize, AllocError> {
     let text = ones(alloc, elements)?;
     let told = told(alloc, text.as_str())?;
     Ok(told.len())
 }
 
-// 4,999 elements make 9,999 nodes; of more, `F6 limit: term` is told.
+// 4,999 elements make 9,999 nodes; more are `F6 limit: term`.
 #[test]
 fn input_terms_are_counted(rt: HostRuntime) -> Result<(), Fail> {
     assert!(rt; told_len(rt.alloc(), 4_999)? == 9_999);

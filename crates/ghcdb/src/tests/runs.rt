@@ -54,8 +54,8 @@ fn spied(alloc: Global, core: &Core) -> Option<SpySet> {
     Some(spies)
 }
 
-// Whether a run stops at the goal `0.1`, whose predicate is spied, before the first step; and then, without spies, a step below
-// it is taken under a limit of one, and the goal `1.1` alone below itself.
+// Whether a run stops at the goal `0.1`, whose predicate is spied, before the first step. Then, without spies, a step below it is
+// taken under a limit of one, and the goal `1.1` alone below itself.
 fn stops_at_spied(alloc: Global, core: &mut Core) -> bool {
     let below = GoalName { step: 1, place: 1 };
     match spied(alloc, core) {

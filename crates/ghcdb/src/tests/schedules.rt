@@ -38,13 +38,13 @@ fn play_failing(alloc: Global, core: Core, fails_after: u64) -> Played {
     play_to_script::<Brand>(alloc, core, fails_after, Blank::new(2))
 }
 
-// A schedule of which the call behind so many fails.
+// A schedule of which the call after so many fails.
 fn played(alloc: Global, fails_after: u64) -> Option<Played> {
     let core = core_of(alloc, "", "X = 1")?;
     Some(play_failing(alloc, core, fails_after))
 }
 
-// How many bytes are written, and how many steps taken, where the call behind so many fails: a write for each reply, none for the
+// How many bytes are written, and how many steps taken, where the call after so many fails: a write for each reply, none for the
 // empty line, and one for the records.
 const FAILING: &[(usize, usize)] = &[(0, 0), (7, 1), (14, 1), (34, 1)];
 

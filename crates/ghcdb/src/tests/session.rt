@@ -67,14 +67,14 @@ fn serve_failing<R: Threads + Wait + Sync>(
     serve_script::<Brand, R>(rt, alloc, core, input, fails_after, Blank::new(2))
 }
 
-// A session of which the call behind so many fails.
+// A session of which the call after so many fails.
 fn served<R: Threads + Wait + Sync>(rt: &R, alloc: Global, fails_after: u64) -> Option<Served> {
     let input = Vec::from_slice(alloc, INPUT.as_bytes()).ok()?;
     let core = core_of(alloc, "", "X = 1")?;
     Some(serve_failing(rt, alloc, core, input, fails_after))
 }
 
-// How many bytes are written, and how many steps taken, where the call behind so many fails. Five reads give the lines and
+// How many bytes are written, and how many steps taken, where the call after so many fails. Five reads give the lines and
 // their end, the last line and its end by two; three writes are made, none for the empty line.
 const FAILING: &[(usize, usize)] = &[
     // The first line is not read.

@@ -173,7 +173,7 @@ fn names_of_input_terms(rt: HostRuntime) -> Result<(), Fail> {
     Ok(())
 }
 
-// Whether a list of so many cells, with `[]` behind them, is an input term within so many structures.
+// Whether a list of so many cells, with `[]` after them, is an input term within so many structures.
 fn is_list_accepted(alloc: Global, cells: u32, levels: u32) -> Result<bool, AllocError> {
     let list = ones(alloc, cells, atom(alloc, "[]")?)?;
     let term = nested(alloc, list, levels, 1)?;

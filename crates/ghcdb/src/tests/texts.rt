@@ -7,7 +7,7 @@ use ghc_trace::{Port, push_port};
 use std::alloc::{AllocError, Global};
 use std::test::Fail;
 
-// Writes the text of the refusal behind its number, in a line.
+// Writes the text of the refusal after its number, in a line.
 fn push_fault(fault: Fault, out: &mut String) -> Result<(), AllocError> {
     write!(out, "{} ", fault.number())?;
     fault.push_text(out)?;

@@ -20,7 +20,7 @@ enum Asked {
     Arrange(&'static [u32]),
 }
 
-// What is told: the number of hand, step or refusal; the steps that were undone; the number of variables for which a goal waits.
+// What one learns: the number of hand, step or refusal; the steps that were undone; the number of variables for which a goal waits.
 enum Told {
     Held(u32),
     Stepped(u32),
@@ -32,7 +32,7 @@ enum Told {
     Refused(u32),
 }
 
-// Events, each with what is told.
+// Events, each with what one learns.
 type Script = &'static [(Asked, Told)];
 
 // The command that is asked, if a command is asked.
@@ -81,7 +81,7 @@ fn events_of(alloc: Global, script: Script) -> Option<Vec<Event>> {
     Some(events)
 }
 
-// Whether the reply is what is told.
+// Whether the reply is what one should learn.
 fn is_told(reply: &Reply, told: &Told) -> bool {
     match (reply, told) {
         (Reply::Held(hand), Told::Held(wanted)) => hand == wanted,
@@ -96,7 +96,7 @@ fn is_told(reply: &Reply, told: &Told) -> bool {
     }
 }
 
-// Whether there is a reply to each event of the script, and each is what is told.
+// Whether there is a reply to each event of the script, and each is what one should learn.
 fn are_told(replies: &[Reply], script: Script) -> bool {
     for (reply, (_, told)) in replies.iter().zip(script) {
         if !is_told(reply, told) {
