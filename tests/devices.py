@@ -17,9 +17,10 @@ from pathlib import Path
 from typing import NamedTuple
 
 sys.dont_write_bytecode = True
-from refusing import PROGRAM, SECONDS, TESTS, Session, tried
+from lib.program import PROGRAM, ROOT
+from lib.refusing import SECONDS, Session, tried
 
-EXAMPLES = TESTS.parent / "examples"
+EXAMPLES = ROOT / "examples"
 DEVICE = b"session: F26 device\n"
 LOOP = "loop(X) :- true | loop(X).\n"
 # Each step of `busy` compares two lists, so a run of it takes minutes.

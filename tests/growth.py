@@ -13,10 +13,9 @@ from pathlib import Path
 from typing import Callable, NamedTuple
 
 sys.dont_write_bytecode = True
-from searched_numbers import PROGRAM as LOOP, QUERY, hash_of_kit, hash_of_numbers, searched_history
+from lib.program import PROGRAM
+from lib.searched_numbers import PROGRAM as LOOP, QUERY, hash_of_kit, hash_of_numbers, searched_history
 
-ROOT = Path(__file__).resolve().parent.parent
-PROGRAM = os.path.abspath(os.environ.get("GHCDB") or ROOT / "crates" / "ghcdb" / "out" / "ghcdb")
 SLOWER = 2.0
 RUNS = 3
 SECONDS = 60

@@ -1,4 +1,4 @@
-// Stands before the C library in the sessions that tests/refusing.py plays. It counts requests for memory by line, and refuses the
+// Stands before the C library in the sessions that tests/lib/refusing.py plays. It counts requests for memory by line, and refuses the
 // requests REFUSE_FROM to REFUSE_TO of the line REFUSE_LINE (0: those before the first line); it counts reads of standard input and
 // writes of standard output, and lets the read FAIL_READ and the write FAIL_WRITE fail, once. A read gives one line. REFUSE_REPORT
 // names a file for what was counted: reads, writes, the bytes written before the call that failed, and then two numbers for each line,

@@ -80,9 +80,10 @@ from concurrent.futures import ThreadPoolExecutor
 from contextlib import ExitStack
 from pathlib import Path
 
-TESTS = Path(__file__).resolve().parent
-EXAMPLES = TESTS.parent / "examples"
-PROGRAM = Path(os.path.abspath(os.environ.get("GHCDB") or TESTS.parent / "crates" / "ghcdb" / "out" / "ghcdb"))
+sys.dont_write_bytecode = True
+from lib.program import PROGRAM, ROOT, TESTS
+
+EXAMPLES = ROOT / "examples"
 SECONDS = 60
 TURN_SECONDS = 10
 PROMPT = b"> "
@@ -193,7 +194,7 @@ def read_table(path):
     rows = []
     for number, line in enumerate(path.read_bytes().split(b"\n"), 1):
         if line and not line.startswith(b"#"):
-            rows.append((f"{path.relative_to(TESTS.parent)}:{number}", table_row(line)))
+            rows.append((f"{path.relative_to(ROOT)}:{number}", table_row(line)))
     return rows
 
 
@@ -253,7 +254,7 @@ def example_of(block, before):
     at_terminal = AT_TERMINAL.fullmatch(block[0]) if block else None
     if at_terminal:
         row = {key: [] for key in LISTED}
-        program = (TESTS.parent / at_terminal[1].decode()).read_bytes()
+        program = (ROOT / at_terminal[1].decode()).read_bytes()
         return row | {"program": program, "query": at_terminal[2], "session": terminal_session(block[1:])}
     head, _, session = b"\n".join(block).partition(b"\n\n")
     if head in before:
@@ -275,7 +276,7 @@ def read_page(path):
             if not AT_TERMINAL.fullmatch(block[0]):
                 before[b"continued"] = row
                 before.setdefault(b"after the first run", row)
-            rows.append((f"{path.relative_to(TESTS.parent)}:{number}", dict(row)))
+            rows.append((f"{path.relative_to(ROOT)}:{number}", dict(row)))
     for _, row in rows:
         split_session(row)
     return rows
@@ -291,7 +292,7 @@ def rows_of(path):
         row = read_row(path)
     except BadRow as error:
         row = error
-    return [(str(path.relative_to(TESTS.parent)), row)]
+    return [(str(path.relative_to(ROOT)), row)]
 
 
 def split_session(row):
@@ -451,7 +452,7 @@ def told(name, row):
 def all_rows(words):
     """The rows of the files whose names hold one of the words, or of all, each with its name."""
     paths = sorted(path for path in (TESTS / "rows").rglob("*") if path.suffix in (".row", ".table"))
-    paths += [TESTS.parent / page for page in PAGES]
+    paths += [ROOT / page for page in PAGES]
     return [row for path in paths if not words or any(word in path.stem for word in words) for row in rows_of(path)]
 
 
@@ -461,7 +462,7 @@ def main():
         return 0
     os.environ["GHCDB_QUIET"] = "1"
     rows = all_rows(sys.argv[1:])
-    if not PROGRAM.is_file():
+    if not Path(PROGRAM).is_file():
         print(f"{PROGRAM} is not there: `./ghcdb --prove` makes it", file=sys.stderr)
         rows = []
     with ThreadPoolExecutor(os.cpu_count()) as pool:

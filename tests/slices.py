@@ -1,7 +1,7 @@
 #!/usr/bin/env python3
 """Tries `explain` and `keep` in sessions made by chance: tests/slices.py [--sessions N] [--first N] [--only NAME]
 
-So many sessions are played, 200 where N is left out, of the kinds of tests/random_sessions.py, by one worker. Behind each, for the
+So many sessions are played, 200 where N is left out, of the kinds of tests/lib/random_sessions.py, by one worker. Behind each, for the
 query's variables, and some that steps made:
 
   - what `explain` tells are lines of `records`, in their order, as many as its last line says;
@@ -26,10 +26,10 @@ from pathlib import Path
 from typing import NamedTuple
 
 sys.dont_write_bytecode = True
-from judged_runs import Wrong
-from playing import play
-from random_sessions import KINDS, case_of
-from refusing import PROGRAM
+from lib.judged_runs import Wrong
+from lib.playing import play
+from lib.program import PROGRAM
+from lib.random_sessions import KINDS, case_of
 
 STEP = re.compile(r"(\d+) (\S+) (?:by (\d+) |is |eq |in |ask |end )?.*reads .* binds .* makes \S+")
 OTHERS = re.compile(r" or ([\d,]+)$")

@@ -16,8 +16,8 @@ The reply to a line that was refused memory has to be
     `F1 no memory` in its place. `records` before and behind the run tell which steps these are; behind it no line is refused
     memory, and each `show` and `goals` between the last run and the next change is answered as ever.
 
-Schedules are swept by the requests of their whole run: tests/sweep_schedules.py says how, and what has to be written then; and runs by
-several workers, whose order is free, as tests/sweep_workers.py says.
+Schedules are swept by the requests of their whole run: tests/lib/sweep_schedules.py says how, and what has to be written then; and runs by
+several workers, whose order is free, as tests/lib/sweep_workers.py says.
 
 What a session says of a line by hand (`told`) has to hold, too. Before the first line the program ends with status 2 for its words,
 or with status 1 and `PART: F1 no memory`, in the order of its parts, or it goes on as ever. It ends by itself, and by no signal.
@@ -33,26 +33,19 @@ from itertools import takewhile
 from typing import NamedTuple
 
 sys.dont_write_bytecode = True
-from refusing import TESTS, Session, tried
-from sweep_schedules import SCHEDULES, ScheduleCase, sweep_schedule, unused_events
-from sweep_workers import SHARED, SharedCase, sweep_shared
+from lib.judged_runs import RUNS
+from lib.program import ROOT
+from lib.refusing import ALL_BEHIND, F1, ORDER, Session, tried
+from lib.sweep_schedules import SCHEDULES, ScheduleCase, sweep_schedule, unused_events
+from lib.sweep_workers import SHARED, SharedCase, sweep_shared
+from lib.texts import APPEND, HISTORY, MANY, SUM
 
 MOST = 400
-ALL_BEHIND = 10**9
-F1 = b"F1 no memory\n"
 CHANGES = ("step", "in", "end", "ask", "undo", "roll", "redo", "arrange")
-RUNS = ("leap", "skip")
 SHOWN = ("show", "goals")
-ORDER = "w+p+h*p*q+p+h*s"  # the words, the files, both texts, the checker and the first state, the history, and the session
 
-APPEND = "append([],Y,Z) :- true | Z = Y.\nappend([A|X],Y,Z) :- true | Z = [A|Z1], append(X,Y,Z1).\n"
-SUM = "sum([],A,R) :- true | R = A.\nsum([X|S],A,R) :- true | B := A + X, sum(S,B,R).\n"
 WAITS = "p(a,_) :- true | true.\np(_,b) :- true | true.\nq(a,b) :- true | true.\n"
-MANY = "p(A,B,C,D) :- A > 0, B > 0, C > 0, D > 0 | true.\n"
 LONG = "append([1,2,3,4,5,6,7,8,9,10,11,12],[13],R), append(R,[14],Q)"
-HISTORY = "ghc-history 1\nsteps 4\n1 0.1 by 2\n3 1.2 by 1\n4 3.1 eq\n2 1.1 eq\nend 5\n"
-
-
 SUM_HISTORY = "ghc-history 1\nsteps 6\n1 0.1 in 5\n4 0.2 by 2\n5 4.1 is\n2 1.1 end\n6 4.2 by 1\n7 6.1 eq\nend 9\n"
 WHOLE_HISTORY = (
     "ghc-history 2\nopening 1 5\n2 0.1 by 2\nentries 6\n5 2.1 eq\n6 - ask append(_0_1,[3],_6_1), true, _2_1 = [7]. % more\nundo 6\narrange 2 5\nredo 6\nroll 2\n"
@@ -291,7 +284,7 @@ def sweep(case, pool):
 def unused_commands():
     """The commands that no session uses."""
     used = {line.split()[0] for story in STORIES.values() for line in story.lines.split(";")}
-    return set((TESTS.parent / "commands.txt").read_text().split()) - used
+    return set((ROOT / "commands.txt").read_text().split()) - used
 
 
 def sweeps(folder):

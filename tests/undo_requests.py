@@ -9,7 +9,7 @@ C compiler, that is said and nothing is tried. The last line is `N passed, M fai
 import sys
 
 sys.dont_write_bytecode = True
-from refusing import Session, tried
+from lib.refusing import Session, tried
 
 STEPS, REFUSED = 500, 200
 SESSIONS = {"steps": [], "steps with an ask behind them": ["ask X1 = 0, f(X1,X2) = Y"]}

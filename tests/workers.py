@@ -1,7 +1,7 @@
 #!/usr/bin/env python3
 """Tries runs by several workers: tests/workers.py [--runs N] [--first N] [--workers N,N,..] [--only NAME]
 
-By 4 workers, and by 16, three sessions written by hand are played, and sessions made by chance (tests/random_sessions.py tells how)
+By 4 workers, and by 16, three sessions written by hand are played, and sessions made by chance (tests/lib/random_sessions.py tells how)
 until they had N runs, 200 where N is left out. With another number behind --first these are other sessions; --only plays one, by the
 name that a failure tells. A run may take any order, so what is written is compared with no text, but
 
@@ -14,7 +14,7 @@ name that a failure tells. A run may take any order, so what is written is compa
   - where all orders leave the same, one worker and several stop for the same reason in the end, and where that is `quiet`, they keep
     as many steps, and leave the same values of the query's variables, but for the names of those that are unbound.
 
-Besides, tests/real_workers.py shows that these runs are made by several workers; its parts can be named behind --only, too.
+Besides, tests/lib/real_workers.py shows that these runs are made by several workers; its parts can be named behind --only, too.
 
 Where there is a C compiler, the library of tests/refuse.c lets some requests for memory sleep, so that workers overtake each other.
 With `--workers 1` the option is left out. The program is the proved one, or the one that the environment names as GHCDB. A session
@@ -31,14 +31,14 @@ from itertools import count, cycle
 from pathlib import Path
 
 sys.dont_write_bytecode = True
-from judged_runs import RUNS, Wrong, judge_run, predicates_of, runs_of, steps_of
-from playing import play
-from random_sessions import KINDS, Case, case_of
-from real_workers import SHOWN
-from refusing import PROGRAM, compile_library
+from lib.judged_runs import RUNS, Wrong, judge_run, predicates_of, runs_of, steps_of
+from lib.playing import play
+from lib.program import PROGRAM
+from lib.random_sessions import KINDS, Case, case_of
+from lib.real_workers import SHOWN
+from lib.refusing import compile_library
+from lib.texts import APPEND, SUM
 
-APPEND = "append([],Y,Z) :- true | Z = Y.\nappend([A|X],Y,Z) :- true | Z = [A|Z1], append(X,Y,Z1).\n"
-SUM = "sum([],A,R) :- true | R = A.\nsum([X|S],A,R) :- true | B := A + X, sum(S,B,R).\n"
 RUN = ["goals", "records", "leap", "records", "goals"]
 NOTHING = Case("nothing", "", "true", [], RUN, True)
 LISTS = Case("append", APPEND, "append([1],[2],R)", ["R"], [*RUN, "show R"], True)
@@ -162,7 +162,7 @@ def all_wrong(folder, played, workers):
 
 
 def not_shown(above, name, workers):
-    """What is wrong with the part of tests/real_workers.py of that name, if anything, in a folder below that one."""
+    """What is wrong with the part of tests/lib/real_workers.py of that name, if anything, in a folder below that one."""
     with tempfile.TemporaryDirectory(dir=above) as folder:
         try:
             SHOWN[name](Path(folder), workers)

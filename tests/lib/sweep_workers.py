@@ -2,24 +2,20 @@
 
 Each request for memory of each run of the sessions below, but the last, is refused in turn, alone and with all behind it in its line,
 and so is each request of the start. How often memory is asked for, and in which order steps are taken, differs from one play to the next; so what is
-written is compared with no text, but tests/judged_runs.py says what each run has to tell, and why it may stop. Of the run that was
+written is compared with no text, but judged_runs.py says what each run has to tell, and why it may stop. Of the run that was
 refused memory each line may be F1, and it may stop for want of memory. All lines behind it are answered: none of them is F1, and the
 last ones tell what a session with ample memory leaves. Some requests sleep first, so that workers overtake each other. Before the first line the program ends as tests/sweep.py says. It ends by
 itself, and by no signal. What other commands do where memory is refused does not depend on workers.
 """
 from typing import NamedTuple
 
-from judged_runs import RUNS, Wrong, judge_run, predicates_of, runs_of
-from refusing import Session
+from lib.judged_runs import RUNS, Wrong, judge_run, predicates_of, runs_of
+from lib.refusing import ALL_BEHIND, ORDER, Session
+from lib.texts import APPEND, SUM
 
-ALL_BEHIND = 10**9
 MOST = 600
 WORKERS = "4"
-F1 = b"F1 no memory\n"
-ORDER = "w+p+h*p*q+p+h*s"  # as for a session by one worker
 
-APPEND = "append([],Y,Z) :- true | Z = Y.\nappend([A|X],Y,Z) :- true | Z = [A|Z1], append(X,Y,Z1).\n"
-SUM = "sum([],A,R) :- true | R = A.\nsum([X|S],A,R) :- true | B := A + X, sum(S,B,R).\n"
 FORK = "fork(N,R) :- N > 0 | M := N - 1, fork(M,A), fork(M,B), R := A + B.\nfork(0,R) :- true | R = 1.\n"
 RUN = "goals;records;leap;records;goals"
 

@@ -9,18 +9,12 @@ tests/sweep.py says. It ends by itself, and by no signal.
 """
 from typing import NamedTuple
 
-from refusing import Session
+from lib.refusing import ALL_BEHIND, F1, Session
+from lib.texts import APPEND, HISTORY, MANY, SUM
 
-ALL_BEHIND = 10**9
-F1 = b"F1 no memory\n"
 BROKEN_OFF = b"schedule: F1 no memory\n"
 ORDER = "w+p+h*s+p*q+p+h*s+"  # as for a session, with the schedule's file behind the history's
 EVENTS = {"propose", "commit", "note", "in", "end", "redo", "undo", "roll", "arrange", "ask"}
-
-APPEND = "append([],Y,Z) :- true | Z = Y.\nappend([A|X],Y,Z) :- true | Z = [A|Z1], append(X,Y,Z1).\n"
-SUM = "sum([],A,R) :- true | R = A.\nsum([X|S],A,R) :- true | B := A + X, sum(S,B,R).\n"
-MANY = "p(A,B,C,D) :- A > 0, B > 0, C > 0, D > 0 | true.\n"
-HISTORY = "ghc-history 1\nsteps 4\n1 0.1 by 2\n3 1.2 by 1\n4 3.1 eq\n2 1.1 eq\nend 5\n"
 
 
 class Schedule(NamedTuple):

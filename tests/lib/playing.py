@@ -1,10 +1,11 @@
-"""Plays sessions by so many workers, for tests/workers.py and tests/real_workers.py."""
+"""Plays sessions by so many workers, for tests/workers.py, tests/slices.py and real_workers.py."""
 import os
 import subprocess
 from zlib import crc32
 
-from judged_runs import Wrong
-from refusing import PROGRAM, SECONDS
+from lib.judged_runs import Wrong
+from lib.program import PROGRAM
+from lib.refusing import SECONDS
 
 # A line that is no command, whose reply tells where the one before it ends.
 END, ENDED = "?", "F25 command\n"

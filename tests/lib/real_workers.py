@@ -18,10 +18,10 @@ import subprocess
 import time
 from pathlib import Path
 
-from judged_runs import Wrong
-from playing import play, words_of
-from random_sessions import FLOW, Case
-from refusing import SECONDS
+from lib.judged_runs import Wrong
+from lib.playing import play, words_of
+from lib.random_sessions import FLOW, Case
+from lib.refusing import SECONDS
 
 EVER = 2**40
 ENDLESS = "from(N) :- true | M := N + 1, from(M).\n"

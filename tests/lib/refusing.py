@@ -1,10 +1,9 @@
 """Plays sessions in which memory is refused, or a read or a write fails, for tests/sweep.py, tests/devices.py and
-tests/undo_requests.py. The program is the proved one, crates/ghcdb/out/ghcdb, or the one that the environment names as GHCDB.
+tests/undo_requests.py.
 
 The library of tests/refuse.c, which a C compiler makes, stands before the C library of the program: so the program is tried as it
 is, and what it asks of the system is counted and refused from outside.
 """
-import os
 import shutil
 import struct
 import subprocess
@@ -14,10 +13,13 @@ import threading
 from pathlib import Path
 from typing import NamedTuple
 
-TESTS = Path(__file__).resolve().parent
-PROGRAM = os.path.abspath(os.environ.get("GHCDB") or TESTS.parent / "crates" / "ghcdb" / "out" / "ghcdb")
+from lib.program import PROGRAM, TESTS
+
 SECONDS = 60
 LAST_LINE = 4094
+ALL_BEHIND = 10**9
+F1 = b"F1 no memory\n"
+ORDER = "w+p+h*p*q+p+h*s"  # the words, the files, both texts, the checker and the first state, the history, and the session
 
 
 class Played(NamedTuple):

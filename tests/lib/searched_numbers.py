@@ -1,7 +1,7 @@
 #!/usr/bin/env python3
 """Makes histories whose step numbers were searched for to crowd a hash table, so that a growth test can load them.
 
-    python3 tests/searched_numbers.py COUNT [RISING|MIXED] > FILE    a history of COUNT steps, whose program and query are below
+    python3 tests/lib/searched_numbers.py COUNT [RISING|MIXED] > FILE    a history of COUNT steps, whose program and query are below
 
 The steps are those of `loop :- true | loop.` and the query `loop`, one after another. Each number is among those whose hash, by the
 hash of numbers or by the kit's own, falls into the first part of a table of COUNT entries: such a table would be gone through from

@@ -1,4 +1,4 @@
-"""Judges runs by what `records` and `goals` tell before and behind them, for tests/workers.py and tests/sweep_workers.py. A run may take
+"""Judges runs by what `records` and `goals` tell before and behind them, for tests/workers.py and sweep_workers.py. A run may take
 any order, so what it tells is compared with no text."""
 import re
 from typing import NamedTuple
