@@ -234,13 +234,19 @@ const Overview = (() => {
     drawn = of;
   }
 
-  /** Draws the dots of a long run in slices of time; the strip shows what it showed until that is done, or until something else is wanted. */
+  /**
+   * Draws the dots of a long run in slices of time, after all else that a line has changed was shown. The strip shows what it showed until
+   * that is done, or until something else is wanted.
+   */
   async function drawInSlices(dots, parts, of) {
+    const isOver = (at) => of !== wanted || at >= run().lanes.ofStep.length || !run().isWhole;
+    if (Talk.busy) await Talk.settled();
+    if (isOver(0)) return;
     let until = performance.now() + SLICE;
     for (const at of parts) {
       if (performance.now() < until) continue;
       await Talk.pause();
-      if (of !== wanted || at >= run().lanes.ofStep.length || !run().isWhole) return;
+      if (isOver(at)) return;
       until = performance.now() + SLICE;
     }
     put(dots, of);
