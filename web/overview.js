@@ -75,7 +75,6 @@ const Overview = (() => {
   /** After lines: where steps came, or the window stands beyond the end, it goes to the end. */
   function follow(what) {
     const now = run().graph.count;
-    if (what === "late") return;
     if (what === "start") {
       overview.size = null;
       overview.folded = new Set();
