@@ -60,7 +60,6 @@ const Answers = (() => {
 
   /** After lines: the last refusal among them, else the answer to a question. */
   function show(what) {
-    if (what === "late") return;
     const fresh = what === "lines" ? Talk.entries.slice(shown) : [], refused = fresh.filter(isRefused).pop(), last = fresh[fresh.length - 1];
     shown = Talk.entries.length;
     hide();

@@ -1,9 +1,10 @@
-// Says where a value comes from: which step gave each part of a term, what of a run a value rests on, and why a goal has failed. Pure functions.
-const Explain = ((Graph, Terms) => {
+// Says where a value comes from: which step gave each part of a term, and why a goal has failed. Pure functions.
+const Explain = ((Graph, Terms, Reader, Run) => {
   "use strict";
 
   const VARIABLE = /^_\d+_\d+$/;
   const MOST_BINDERS = 3; // that are told of a goal that has failed
+  const MOST_READ = 3000; // steps; of a longer run no text of a goal is worked out
   const isVariable = (text) => VARIABLE.test(text);
 
   /** The arguments of a term as it is written, a list being a cell with a head and a rest; none of what has no arguments. */
@@ -48,37 +49,6 @@ const Explain = ((Graph, Terms) => {
     return { steps, by: steps[steps.length - 1], part };
   }
 
-  /** For each step by its index, 1 where a variable's value rests on it: those that bound what it reaches, and all their causes. */
-  function sliceOf(graph, variable) {
-    const left = [variable], seen = new Set(left), binders = [];
-    while (left.length > 0) {
-      const next = left.pop(), number = graph.binderOf(next);
-      if (number === undefined) continue;
-      binders.push(graph.indexOf(number));
-      for (const other of Graph.variablesIn(graph.termOf(next))) {
-        if (!seen.has(other)) left.push(other);
-        seen.add(other);
-      }
-    }
-    return Graph.causesOfAll(graph, binders).isIn;
-  }
-
-  /**
-   * The steps that have to be rolled back so that a slice alone is left: those outside it all whose causes are in it. And all that go: how
-   * many, and whether a number is one of them.
-   */
-  function rollsTo(graph, isIn) {
-    const rolls = [], gone = { size: 0, has: (number) => isIn[graph.indexOf(number)] === 0 };
-    for (let index = 0; index < graph.count; index++) {
-      if (isIn[index] === 1) continue;
-      gone.size += 1;
-      let isFirst = true;
-      for (let edge = graph.firstCause.at(index); edge < graph.causeEnd(index); edge++) isFirst = isFirst && isIn[graph.from.at(edge)] === 1;
-      if (isFirst) rolls.push(graph.numbers.at(index));
-    }
-    return { rolls, gone };
-  }
-
   /** The first pair of parts, from the left, in which two terms differ; null where they do not. */
   function clashOf(one, other) {
     const left = [[one, other]];
@@ -105,15 +75,18 @@ const Explain = ((Graph, Terms) => {
     return found;
   }
 
-  /** The last bindings that the console's explanation of a goal tells. */
-  function bindersExplained(lines) {
-    const steps = lines.map((line) => Graph.readRecord(line.replace(/ or [\d,]+$/, ""))).filter(Boolean);
-    return steps.flatMap((step) => step.binds.map(({ variable, term }) => ({ variable, term, step: step.number }))).slice(-MOST_BINDERS).reverse();
+  /** The text of a goal as it was written: as the console has told it, or as the program's text and the record tell it. Undefined where neither does. */
+  function writtenText({ given, graph, texts }, name) {
+    if (texts.has(name)) return texts.get(name);
+    if (graph.count > MOST_READ) return undefined;
+    const run = new Run(Reader.readProgram(given.program), given.query, { steps: new Map(graph.steps.map((step) => [step.number, step])), texts, changes: 0 });
+    run.learn(graph.told);
+    return run.textOf(name) || undefined;
   }
 
   /** Why a goal has failed, in words where `code` stands between back quotes, and the bindings that brought it there. */
   function failureOf(run, goal) {
-    const code = (text) => `\`${Terms.cut(text, 60)}\``, written = run.texts.get(goal.name);
+    const code = (text) => `\`${Terms.cut(text, 60)}\``, written = writtenText(run, goal.name);
     const [left, right] = goal.text.split(" = "), clash = goal.sort === "unification" ? clashOf(left, right) : null;
     const words = {
       F10: () => `no clause of ${code(Graph.predicateOf(goal.text))} says yes to ${code(goal.text)} (F10)`,
@@ -121,9 +94,9 @@ const Explain = ((Graph, Terms) => {
       F12: () => `${code(goal.text)} would make a term that holds itself (F12)`,
       F13: () => `${code(goal.text)} has no value (F13)`,
     }[goal.refusal];
-    return { words: words ? words() : goal.refusal, binders: written === undefined ? bindersExplained(run.explained || []) : bindersOf(run.graph, written) };
+    return { words: words ? words() : goal.refusal, binders: written === undefined ? [] : bindersOf(run.graph, written) };
   }
 
-  return { argumentsOf, explain, sliceOf, rollsTo, clashOf, failureOf, isVariable };
-})(typeof require === "undefined" ? Graph : require("./graph.js"), typeof require === "undefined" ? Terms : require("./terms.js"));
+  return { argumentsOf, explain, clashOf, failureOf, writtenText, isVariable };
+})(...(typeof require === "undefined" ? [Graph, Terms, Reader, Run] : [require("./graph.js"), require("./terms.js"), require("../model/reader.js"), require("../model/run.js")]));
 if (typeof module !== "undefined") module.exports = Explain;

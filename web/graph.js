@@ -255,7 +255,7 @@ const Graph = (() => {
   /**
    * The graph of a run of any length. A step comes at the end (`push`) or goes from there (`pop`), and both cost what that step alone
    * costs. Steps go by their index in the record, or by their number. A step is kept as its line, and read where it is asked for. On what
-   * it depends the console tells, where it knows `causes`; else that is found in the record.
+   * it depends is found in the record: of a long one that takes half the time in which the console tells `causes` and they are read.
    */
   class RunGraph {
     constructor() {
@@ -389,7 +389,7 @@ const Graph = (() => {
       else cause.how = Math.min(cause.how & WAYS, how & WAYS) | ((cause.how | how) & WOKE);
     }
 
-    /** On what a step depends, as the console has told it: the numbers of causes, and how. */
+    /** On what a step depends, as another graph knows it: the numbers of causes, and how. */
     toldCauses({ from, hows }) {
       const causes = [];
       from.forEach((number, at) => this.addCause(causes, number, hows[at]));
@@ -420,7 +420,7 @@ const Graph = (() => {
       return effects.reverse();
     }
 
-    /** Puts a step, or the line that tells it, at the end. `causes` has the numbers and ways of its causes, where the console has told them. */
+    /** Puts a step, or the line that tells it, at the end. `causes` has the numbers and ways of its causes, where another graph knows them. */
     push(told, causes = null) {
       const step = typeof told === "string" ? readRecord(told) : told;
       if (step === null) return;
@@ -561,7 +561,7 @@ const Graph = (() => {
     }
   }
 
-  /** The graph of steps in recorded order. */
+  /** The graph of steps in recorded order, or of the lines that tell them. */
   function graphOf(steps) {
     const graph = new RunGraph();
     for (const step of steps) graph.push(step);
@@ -576,27 +576,22 @@ const Graph = (() => {
   }
 
   /**
-   * For each step by its index, 1 where it is one of some steps, or one of these depends on it by however many edges; and how many there are.
-   * Each edge leads to a later step, so that one look at each step is enough, from the last one on.
+   * For each step by its index, 1 where it is a step, or that step depends on it by however many edges; and how many there are. Each edge
+   * leads to a later step, so that one look at each step is enough, from that step on to the first.
    */
-  function causesOfAll(graph, indexes) {
+  function causesReached(graph, index) {
     const isIn = new Uint8Array(graph.count), from = graph.from.all, first = graph.firstCause.all;
-    let last = NONE, count = 0;
-    for (const index of indexes) {
-      isIn[index] = 1;
-      last = Math.max(last, index);
-    }
-    for (let index = last, end = last === NONE ? 0 : graph.causeEnd(last); index >= 0; index--) {
-      if (isIn[index] === 1) {
+    let count = 0;
+    isIn[index] = 1;
+    for (let at = index, end = graph.causeEnd(index); at >= 0; at--) {
+      if (isIn[at] === 1) {
         count += 1;
-        for (let edge = first[index]; edge < end; edge++) isIn[from[edge]] = 1;
+        for (let edge = first[at]; edge < end; edge++) isIn[from[edge]] = 1;
       }
-      end = first[index];
+      end = first[at];
     }
     return { isIn, count };
   }
-
-  const causesReached = (graph, ...indexes) => causesOfAll(graph, indexes);
 
   /** The same of a step and all that depends on it, from that step on. */
   function effectsReached(graph, index) {
@@ -706,7 +701,7 @@ const Graph = (() => {
 
   return {
     splitOutside, variablesIn, wordsOf, readRecords, readShelf, readGoals, readClauses, predicateOf, sortOfText, graphOf, partOf, MADE, READ, NAMED, WOKE,
-    allCauses, allEffects, whyLines, tidyOrder, waitingEdges, circleOf, RunGraph, causesReached, causesOfAll, effectsReached, nameParts, readRecord, NONE,
+    allCauses, allEffects, whyLines, tidyOrder, waitingEdges, circleOf, RunGraph, causesReached, effectsReached, nameParts, readRecord, NONE,
   };
 })();
 if (typeof module !== "undefined") module.exports = Graph;

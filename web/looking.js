@@ -82,7 +82,6 @@ const Looking = (() => {
 
   /** After lines: the slider's length, and no search. */
   function follow(what) {
-    if (what === "late") return;
     stopPlaying();
     const { count } = Talk.run.graph;
     Object.assign(find("until"), { max: String(count), value: String(count), disabled: count === 0 });

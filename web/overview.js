@@ -75,7 +75,6 @@ const Overview = (() => {
   /** After lines: where steps came, or the window stands beyond the end, it goes to the end. */
   function follow(what) {
     const now = run().graph.count;
-    if (what === "late") return;
     if (what === "start") {
       overview.size = null;
       overview.folded = new Set();
@@ -234,13 +233,19 @@ const Overview = (() => {
     drawn = of;
   }
 
-  /** Draws the dots of a long run in slices of time; the strip shows what it showed until that is done, or until something else is wanted. */
+  /**
+   * Draws the dots of a long run in slices of time, after all else that a line has changed was shown. The strip shows what it showed until
+   * that is done, or until something else is wanted.
+   */
   async function drawInSlices(dots, parts, of) {
+    const isOver = (at) => of !== wanted || at >= run().lanes.ofStep.length || !run().isWhole;
+    if (Talk.busy) await Talk.settled();
+    if (isOver(0)) return;
     let until = performance.now() + SLICE;
     for (const at of parts) {
       if (performance.now() < until) continue;
       await Talk.pause();
-      if (of !== wanted || at >= run().lanes.ofStep.length || !run().isWhole) return;
+      if (isOver(at)) return;
       until = performance.now() + SLICE;
     }
     put(dots, of);

@@ -2,7 +2,7 @@
 const Panels = (() => {
   "use strict";
 
-  const { find, make, lineButton, withCode, goTo, linkedLines } = Elements;
+  const { find, make, lineButton, withCode, goTo, linkedLines, fillRows } = Elements;
   const MOST_ROWS = 100, MOST_LINES = 1000, MOST_TIDIED = 3000;
   const LONGEST_GOAL = 200; // letters
   const MOST_KEPT = 1000000; // steps that the program keeps
@@ -46,24 +46,23 @@ const Panels = (() => {
     return make("div", { class: "line-row" }, text, goal.status === "ready" ? lineButton("Step", `step ${goal.name}`, { class: "small" }) : null);
   }
 
+  /** Fills a panel with rows, as many as it shows, and says how many more there are. */
   function fill(panel, rows, empty, count = rows.length) {
-    const area = find(panel), more = count - Math.min(rows.length, MOST_ROWS);
-    area.replaceChildren(...rows.slice(0, MOST_ROWS).map((row) => row()));
-    if (more > 0) area.append(make("div", { class: "dim" }, `and ${more} more`));
-    if (rows.length === 0) area.append(make("span", { class: "dim" }, empty));
+    const more = count - Math.min(rows.length, MOST_ROWS), told = more > 0 ? `and ${more} more` : rows.length === 0 ? empty : "";
+    fillRows(find(panel), [...rows.slice(0, MOST_ROWS), ...(told ? [{ key: null, does: () => make(more > 0 ? "div" : "span", { class: "dim" }, told) }] : [])]);
   }
 
   const showGoals = () => {
     const { goals } = Talk.run;
-    fill("goals", goals.slice(0, MOST_ROWS).map((goal) => () => goalRow(goal)), Talk.refusal ? "none" : "none: all is done", goals.length);
+    fill("goals", goals.slice(0, MOST_ROWS).map((goal) => ({ key: [goal.name, goal.status, goal.waitsFor, goal.refusal, goal.text].join(" "), does: () => goalRow(goal) })),
+      Talk.refusal ? "none" : "none: all is done", goals.length);
     const spied = [...Talk.spied].map((predicate) => lineButton(`spied: ${predicate} ×`, `nospy ${predicate}`, { class: "chip" }));
     if (spied.length > 0) find("goals").prepend(make("div", null, ...spied));
   };
 
   function showShelf() {
-    const { shelf } = Talk.run, chips = shelf.slice(0, MOST_ROWS).map((step) => () =>
-      make("button", { class: "chip taken", "data-line": `redo ${step.number}`, title: `redo ${step.number}: puts it there again` }, `${step.number} ${step.goal || "-"} ${step.act}`));
-    fill("shelf", chips, "nothing", shelf.length);
+    const { shelf } = Talk.run, chipOf = (step) => make("button", { class: "chip taken", "data-line": `redo ${step.number}`, title: `redo ${step.number}: puts it there again` }, `${step.number} ${step.goal || "-"} ${step.act}`);
+    fill("shelf", shelf.slice(0, MOST_ROWS).map((step) => ({ key: `${step.number} ${step.goal} ${step.act}`, does: () => chipOf(step) })), "nothing", shelf.length);
     find("redo-all").hidden = shelf.length < 2;
   }
 

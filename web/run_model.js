@@ -5,7 +5,8 @@ const RunModel = ((Graph, Lanes) => {
   const PART = 64; // lines that are read between two places where the reader may pause
 
   class RunModel {
-    constructor(program) {
+    constructor(program, query = "") {
+      this.given = { program, query };
       this.graph = new Graph.RunGraph();
       this.lanes = new Lanes.RunLanes();
       this.goals = [];
@@ -13,15 +14,14 @@ const RunModel = ((Graph, Lanes) => {
       this.texts = new Map();
       this.clauses = Graph.readClauses(program);
       this.values = [];
-      this.explained = []; // the end of the reply to `explain G` of a goal that has failed
       this.isWhole = true; // not while a change is read
       this.version = 0; // grows with each change
     }
 
     /**
      * Follows what the worker tells. Steps have gone (`gone`, their numbers); or the first `kept` steps stay, all behind them go, and those of
-     * `lines` come, with what the console tells of their causes (`causes`, or null). Beside it stand the lines of `goals` and `shelf`, one
-     * after the other, of the values, and texts. It yields how many steps are read, each time that it may pause; `isWhole` is false until it has ended.
+     * `lines` come. Beside it stand the lines of `goals` and `shelf`, one after the other, of the values, and texts. It yields how many steps
+     * are read, each time that it may pause; `isWhole` is false until it has ended.
      */
     *change(look, lines) {
       this.version += 1;
@@ -29,13 +29,13 @@ const RunModel = ((Graph, Lanes) => {
       if (look.gone !== null) yield* this.takeAway(look.gone);
       else {
         yield* this.cut(look.kept);
-        yield* this.add(lines, look.causes);
+        yield* this.add(lines);
       }
       this.goals = yield* this.inParts(look.goals, Graph.readGoals);
       yield* this.addLanes();
       for (const [name, text] of look.texts) this.texts.set(name, text);
       this.shelf = yield* this.inParts(look.shelf, Graph.readShelf);
-      Object.assign(this, { values: look.values, explained: look.explained || [] });
+      this.values = look.values;
       this.version += 1;
       this.isWhole = true;
     }
@@ -62,14 +62,10 @@ const RunModel = ((Graph, Lanes) => {
       }
     }
 
-    *add(lines, causes) {
+    *add(lines) {
       const { graph } = this;
-      let at = 0, first = 0;
       for (const line of lines) {
-        const end = causes === null ? 0 : first + causes.counts[at];
-        graph.push(line, causes === null ? null : { from: causes.from.subarray(first, end), hows: causes.hows.subarray(first, end) });
-        first = end;
-        at += 1;
+        graph.push(line);
         if (graph.count % PART === 0) yield graph.count;
       }
     }

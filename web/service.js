@@ -5,14 +5,13 @@ const Service = (() => {
 
   const PARTS = ["heap.js", "host.js", "engine.js", "graph.js", "asking.js", "told.js", "worker_side.js"];
   const STOPPED = new Error("stopped by hand");
-  const waiting = new Map(), listeners = { progress: () => {}, late: () => {} };
+  const waiting = new Map(), listeners = { progress: () => {} };
   let worker = null, answers = null, lastId = 0;
 
   const textOf = (name) => document.querySelector(`script[data-file="${name}"]`).textContent;
 
   function take(data) {
     if (data.progress) listeners.progress(data.progress);
-    if (data.late) listeners.late(data.late);
     if (data.id === undefined) return;
     const { done, failed } = waiting.get(data.id);
     waiting.delete(data.id);

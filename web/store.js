@@ -2,7 +2,7 @@
 const Store = (() => {
   "use strict";
 
-  const { find, make, goTo } = Elements;
+  const { find, make, goTo, fillRows } = Elements;
   const MOST_ROWS = 100, MOST_LOOKED_AT = 2000, MOST_PARTS = 40, MOST_DEEP = 6, LONGEST_ATOM = 60;
   const { isVariable, argumentsOf } = Explain;
 
@@ -46,13 +46,13 @@ const Store = (() => {
   const row = (name, variable, by, room) => make("div", { class: "row value" }, make("button", { class: "name", "data-variable": name, title: "show, who, what it rests on" }, make("b", null, name)), " = ",
     ...termParts(variable, [], variable, room), by === undefined ? null : make("span", { class: "dim" }, "  by ", goTo(by)));
 
-  /** The values of the query's variables, then all bindings, the newest first. */
+  /** The values of the query's variables, which are made anew each time; then all bindings, the newest first, each of which stays what it is. */
   function rows() {
     const { graph } = Talk.run, { query } = Talk.given, values = [], bindings = [];
-    for (const [name, variable] of Asking.queryVariables(query)) values.push(() => row(name, variable, undefined, { parts: MOST_PARTS * 3 }));
+    for (const [name, variable] of Asking.queryVariables(query)) values.push({ key: null, does: () => row(name, variable, undefined, { parts: MOST_PARTS * 3 }) });
     for (let at = graph.count - 1; at >= 0 && at > graph.count - MOST_LOOKED_AT && bindings.length < MOST_ROWS; at--) {
       const step = graph.stepAt(at);
-      for (const { variable } of [...step.binds].reverse()) bindings.push(() => bindingRow(variable, step.number));
+      for (const { variable, term } of [...step.binds].reverse()) bindings.push({ key: `${variable} ${step.number} ${term}`, does: () => bindingRow(variable, step.number) });
     }
     return { values, bindings };
   }
@@ -64,18 +64,20 @@ const Store = (() => {
       part(variable, [], Terms.cut(term, 160)), make("span", { class: "dim" }, "  by ", goTo(by)));
   }
 
+  const unmark = () => { for (const one of find("store").querySelectorAll(".part.told")) one.classList.remove("told"); };
+
   function show() {
     const { values, bindings } = rows(), all = [...values, ...bindings].slice(0, MOST_ROWS), more = values.length + Talk.run.graph.binders.size - all.length;
-    find("store").replaceChildren(...all.map((one) => one()));
-    if (more > 0) find("store").append(make("div", { class: "dim" }, `and ${more} more`));
-    if (all.length === 0) find("store").append(make("span", { class: "dim" }, "nothing is bound"));
+    const words = all.length === 0 ? "nothing is bound" : more > 0 ? `and ${more} more` : "";
+    fillRows(find("store"), [...all, ...(words ? [{ key: null, does: () => make(all.length === 0 ? "span" : "div", { class: "dim" }, words) }] : [])]);
+    unmark();
     if (values.length > 0) find("store").children[values.length - 1].classList.add("last-value");
   }
 
   /** Lights the steps that gave a part of a value, and tells them. */
   function explain(root, path) {
     const { graph } = Talk.run, { steps, by, part: term } = Explain.explain(graph, root, path), way = [...new Set(steps)].filter((step) => step !== by);
-    for (const one of find("store").querySelectorAll(".part.told")) one.classList.remove("told");
+    unmark();
     const words = make("code", null, Terms.cut(term === undefined ? root : term, 60));
     if (by === undefined) {
       Answers.put(false, words, isVariable(term || "") ? " is not bound." : " stands in the query.");

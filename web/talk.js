@@ -4,8 +4,8 @@ const Talk = (() => {
   "use strict";
 
   const SLICE = 12; // milliseconds that the page reads without a pause
-  const talk = { session: null, given: { program: "", query: "", history: "" }, entries: [], spied: new Set(), known: new Set(), run: new RunModel(""), refusal: "", busy: null };
-  const listeners = [], late = [];
+  const talk = { session: null, given: { program: "", query: "", history: "" }, entries: [], spied: new Set(), goalForms: new Set(), run: new RunModel(""), refusal: "", busy: null };
+  const listeners = [];
   let last = Promise.resolve(), ready = null, isStopped = false;
 
   const listen = (listener) => listeners.push(listener);
@@ -41,16 +41,12 @@ const Talk = (() => {
     }
   }
 
-  /** Takes up what a line led to, after what was told late before it. */
+  /** Takes up what a line led to. */
   async function take(look) {
-    const looks = [...late.splice(0), look].filter(Boolean);
-    for (const one of looks) {
-      const isLong = one.come.length > 0x10000;
-      const look = { ...one, goals: linesOf(one.goals), shelf: linesOf(one.shelf) };
-      await inSlices(talk.run.change(look, linesOf(one.come)), (count) => {
-        if (isLong && talk.busy) talk.busy.read = count;
-      });
-    }
+    const isLong = look.come.length > 0x10000, parts = talk.run.change({ ...look, goals: linesOf(look.goals), shelf: linesOf(look.shelf) }, linesOf(look.come));
+    await inSlices(parts, (count) => {
+      if (isLong && talk.busy) talk.busy.read = count;
+    });
   }
 
   /** Does one thing after another; while one takes long, the page is told. */
@@ -73,14 +69,13 @@ const Talk = (() => {
   }
 
   async function open() {
-    late.length = 0;
     ready = ready || Service.start();
     await ready;
     const told = await Service.ask("open", { given: talk.given });
     talk.refusal = told.refusal;
-    talk.known = new Set(told.known);
+    talk.goalForms = new Set(told.goalForms);
     talk.session = { hasEnded: Boolean(told.refusal) };
-    talk.run = new RunModel(talk.given.program);
+    talk.run = new RunModel(talk.given.program, talk.given.query);
     if (told.look) await take(told.look);
   }
 
@@ -176,15 +171,6 @@ const Talk = (() => {
     if (!talk.busy) return;
     talk.busy.memory = memory;
     changed("busy");
-  });
-
-  Service.listen("late", (look) => {
-    late.push(look);
-    queued("", async () => {
-      if (late.length === 0) return;
-      await take(null);
-      await changed("late");
-    });
   });
 
   /** Asks the console what no line of the user asks for; null where it was stopped, or there is no session. */

@@ -22,6 +22,8 @@ function programFile(text) {
 
 const LONGEST = 400, MOST_ROUNDS = 8; // milliseconds, times the load for each processor; rounds, of which the least counts, for other work may be done
 
+test.afterEach(Client.endAll);
+
 const TRIED = new Set();
 let capabilities;
 

@@ -48,6 +48,7 @@ class Client {
   /** Starts the adapter, that of the repository where no other is named. */
   constructor({ adapter = ADAPTER, env = {}, cwd } = {}) {
     this.child = spawn(process.execPath, [adapter], { stdio: ["pipe", "pipe", "inherit"], env: { ...process.env, ...env }, cwd });
+    Client.begun.push(this.child);
     this.sent = 0;
     this.answers = new Map();
     this.events = [];
@@ -146,5 +147,9 @@ class Client {
 }
 
 Client.heard = []; // all messages of all clients
+Client.begun = []; // the adapters that were started
+
+/** Ends the adapters that were started: after a test that failed nothing is left that waits. */
+Client.endAll = () => Client.begun.splice(0).forEach((child) => child.kill());
 
 module.exports = { Client };

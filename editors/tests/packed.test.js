@@ -40,6 +40,8 @@ function activated(file) {
   return told;
 }
 
+test.afterEach(Client.endAll);
+
 test("the packed extension starts its own adapter, and debugs with nothing but itself", { timeout: 60000 }, async () => {
   const folder = room();
   for (const [name, bytes] of packedFiles()) {

@@ -47,8 +47,9 @@ test("goals are as the console wrote them, also where a run told none of them", 
     type("leap 300");
     look();
     assert.strictEqual(kept.steps.size, run.records.size);
-    const texts = new Map();
-    Asking.completeTexts(texts, Graph.readRecords(session.line("records")), given.query, () => engine.open(given));
+    const texts = new Map(), second = engine.open(given);
+    for (const { name, text } of Graph.readGoals(second.line("goals"))) texts.set(name, text);
+    for (const { goal, clause } of Graph.readRecords(session.line("records"))) Asking.addCalls(texts, second.line(clause === null ? `step ${goal}` : `step ${goal} ${clause}`));
     for (const [name, text] of texts) {
       assert.strictEqual(run.textOf(name), text, `${given.query}: ${name}`);
       compared += 1;

@@ -24,7 +24,7 @@ const KNOWN = {
 };
 
 const begun = []; // each is ended after its test, so that one that failed leaves nothing that waits
-test.afterEach(() => Promise.all(begun.splice(0).map((one) => one.kill())));
+test.afterEach(() => Promise.all([...begun.splice(0).map((one) => one.kill()), Client.endAll()]));
 
 /** Begins a session on a console that knows what stands in the table; `type` gives what is shown after a line, `given` the lines it was given. */
 async function begin(table) {
@@ -124,7 +124,6 @@ test("the adapter asks for them, too, and a stop follows where steps went", asyn
   for (const table of [KNOWN, {}]) {
     const file = path.join(fs.mkdtempSync(path.join(os.tmpdir(), "ghcdb-test-")), "lines");
     const client = new Client({ env: { GHCDB: FAKE, GHCDB_TABLE: JSON.stringify(table), GHCDB_LINES: file } });
-    begun.push(client.child);
     await client.begin(BILL, { stopOnEntry: false });
     assert.match(await client.type("explain T"), table === KNOWN ? /^2 1\.1 by 2 .* or 3$/m : /^_0_1 \(T of the query\) = 150/);
     assert.match(await client.type("goal 2"), /price\(12,_1_1\)/);

@@ -311,11 +311,11 @@ def test_on_a_pipe_nothing_is_added(home):
     native = os.environ.get("GHCDB") or str(ROOT / "crates/ghcdb/out/ghcdb")
     is_there = os.access(native, os.X_OK)
     words = [str(ROOT / "examples/append.ghc"), "--query", "append([1],[2],R)"]
-    lines = "help\nstep\nR\nexplain R\nleap\nundo\nshow R\n\n\xff\n".encode("latin-1")
+    lines = "help\nstep\nR\nexplain\nexplain R\nleap\nundo\nshow R\n\n\xff\n".encode("latin-1")
     environment = {**os.environ, "GHCDB": native if is_there else "page", "GHCDB_QUIET": "1"}
     alone = [native] if is_there else ["node", str(ROOT / "web" / "console")]
     programs = [alone, ["node", FRONT], ["node", str(ROOT / "terminal" / "check")], [str(ROOT / "ghcdb")], [str(ROOT / "ghcdb"), "--check"]]
-    told = [subprocess.run([*program, *words], input=lines, capture_output=True, env=environment) for program in programs]
+    told = [subprocess.run([*program, *words], input=lines, capture_output=True, env=environment, timeout=300) for program in programs]
     for program, one in zip(programs, told):
         wants((one.stdout, one.stderr) == (told[0].stdout, told[0].stderr), f"{program}: {one}")
     wants([one.returncode for one in told] == [0, 0, 4, 0, 4], str([one.returncode for one in told]))

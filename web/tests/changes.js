@@ -46,22 +46,3 @@ test("goals that wait for each other in a chain of many thousands are no circle,
   const circle = [...chain.slice(0, 5000), "0.5001 waits _0_5001 after(_0_5001,_0_1)"];
   assert.equal(Graph.circleOf(Graph.readGoals(circle)).length, 5001);
 });
-
-test("where the engine knows no `since`, the last step of a long run is told by its reply and by its causes, before the record tells it", async () => {
-  const { engine } = await engineOfPage();
-  const side = new WorkerSide(engine, { mostQuick: 10 }), model = new RunModel("");
-  const program = programOf("primes");
-  follow(model, side.open({ given: { program, query: "primes(30,Ps)", history: "" } }).look);
-  side.known.clear();
-  follow(model, side.lines({ lines: ["leap 40"] }).look);
-  for (let count = 0; count < 10; count++) {
-    const ready = model.goals.find((goal) => goal.status === "ready"), told = side.lines({ lines: [`step ${ready.name}`] });
-    assert.equal(told.look.isQuick, true, ready.name);
-    follow(model, told.look);
-    const last = model.graph.stepAt(model.graph.count - 1);
-    assert.deepEqual(Graph.whyLines(model.graph, last.number), side.session.line(`why ${last.number}`));
-    assert.deepEqual(last.makes, side.session.line("records").at(-1).split(" makes ")[1].replace("-", "").split(",").filter(Boolean));
-  }
-  follow(model, side.look());
-  assert.deepEqual(plainGraph(model.graph), plainGraph(Graph.graphOf(Graph.readRecords(side.session.line("records")))));
-});

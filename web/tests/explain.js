@@ -1,4 +1,4 @@
-// Tests of web/explain.js and web/search.js: which step gave each part of a value, on what a value rests, why a goal failed, what is found.
+// Tests of web/explain.js and web/search.js: which step gave each part of a value, why a goal failed, what is found.
 "use strict";
 
 const test = require("node:test");
@@ -17,7 +17,7 @@ async function runFor(name, query, lines = ["leap"]) {
   const { engine } = await engineOfPage(), [example] = plays().filter((one) => one.name === `${name}, its query`), play = { ...example, query };
   const session = engine.open(play);
   session.lines(lines);
-  return { session, run: runOf(session, play, engine) };
+  return { session, run: runOf(session, play) };
 }
 
 test("the query's variables are numbered by their first occurrence, and each _ is one of its own", () => {
@@ -62,21 +62,6 @@ test("on every run each part of each value of the query is what `show` tells, an
     }
   });
   assert.ok(parts > 1000, `${parts} parts`);
-});
-
-test("what a value rests on gives the same value when all the rest is rolled back, and nothing else is left", async () => {
-  let kept = 0;
-  await eachPlay((play, session, run) => {
-    const [[name, variable] = []] = [...Asking.queryVariables(play.query)];
-    if (name === undefined || run.graph.count === 0 || run.graph.count > 400) return;
-    const isIn = Explain.sliceOf(run.graph, variable), { rolls, gone } = Explain.rollsTo(run.graph, isIn), before = session.line(`show ${name}`);
-    for (const number of rolls) assert.match(session.line(`roll ${number}`)[0], /^undone /, `${play.name}: roll ${number}`);
-    assert.deepEqual(session.line(`show ${name}`), before, play.name);
-    const left = Graph.readRecords(session.line("records")).map((step) => step.number);
-    assert.deepEqual(left, run.graph.steps.map((step) => step.number).filter((number) => !gone.has(number)), play.name);
-    kept += 1;
-  });
-  assert.ok(kept > 80, `${kept} runs`);
 });
 
 test("the first pair of parts in which two terms differ", () => {

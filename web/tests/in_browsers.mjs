@@ -8,6 +8,8 @@ import assert from "node:assert/strict";
 import { ChromiumPage, chromiumName } from "./chromium.mjs";
 import { FirefoxPage, firefoxName } from "./firefox.mjs";
 
+const LONGEST_TEST = 600000; // milliseconds
+
 export const FILE = path.join(path.dirname(fileURLToPath(import.meta.url)), "..", "ghcdb.html");
 export const PAGE = pathToFileURL(FILE).href;
 export const STARTED = 'document.body.classList.contains("started") && !Talk.busy';
@@ -27,11 +29,12 @@ export function pageWith(change) {
   return { file: pathToFileURL(file).href, remove: () => fs.rmSync(folder, { recursive: true }) };
 }
 
-/** Tries the page in each browser that is there. */
+/** Tries the page in each browser that is there. Where a test takes too long, its browser is killed, and what it waits for fails. */
 export function inBrowsers(words, does) {
   for (const { name, Page, isThere } of BROWSERS) {
-    test(`${name}: ${words}`, { skip: isThere ? false : `there is no ${name}: the page was not tried in it` }, async () => {
+    test(`${name}: ${words}`, { timeout: LONGEST_TEST, skip: isThere ? false : `there is no ${name}: the page was not tried in it` }, async ({ signal }) => {
       const page = await Page.open();
+      signal.addEventListener("abort", () => page.kill());
       try {
         await does(page);
         assert.deepEqual(await page.thrown(), []);

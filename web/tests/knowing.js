@@ -1,4 +1,4 @@
-// Tests of the page on an engine that knows `explain`, `keep`, `goal`, `since` and `causes`: what is then asked, and that all is the same.
+// Tests of what the page asks the console: `since`, `goal`, `explain` and `keep`, and the last two of a goal, too, where the engine knows that.
 "use strict";
 
 const test = require("node:test");
@@ -12,42 +12,52 @@ const WorkerSide = require("../worker_side.js");
 const { engineOfPage } = require("./engine_of_page.js");
 const { teach } = require("./knowing_engine.js");
 const { QUERIES, programOf, chance, plainGraph, lineByChance, follow } = require("./chance.js");
+const { eachPlay } = require("./runs.js");
 
 const LINES = 25, SEEDS = 2;
 const bytes = (text) => new TextEncoder().encode(text);
 
 async function knowingEngine() {
   const { engine } = await engineOfPage();
-  teach(engine.constructor, Graph, Asking);
+  teach(engine.constructor, Graph);
   return engine;
 }
 
-test("which commands are known is found by one trial", async () => {
+/** The words of all lines that a session is asked from now on. */
+function askedOf(session) {
+  const asked = [], plain = session.bytes.bind(session);
+  session.bytes = (text) => {
+    asked.push(text.trim().split(" ")[0]);
+    return plain(text);
+  };
+  return asked;
+}
+
+test("which commands are known of a goal is found by one trial, and each for itself", async () => {
   const answers = (told) => ({ lines: (lines) => lines.map((line) => [told(line)]) });
-  assert.deepEqual([...Asking.commandsKnown(answers(() => "F25 command"))], []);
-  assert.deepEqual([...Asking.commandsKnown(answers((line) => (/^(goal|since) /.test(line) ? "F16 not a kept step" : "F25 command")))], ["goal", "since"]);
-  assert.deepEqual([...Asking.commandsKnown((await knowingEngine()).open(Asking.TRIAL))], ["explain", "keep", "goal", "since", "causes"]);
+  assert.deepEqual([...Asking.goalFormsKnown(answers(() => "F25 command"))], []);
+  assert.deepEqual([...Asking.goalFormsKnown(answers((line) => (line.startsWith("keep ") ? "kept 0" : "F25 command")))], ["keep"]);
+  assert.deepEqual([...Asking.goalFormsKnown((await knowingEngine()).open(Asking.TRIAL))], ["explain", "keep"]);
 });
 
-test("after each line the steps, edges and goals' texts that the console tells are those that are worked out of the record", async () => {
-  const knowing = await knowingEngine(), { engine } = await engineOfPage();
+test("after each line the steps and the goals' texts are those of the console, and the whole record is not asked for again", async () => {
+  const { engine } = await engineOfPage();
   let compared = 0;
   for (const [name, query] of Object.entries(QUERIES)) {
     const program = programOf(name);
     for (let seed = 1; seed <= SEEDS; seed++) {
-      const side = new WorkerSide(knowing), next = chance(seed * 104729 + name.length), model = new RunModel(program);
+      const side = new WorkerSide(engine), next = chance(seed * 104729 + name.length), model = new RunModel(program);
       follow(model, side.open({ given: { program, query, history: "" } }).look);
+      const asked = askedOf(side.session);
       for (let count = 0; count < LINES; count++) {
-        const line = lineByChance(next, model);
-        knowing.constructor.asked.length = 0;
+        const line = lineByChance(next, model), before = model.graph.count;
+        asked.length = 0;
         follow(model, side.lines({ lines: [line] }).look);
-        const words = `${name}, seed ${seed}, line ${count}, ${line}`, { asked } = knowing.constructor;
-        if (/^(step|in|ask|redo|undo|roll)/.test(line) && model.graph.count > 2) assert.ok(!asked.includes("records"), `${words} asked ${asked}`);
+        const words = `${name}, seed ${seed}, line ${count}, ${line}`;
+        if (/^(step|in|ask|redo|undo|roll|leap)/.test(line) && before > 0) assert.ok(!asked.includes("records"), `${words} asked ${asked}`);
         const steps = Graph.readRecords(side.session.line("records"));
         assert.deepEqual(plainGraph(model.graph), plainGraph(Graph.graphOf(steps)), words);
-        const texts = new Map();
-        Asking.completeTexts(texts, steps, query, () => engine.open({ program, query }));
-        for (const step of steps) if (step.goal !== null) assert.equal(model.texts.get(step.goal), texts.get(step.goal), `${words}, goal ${step.goal}`);
+        for (const step of steps) if (step.goal !== null) assert.equal(side.session.line(`goal ${step.number}`)[0], `${step.number} ${step.goal} ${step.act} ${model.texts.get(step.goal)}`, words);
         compared += 1;
       }
     }
@@ -55,14 +65,15 @@ test("after each line the steps, edges and goals' texts that the console tells a
   assert.ok(compared > 400, `${compared} graphs were compared`);
 });
 
-test("the causes of many steps are told by `causes`, in whatever order its lines come", () => {
-  const lines = ["5 3 woke _0_2", "2 1 made -", "5 1 made -", "5 3 read _0_1", "4 2 read _1_1 woke", "7 4 named _4_1,_4_2"];
-  const { counts, from, hows } = Asking.causesTold(lines, [2, 4, 5, 9]);
-  assert.deepEqual([[...counts], [...from], [...hows]], [[1, 1, 3, 0], [1, 2, 3, 1, 3], [Graph.MADE, Graph.READ | Graph.WOKE, Graph.READ | Graph.WOKE, Graph.MADE, Graph.READ]]);
-  const graph = new Graph.RunGraph();
-  for (const number of [1, 3]) graph.push(`${number} 0.${number} by 1 reads - binds _0_${number}=a makes ${number}.1`);
-  graph.push("5 1.1 by 2 reads _0_3 binds - makes -", { from: from.subarray(2, 5), hows: hows.subarray(2, 5) });
-  assert.deepEqual(Graph.whyLines(graph, 5), ["1 made", "3 read _0_3 woke"]);
+test("of a run that was too long for the texts of its goals all are asked for once it is short again", async () => {
+  const { engine } = await engineOfPage(), side = new WorkerSide(engine), model = new RunModel(""), given = { program: programOf("primes"), query: "primes(300,Ps)", history: "" };
+  follow(model, side.open({ given }).look);
+  follow(model, side.lines({ lines: ["leap 3100"] }).look);
+  assert.equal(model.texts.size, 1);
+  const { replies, look } = side.lines({ lines: ["roll 1500"] });
+  follow(model, look);
+  assert.ok(model.graph.count <= 3000 && model.graph.count > 100, replies[0][0]);
+  for (const step of model.graph.steps) assert.ok(model.texts.has(step.goal), step.goal);
 });
 
 test("what was told of a record is added to, taken from, and compared with the whole of it", () => {
@@ -88,30 +99,52 @@ test("what a reply to `explain` tells: its head, its steps, the other clauses, a
   assert.deepEqual(Asking.sliceIn(["F23 no variable"]).head, ["F23 no variable"]);
 });
 
-test("the console's slice of each value is the page's own, and `keep` takes back all others in one line", async () => {
-  const knowing = await knowingEngine();
-  for (const [name, query, lines] of [["bill", "bill(12,3,T)", ["leap"]], ["quicksort", "quicksort([3,1,2],R)", ["leap"]], ["append", "append([1],[2],R)", ["leap"]]]) {
-    const side = new WorkerSide(knowing), model = new RunModel(programOf(name)), [[asked, variable]] = [...Asking.queryVariables(query)];
-    follow(model, side.open({ given: { program: programOf(name), query, history: "" } }).look);
-    follow(model, side.lines({ lines }).look);
-    for (const one of [asked, ...new Set(model.graph.steps.flatMap((step) => step.binds.map((binding) => binding.variable)))]) {
-      const { slice } = side.ask({ line: `explain ${one}` }), isIn = Explain.sliceOf(model.graph, one === asked ? variable : one);
-      const own = model.graph.steps.filter((step, index) => isIn[index] === 1).map((step) => step.number);
-      assert.ok(own.every((number) => slice.numbers.includes(number)), `${name}, explain ${one}`);
-    }
-    const inner = model.graph.steps.find((step) => step.binds.length > 0).binds[0].variable, { slice } = side.ask({ line: `explain ${inner}` });
-    const { replies, look } = side.lines({ lines: [`keep ${inner}`] });
+test("what a value rests on gives the same value when `keep` has taken all the rest back, and nothing else is left", async () => {
+  let kept = 0;
+  await eachPlay((play, session, run) => {
+    const [[name] = []] = [...Asking.queryVariables(play.query)];
+    const before = name === undefined ? ["F23"] : session.line(`show ${name}`);
+    if (/^F\d/.test(before[0]) || run.graph.count === 0 || run.graph.count > 400) return;
+    const { numbers, head, last } = Asking.sliceIn(session.line(`explain ${name}`));
+    assert.deepEqual([head[0], last], [before[0], `steps ${numbers.length} of ${run.graph.count}`], play.name);
+    assert.equal(session.line(`keep ${name}`).at(-1), `kept ${numbers.length}`, play.name);
+    assert.deepEqual(session.line(`show ${name}`), before, play.name);
+    assert.deepEqual(Graph.readRecords(session.line("records")).map((step) => step.number), [...numbers], play.name);
+    kept += 1;
+  });
+  assert.ok(kept > 80, `${kept} runs`);
+});
+
+test("the page follows `keep` of a value and of a goal", async () => {
+  const knowing = await knowingEngine(), side = new WorkerSide(knowing), model = new RunModel("");
+  follow(model, side.open({ given: { program: programOf("quicksort"), query: "quicksort([3,1,2],R)", history: "" } }).look);
+  follow(model, side.lines({ lines: ["leap 12"] }).look);
+  const waiting = model.goals.find((goal) => goal.status === "waits"), inner = model.graph.steps.find((step) => step.binds.length > 0).binds[0].variable;
+  for (const name of [waiting.name, inner]) {
+    const { slice } = side.ask({ line: `explain ${name}` }), { replies, look } = side.lines({ lines: [`keep ${name}`] });
     assert.equal(replies[0].at(-1), `kept ${slice.numbers.length}`);
     follow(model, look);
     assert.deepEqual(model.graph.steps.map((step) => step.number), [...slice.numbers]);
   }
 });
 
-test("why a goal has failed is found in what the console explains of it, where no text of it was told", async () => {
-  const knowing = await knowingEngine(), program = "p(X,Y) :- true | X = a, Y = X, q(Y).\nq(Y) :- true | Y = b.\n", side = new WorkerSide(knowing), model = new RunModel(program);
+test("why a goal has failed is found in the program's text and the record, where no line has told the goal's text", async () => {
+  const { engine } = await engineOfPage(), program = "p(X,Y) :- true | X = a, Y = X, q(Y).\nq(Y) :- true | Y = b.\n", side = new WorkerSide(engine), model = new RunModel(program, "p(X,Y)");
   follow(model, side.open({ given: { program, query: "p(X,Y)", history: "" } }).look);
   follow(model, side.lines({ lines: ["leap"] }).look);
   const failed = model.goals.find((goal) => goal.status === "failed"), { words, binders } = Explain.failureOf(model, failed);
   assert.match(words, /two different things/);
-  assert.ok(binders.length > 0 && binders.every(({ variable, step }) => model.graph.binderOf(variable) === step));
+  assert.ok(!model.texts.has(failed.name) && binders.length > 0 && binders.every(({ variable, step }) => model.graph.binderOf(variable) === step));
+});
+
+test("the texts of goals that are worked out are those that the console tells", async () => {
+  let compared = 0;
+  await eachPlay((play, session, run) => {
+    if (play.lines.some((line) => /^ *(in|ask|undo|roll|redo|arrange) /.test(line)) || run.graph.count > 400) return;
+    for (const step of run.graph.steps) {
+      assert.equal(Explain.writtenText({ ...run, texts: new Map() }, step.goal), run.texts.get(step.goal), `${play.name}, goal ${step.goal}`);
+      compared += 1;
+    }
+  });
+  assert.ok(compared > 300, `${compared} texts compared`);
 });

@@ -1,5 +1,5 @@
-// Tests of web/ghcdb.html, in a headless Chromium and a headless Firefox, with an engine that knows `explain`, `keep`, `goal`, `since` and
-// `causes`: a slice is lit, other choices are ringed and can be taken, a value or a goal is kept alone by one line, and the page asks for no more.
+// Tests of web/ghcdb.html, in a headless Chromium and a headless Firefox: what a value rests on is lit, other choices are ringed and can be taken,
+// a value is kept alone by one line; a goal, too, with an engine that knows that; and the page asks the console for no more than it needs.
 import fs from "node:fs";
 import assert from "node:assert/strict";
 import { inBrowsers, open, pageWith } from "./in_browsers.mjs";
@@ -8,19 +8,17 @@ const text = (id) => `document.getElementById(${JSON.stringify(id)}).textContent
 const numbers = (selector, name = "step") => `[...document.querySelectorAll(${JSON.stringify(selector)})].map((one) => Number(one.dataset.${name}))`;
 const lines = "[...document.querySelectorAll('#told > .typed')].map((one) => one.textContent.slice(2))";
 
-/** A copy of the page whose engine is taught these commands; in the page itself too, for a browser that refuses workers. */
+/** A copy of the page whose engine is taught the forms of a goal; in the page itself too, for a browser that refuses workers. */
 function knowingPage({ withoutWorker = false } = {}) {
-  const taught = `${fs.readFileSync(new URL("knowing_engine.js", import.meta.url), "utf8")}\nteach(Engine, Graph, Asking);\n`;
+  const taught = `${fs.readFileSync(new URL("knowing_engine.js", import.meta.url), "utf8")}\nteach(Engine, Graph);\n`;
   const refused = 'window.Worker = class { constructor() { throw new Error("refused"); } };';
   return pageWith((page) => page.replace('<script data-file="worker_side.js">\n', (found) => `${withoutWorker ? `<script>${refused}</script>` : ""}${found}${taught}`));
 }
 
-inBrowsers("an engine that knows explain: what a value rests on is lit, the other choice is ringed, and a click takes it beside", async (page) => {
-  const { file, remove } = knowingPage();
-  await open(page, "#example=bill&query=bill(12,3,T)&lines=leap", [1440, 900], file);
-  assert.deepEqual(await page.value("[...Talk.known]"), ["explain", "keep", "goal", "since", "causes"]);
+inBrowsers("what a value rests on is lit, the other choice is ringed, and a click takes it beside", async (page) => {
+  await open(page, "#example=bill&query=bill(12,3,T)&lines=leap", [1440, 900]);
   await page.click('#store [data-variable="_1_1"]');
-  await page.click('#menu [data-slice="_1_1"]');
+  await page.click('#menu [data-line="explain _1_1"]');
   assert.equal((await page.value(lines)).at(-1), "explain _1_1");
   assert.deepEqual(await page.value(numbers("#canvas .mark.cause")), [1, 2, 3]);
   assert.deepEqual(await page.value(numbers("#canvas .mark.or")), [2]);
@@ -31,12 +29,10 @@ inBrowsers("an engine that knows explain: what a value rests on is lit, the othe
   await page.click('#answer [data-try="2 3"]');
   assert.deepEqual((await page.value(lines)).slice(-2), ["roll 2", "step 1.1 3"]);
   assert.deepEqual(await page.value(numbers("#beside .mark", "kept")), [1, 2, 3, 4, 5, 6]);
-  remove();
 });
 
-inBrowsers("an engine that knows keep: all that would go is ringed, and one line takes it back; a goal that waits is explained and kept, too", async (page) => {
-  const { file, remove } = knowingPage();
-  await open(page, "#example=bill&query=bill(12,3,T)&lines=leap", [1440, 900], file);
+inBrowsers("before a value is kept alone all that would go is ringed, and one line takes it back", async (page) => {
+  await open(page, "#example=bill&query=bill(12,3,T)&lines=leap", [1440, 900]);
   await page.click('#store [data-variable="_1_1"]');
   await page.click('#menu [data-keep="_1_1"]');
   await page.value('new Promise((done) => { const look = () => (document.querySelector("#menu .danger") ? done(true) : setTimeout(look, 20)); look(); })');
@@ -45,6 +41,14 @@ inBrowsers("an engine that knows keep: all that would go is ringed, and one line
   await page.click("#menu .danger");
   assert.equal((await page.value(lines)).at(-1), "keep _1_1");
   assert.deepEqual(await page.value(numbers("#canvas .mark")), [1, 2, 3]);
+  await page.value('(Page.begin({ program: "p(X) :- true | X = f(Y,Y), q(Y).\\nq(_) :- true | true.\\n", query: "p(X)" }), Talk.send("leap"), Talk.settled())');
+  await page.value('Resting.askKeep("nothing")');
+  assert.match(await page.value(text("answer")), /^explain nothing was refused: F25 command/);
+  assert.ok(await page.value('document.getElementById("menu").hidden'));
+});
+
+inBrowsers("an engine that knows explain and keep of a goal: a goal that waits is explained and kept alone", async (page) => {
+  const { file, remove } = knowingPage();
   await open(page, "#example=quicksort&query=quicksort([3,1,2],R)&lines=leap 6", [1440, 900], file);
   const waiting = await page.value('Talk.run.goals.find((goal) => goal.status === "waits").name');
   await page.value(`Menus.open({ goal: "${waiting}" }, document.getElementById("canvas"))`);
@@ -59,13 +63,13 @@ inBrowsers("an engine that knows keep: all that would go is ringed, and one line
   remove();
 });
 
-inBrowsers("an engine that knows goal, since and causes: no second session, no whole record, and the same run in the page itself", async (page) => {
+inBrowsers("a step asks for no whole record and no second session, also where the page itself has the engine, and goals' texts come when one looks", async (page) => {
   const { file, remove } = knowingPage({ withoutWorker: true });
   await open(page, "#example=quicksort&query=quicksort([3,1,2],R)&lines=leap 20", [1440, 900], file);
   await page.value("(Engine.asked.length = 0, true)");
   await page.value('Talk.send("step " + Talk.run.goals.find((goal) => goal.status === "ready").name)');
   const asked = await page.value("Engine.asked");
-  assert.ok(asked.includes("since") && asked.includes("why") && !asked.includes("records"), asked.join(" "));
+  assert.ok(asked.includes("since") && !asked.includes("records") && !asked.includes("causes"), asked.join(" "));
   assert.equal(await page.value("Talk.run.graph.count"), 21);
   const edges = "JSON.stringify(Talk.run.graph.edges.map(({ from, to, kind, woke, variables }) => [from, to, kind, woke, variables]))";
   assert.equal(await page.value(edges), await page.value(edges.replaceAll("Talk.run.graph", "Graph.graphOf(Talk.run.graph.steps)")));

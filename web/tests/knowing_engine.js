@@ -1,17 +1,18 @@
-// An engine that knows `explain`, `keep`, `goal`, `since` and `causes`, for tests: what they tell is worked out of what the engine of the page
-// tells by its other commands. For Node, and as a text that is put into a page.
+// An engine that knows `explain` and `keep` of a goal, for tests: what they tell is worked out of what the engine of the page tells by its
+// other commands. Of a variable, and where the engine knows these forms itself, its own answers stand. For Node, and as a text that is put
+// into a page.
 "use strict";
 
-/** Lets the sessions of an engine's class know these commands. Each line that one is asked is noted in `TheEngine.asked`. */
-function teach(TheEngine, Graph, Asking) {
+/** Lets the sessions of an engine's class know these forms. Each line that one is asked is noted in `TheEngine.asked`. */
+function teach(TheEngine, Graph) {
   const { open } = TheEngine.prototype;
   const bytesOf = (lines) => new TextEncoder().encode(lines.map((line) => `${line}\n`).join(""));
   TheEngine.asked = [];
 
-  /** What the commands are worked out of: lines of a session that knows no more than today's. */
+  /** What the forms are worked out of: lines of a session that knows no more than the engine. */
   class Knowing {
-    constructor(engine, given, line) {
-      Object.assign(this, { engine, given, line });
+    constructor(line) {
+      this.line = line;
     }
 
     records() {
@@ -26,54 +27,19 @@ function teach(TheEngine, Graph, Asking) {
       return Graph.readGoals(this.line("goals"));
     }
 
-    texts() {
-      const texts = new Map(), { program, query } = this.given;
-      for (const goal of this.goals()) texts.set(goal.name, goal.text);
-      Asking.completeTexts(texts, Graph.readRecords(this.records()), query, () => open.call(this.engine, { program, query }));
-      return texts;
-    }
-
-    binders() {
-      return new Map(Graph.readRecords(this.records()).flatMap((step) => step.binds.map((binding) => [binding.variable, { by: step.number, term: binding.term }])));
-    }
-
-    /** The numbers of the steps that bound what some variables reach. */
-    boundBy(variables) {
-      const binders = this.binders(), seen = new Set(variables), found = [];
-      for (const variable of seen) {
-        if (!binders.has(variable)) continue;
-        found.push(binders.get(variable).by);
-        for (const other of Graph.variablesIn(binders.get(variable).term)) seen.add(other);
-      }
-      return found;
-    }
-
-    /** Steps with all on which they depend, by `why`. */
-    withCauses(roots) {
-      const kept = new Set(this.numbers()), all = new Set(roots.filter((number) => kept.has(number)));
-      for (const number of all) for (const line of this.line(`why ${number}`)) if (line !== "none") all.add(Number(line.split(" ")[0]));
+    /** A step with all on which it depends, by `why`. */
+    withCauses(number) {
+      const all = new Set(this.numbers().filter((kept) => kept === number));
+      for (const one of all) for (const line of this.line(`why ${one}`)) if (line !== "none") all.add(Number(line.split(" ")[0]));
       return all;
     }
 
-    /** On what a variable or a goal rests; a refusal as a text where there is none. */
+    /** On what a goal rests: the step that made it with its causes, and what the values rest on that could stand in it. */
     sliceOf(name) {
-      if (/^\d+\.\d+$/.test(name)) {
-        if (!this.goals().some((goal) => goal.name === name)) return "F7 no goal";
-        return this.withCauses([Number(name.split(".")[0]), ...this.boundBy(Graph.variablesIn(this.texts().get(name)))]);
-      }
-      const refused = this.line(`who ${name}`).find((line) => /^F/.test(line)), variable = Asking.queryVariables(this.given.query).get(name) || name;
-      return refused || this.withCauses([Number(variable.split("_")[1]), ...this.boundBy([variable])]);
-    }
-
-    /** The other clauses with which a step's goal can be stepped after a roll. */
-    othersOf(line) {
-      const [step] = Graph.readRecords([line]), clauses = Graph.readClauses(this.given.program);
-      if (step.clause === null) return [];
-      return clauses.map((clause, at) => at + 1).filter((number) => {
-        if (number === step.clause || clauses[number - 1].predicate !== clauses[step.clause - 1].predicate) return false;
-        const session = open.call(this.engine, { ...this.given, history: `${this.line("save").join("\n")}\n` });
-        return session.lines([`roll ${step.number}`, `step ${step.goal} ${number}`])[1][0].startsWith("REDU ");
-      });
+      const maker = Number(name.split(".")[0]), all = this.withCauses(maker), [goal] = this.line(`goal ${maker}`);
+      const own = Graph.variablesIn(this.records().join(" ")).filter((variable) => variable.startsWith(`_${maker}_`));
+      for (const variable of [...Graph.variablesIn(goal), ...own]) for (const line of this.line(`explain ${variable}`)) if (/ makes /.test(line)) all.add(Number(line.split(" ")[0]));
+      return all;
     }
 
     holders(variables, but) {
@@ -86,52 +52,33 @@ function teach(TheEngine, Graph, Asking) {
     }
 
     explain(name) {
-      const slice = this.sliceOf(name), goal = this.goals().find((one) => one.name === name);
-      if (typeof slice === "string") return [slice];
-      const [head] = goal ? this.line("goals").filter((line) => line.startsWith(`${name} `)) : this.line(`show ${name}`);
+      const goal = this.goals().find((one) => one.name === name);
+      if (goal === undefined) return ["F7 no goal"];
+      const slice = this.sliceOf(name), [head] = this.line("goals").filter((line) => line.startsWith(`${name} `));
       const lines = this.records().filter((line) => slice.has(Number(line.split(" ")[0])));
-      const told = lines.map((line) => { const others = this.othersOf(line); return others.length > 0 ? `${line} or ${others.join(",")}` : line; });
-      return [head, ...this.holders(goal ? goal.waitsFor : Graph.variablesIn(head.split(" = ").slice(1).join(" = ")), name), ...told, `steps ${lines.length} of ${this.records().length}`];
+      return [head, ...this.holders(goal.waitsFor, name), ...lines, `steps ${lines.length} of ${this.records().length}`];
     }
 
     keep(name) {
+      if (!this.goals().some((goal) => goal.name === name)) return ["F7 no goal"];
       const slice = this.sliceOf(name), lines = [];
-      if (typeof slice === "string") return [slice];
       for (;;) {
         const first = this.numbers().find((number) => !slice.has(number));
         if (first === undefined) return [...lines, `kept ${slice.size}`];
         lines.push(this.line(`roll ${first}`).find((line) => line.startsWith("undone ")));
       }
     }
-
-    goal(word) {
-      const [step] = Graph.readRecords(this.records()).filter((one) => one.number === Number(word));
-      if (step === undefined) return ["F16 not a kept step"];
-      const clause = step.clause === null ? undefined : Graph.readClauses(this.given.program)[step.clause - 1];
-      return [step.goal === null ? step.act : `${step.goal} ${this.texts().get(step.goal)}`, ...(clause ? [`by ${step.clause} line ${clause.from}`] : [])];
-    }
-
-    since(word) {
-      const lines = this.records(), at = lines.findIndex((line) => line.startsWith(`${word} `));
-      return at < 0 ? ["F16 not a kept step"] : lines.slice(at);
-    }
-
-    causes() {
-      const lines = this.numbers().flatMap((number) => this.line(`why ${number}`).filter((line) => line !== "none").map((line) => {
-        const [from, how, variable = "-", woke] = line.split(" ");
-        return `${number} ${from} ${woke || how} ${variable}`;
-      }));
-      return lines.length > 0 ? lines : ["none"];
-    }
   }
 
   TheEngine.prototype.open = function openKnowing(given) {
     const session = open.call(this, given), plain = session.bytes.bind(session), line = (text) => new TextDecoder().decode(plain(text)).split("\n").slice(0, -1);
-    const knowing = new Knowing(this, given, line);
+    const knowing = new Knowing(line);
     session.bytes = (text) => {
-      const [word, name] = text.trim().split(/ +/);
-      TheEngine.asked.push(word);
-      return ["explain", "keep", "goal", "since", "causes"].includes(word) && !session.hasEnded ? bytesOf(knowing[word](name)) : plain(text);
+      const [, word, name] = /^ *(explain|keep) +(\d+\.\d+) *$/.exec(text) || [];
+      TheEngine.asked.push(text.trim().split(/ +/)[0]);
+      if (word === undefined || session.hasEnded) return plain(text);
+      const reply = line(text);
+      return bytesOf(reply[0] === "F25 command" ? knowing[word](name) : reply);
     };
     return session;
   };
