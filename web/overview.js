@@ -239,7 +239,7 @@ const Overview = (() => {
    */
   async function drawInSlices(dots, parts, of) {
     const isOver = (at) => of !== wanted || at >= run().lanes.ofStep.length || !run().isWhole;
-    if (Talk.busy) await Talk.settled();
+    await Talk.showing;
     if (isOver(0)) return;
     let until = performance.now() + SLICE;
     for (const at of parts) {
