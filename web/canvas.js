@@ -122,6 +122,9 @@ const Canvas = (() => {
     svg.querySelector(".names").setAttribute("transform", `translate(${area.scrollLeft} 0)`);
     if (svg.querySelector(".legend")) svg.querySelector(".legend").setAttribute("transform", `translate(${area.scrollLeft} 0)`);
     svg.querySelector(".axis").setAttribute("transform", `translate(0 ${area.scrollTop})`);
+    const { left, ticks } = canvas.view, words = [...svg.querySelectorAll(".axis text")], name = words.pop();
+    words.forEach((word, at) => { word.style.visibility = ticks[at].x - area.scrollLeft < left - 4 ? "hidden" : ""; });
+    name.setAttribute("transform", `translate(${area.scrollLeft} 0)`);
   }
 
   /** Scrolls the picture; that closes no menu. */
@@ -146,10 +149,12 @@ const Canvas = (() => {
 
   /** Scrolls so far that what is chosen is in sight. */
   function scrollTo(chosen) {
-    if (chosen.step !== undefined && Overview.show(chosen.step)) draw();
+    const hasMoved = chosen.step !== undefined && Overview.show(chosen.step);
+    if (hasMoved) draw();
     const area = find("canvas"), place = placeOf(chosen), left = canvas.view.left;
     if (!place) return;
     let { scrollLeft: toLeft, scrollTop: toTop } = area;
+    if (hasMoved) toLeft = 0;
     if (place.x - left < toLeft) toLeft = Math.max(0, place.x - left - 60);
     if (place.x > toLeft + area.clientWidth - 40) toLeft = place.x - area.clientWidth + 120;
     if (place.y < toTop + 60) toTop = Math.max(0, place.y - 90);

@@ -350,11 +350,13 @@ const Lanes = ((Graph, Terms) => {
     lane.rows = 1 + rows.length;
   }
 
+  const MOST_RADIUS = 11;
+
   /** How large all is drawn: what the room allows, from steps that stand side by side as points to circles with numbers. */
   function sizesFor(room, columns, lanes, sides, isFit) {
     const least = isFit ? 0.5 : columns <= 30 ? 27 : 7;
     const dx = between(least, (room - sides) / Math.max(1, columns), 56);
-    const most = lanes > 80 ? 4 : lanes > 30 ? 6 : lanes > 16 ? 8 : 11;
+    const most = lanes > 80 ? 4 : lanes > 30 ? 6 : lanes > 16 ? 8 : MOST_RADIUS;
     const radius = between(isFit ? 1 : 3, dx * 0.3, most);
     const kind = radius >= 8 ? "roomy" : radius >= 5 ? "dense" : "tiny";
     const font = room < NARROW ? 10.5 : { roomy: 12.5, dense: 11, tiny: 9.5 }[kind];
@@ -364,11 +366,18 @@ const Lanes = ((Graph, Terms) => {
   const RANKS = { tiny: 0, dense: 1, roomy: 2 };
   const LOOKS = [["roomy", "long"], ["roomy", "name"], ["roomy", "none"], ["dense", "name"], ["dense", "none"], ["tiny", "none"]];
 
+  /** The radius from which on a mark is large: it holds the number of its step, which can be read. */
+  function leastLarge({ graph }) {
+    const digits = graph.count > 0 ? String(graph.numbers.at(graph.count - 1)).length : 1;
+    return digits > 4 ? MOST_RADIUS : 8;
+  }
+
   /** The sizes of the best look for which there is room: large marks go before long labels of goals. */
   function bestSizes(run, options, columns, lanes, letters) {
+    const large = leastLarge(run), isAs = (sizes, kind) => RANKS[sizes.kind] >= RANKS[kind] && (kind !== "roomy" || sizes.radius >= large - 0.01);
     const looks = LOOKS.map(([kind, labels]) => {
       const sides = letters * 7.4 + roomForGoals(run, labels), sizes = sizesFor(options.room, columns, lanes, sides, options.high !== undefined);
-      return { isLarge: RANKS[sizes.kind] >= RANKS[kind], fits: sides + columns * sizes.dx < options.room + 1, sizes: { ...sizes, labels } };
+      return { isLarge: isAs(sizes, kind), fits: sides + columns * sizes.dx < options.room + 1, sizes: { ...sizes, labels } };
     });
     const scrolled = looks.filter(({ isLarge, sizes }) => isLarge && sizes.labels !== "long"); // where nothing fits, one scrolls
     return (looks.find(({ isLarge, fits }) => isLarge && fits) || scrolled[0] || looks[looks.length - 1]).sizes;

@@ -16,10 +16,10 @@ const Overview = (() => {
   const count = () => (overview.until === null ? run().graph.count : Math.min(overview.until, run().graph.count));
   const isOn = () => count() > LEAST_STEPS;
   const between = (least, value, most) => Math.max(least, Math.min(value, most));
-  /** As many steps as have room side by side, with numbers in them. */
+  /** As many steps as have room side by side, with numbers in them that can be read. */
   function usualSize() {
-    const room = find("canvas").clientWidth;
-    return between(LEAST_SIZE, Math.floor((room - (room < 600 ? 190 : 360)) / 27.5), 60);
+    const room = find("canvas").clientWidth, wide = count() < 10000 ? 27.5 : 37;
+    return between(LEAST_SIZE, Math.floor((room - (room < 600 ? 190 : 360)) / wide), 60);
   }
   const size = () => Math.min(overview.size === null ? usualSize() : overview.size, Math.max(1, count()));
   const setFrom = (from) => { overview.from = between(0, Math.round(from), Math.max(0, count() - size())); };
@@ -239,7 +239,7 @@ const Overview = (() => {
    */
   async function drawInSlices(dots, parts, of) {
     const isOver = (at) => of !== wanted || at >= run().lanes.ofStep.length || !run().isWhole;
-    if (Talk.busy) await Talk.settled();
+    await Talk.showing;
     if (isOver(0)) return;
     let until = performance.now() + SLICE;
     for (const at of parts) {

@@ -4,12 +4,22 @@ const Talk = (() => {
   "use strict";
 
   const SLICE = 12; // milliseconds that the page reads without a pause
-  const talk = { session: null, given: { program: "", query: "", history: "" }, entries: [], spied: new Set(), goalForms: new Set(), run: new RunModel(""), refusal: "", busy: null };
+  const talk = { session: null, given: { program: "", query: "", history: "" }, entries: [], spied: new Set(), goalForms: new Set(), run: new RunModel(""), refusal: "", busy: null, showing: null };
   const listeners = [];
   let last = Promise.resolve(), ready = null, isStopped = false;
 
   const listen = (listener) => listeners.push(listener);
-  const changed = async (what) => { for (const listener of listeners) await listener(what); };
+
+  /** Tells those who listen; `showing` is done when they have shown what has changed. */
+  async function changed(what) {
+    let isShown = () => {};
+    if (what !== "busy" && what !== "idle") talk.showing = new Promise((done) => { isShown = done; });
+    try {
+      for (const listener of listeners) await listener(what);
+    } finally {
+      isShown();
+    }
+  }
 
   /** A pause in which the browser can draw and take clicks. */
   const pause = () => new Promise((done) => {

@@ -118,3 +118,25 @@ inBrowsers("what all stands for is in sight wherever one has scrolled, and a lab
   assert.ok(await page.value(legend));
   assert.ok(!(await page.value('document.querySelector("#canvas .names").textContent')).includes("……"));
 });
+
+inBrowsers("of a run of 12,000 steps the numbers can be read, and the arrows from outside are whole, with labels where no other arrow is", async (page) => {
+  for (const [name, size] of Object.entries(SIZES)) {
+    await open(page, "#example=primes&query=primes(3000,Ps)&lines=leap 12000", size);
+    const fonts = await page.value('[...document.querySelectorAll("#canvas .number")].map((one) => parseFloat(getComputedStyle(one).fontSize))');
+    assert.ok(fonts.every((font) => font >= 6.5) && (name === "phone" || fonts.length > 5), `${name}: ${fonts}`);
+    const axis = '(() => { const axis = document.querySelector("#canvas .axis rect").getBoundingClientRect().bottom; return [...document.querySelectorAll("#canvas .coming .read")].map((one) => Math.round(one.getBoundingClientRect().top - axis)); })()', tops = await page.value(axis);
+    assert.ok(tops.length > 3 && tops.every((top) => top >= 0), `${name}: ${tops}`);
+    const over = await page.value(`[...document.querySelectorAll("#canvas .coming text")].filter((one) => { const box = one.getBoundingClientRect();
+      return [...document.querySelectorAll("#canvas .coming path")].some((path) => { const other = path.getBoundingClientRect(); return path.parentNode !== one.parentNode && path.parentNode.dataset.to !== one.parentNode.dataset.to && other.left < box.right && other.right > box.left && other.top < box.bottom && other.bottom > box.top; }); }).map((one) => one.textContent)`);
+    assert.deepEqual(over, [], name);
+    assert.deepEqual(await page.value(TEXTS), [], name);
+  }
+});
+
+inBrowsers("where the picture is scrolled, the axis has no number above the names of lanes, and its name stays", async (page) => {
+  await open(page, "#example=primes&query=primes(30,Ps)&lines=leap 50", SIZES.phone);
+  const told = await page.value(`(() => { const names = document.querySelector("#canvas .names rect").getBoundingClientRect().right, words = [...document.querySelectorAll("#canvas .axis text")].filter((one) => getComputedStyle(one).visibility !== "hidden");
+    return words.map((one) => { const box = one.getBoundingClientRect(); return [one.textContent, (box.left + box.right) / 2 >= names - 1, box.left >= 0]; }); })()`);
+  assert.deepEqual(told.filter(([, isBeyond]) => !isBeyond), [["recorded order", false, true]]);
+  assert.ok(told.length > 4);
+});

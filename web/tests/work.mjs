@@ -109,6 +109,7 @@ inBrowsers("a part of a value is explained by a click, who and why light up, a v
   assert.deepEqual(await page.value(numbers("#canvas .chosen")), [29]);
   await page.click('#store [data-variable="_2_3"]');
   await page.click('#menu [data-keep="_2_3"]');
+  await page.value('new Promise((done) => { const look = () => (document.querySelector("#menu .danger") ? done(true) : setTimeout(look, 20)); look(); })');
   const ringed = await page.value(numbers("#canvas .going")), told = await page.value('document.querySelector("#menu .danger").textContent');
   assert.equal(told, `Take back ${ringed.length}`);
   await page.click("#menu .danger");
