@@ -1,10 +1,10 @@
 -- What is told of the steps of a slice, and of those who hold a variable.
 use Rattle.std.specs.Prelude.{IfNone, IsSome}
-use Rattle.ghc_trace.proofs.Words.{◌≡◌, ◌≢◌, ◌⊎◌, ℕ, Result, Ok, Err, OnOk, List, [], ◌∷◌, ◌++◌, refl, sym, ap, ◌∙◌, subst, inl, inr, append_assoc, append-nil, false, None, Some, Option, GoalName, Goal, Record, World, NotesByGoal, is_stream, IsSettled, Stands, Status, StandsByNote}
+use Rattle.ghc_trace.proofs.Words.{◌≡◌, ◌≢◌, ℕ, List, [], ◌∷◌, ◌++◌, refl, ap, ◌∙◌, append_assoc, false, None, Some, Option, GoalName, Goal, Record, World, NotesByGoal, is_stream, IsSettled, Stands, Status, StandsByNote}
 use Rattle.std.specs.FinMap as finite
 use Rattle.ghc_depend.specs.Depend.{IsKeptAs}
 use Rattle.ghc_trace.specs.declared.holding.Holder.{Holder}
-use Rattle.ghc_trace.specs.Explaining.{AreHolderLines, AreStepLines, and_holder, and_step, holder_line, no_holder, no_step, step_line}
+use Rattle.ghc_trace.specs.Explaining.{AreHolderLines, AreStepLines, and_holder, and_step, holder_line, step_line}
 use Rattle.ghc_trace.specs.OtherClauses.{AreOtherClauses}
 use Rattle.ghc_trace.proofs.GoalTelling.{stands}
 use Rattle.ghc_trace.proofs.Lines.{there}

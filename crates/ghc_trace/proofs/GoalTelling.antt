@@ -24,7 +24,7 @@ not_nil : (xs ys : List ℕ) (y : ℕ) → xs ++ y ∷ ys ≢ []
 not_nil [] ys y e = cc
 not_nil (x ∷ xs) ys y e = cc
 
-no_element : {X : Type 0} (xs : List X) → length xs ≡ 0 → xs ≡ []
+pub no_element : {X : Type 0} (xs : List X) → length xs ≡ 0 → xs ≡ []
 no_element [] e = refl
 no_element (x ∷ xs) e = absurd (omega (arith, e))
 

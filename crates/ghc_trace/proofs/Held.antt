@@ -1,5 +1,5 @@
 -- Holders are found one after another.
-use Rattle.ghc_trace.proofs.Words.{◌≡◌, ℕ, ◌+◌, ◌⊎◌, ◌↔◌, Result, Ok, Err, IfOk, List, [], ◌∷◌, ◌++◌, refl, sym, ap, ◌∙◌, subst, inl, inr, arith, Option, Some, None, IsTrue, Bor, insert_key, Ordering, Less, Equal, Greater, ordering_then, nat_cmp, IsAntisymmetric, IsTotalOrder, nat_cmp-IsAntisymmetric, VarName, GoalName, Goal, Tree, In, in_left, in_right, in_either, in_last, in_more, has_member, is_member, one_inserted, holds_nothing, State, value_at, Goals, goal_cmp}
+use Rattle.ghc_trace.proofs.Words.{◌≡◌, ℕ, ◌+◌, ◌⊎◌, ◌↔◌, List, [], ◌∷◌, ◌++◌, refl, sym, ap, ◌∙◌, subst, inl, inr, arith, Option, None, IsTrue, Bor, insert_key, Ordering, Less, Equal, Greater, ordering_then, nat_cmp, IsAntisymmetric, nat_cmp-IsAntisymmetric, VarName, GoalName, Goal, Tree, In, in_left, in_last, in_more, has_member, is_member, one_inserted, holds_nothing, State, value_at, goal_cmp}
 use Rattle.std.specs.Ordering.{match_ordering}
 use Rattle.std.specs.FinMap as finite
 use Rattle.std.specs.FinSet as set
@@ -12,7 +12,7 @@ use Rattle.std.specs.List.Sorted.{IsStrictlySortedBy}
 use Rattle.ghc_trace.specs.GoalLines.{Named}
 use Rattle.ghc_trace.proofs.Lines.{listed, there}
 use Rattle.ghc_trace.specs.declared.holding.Holder.{Holder}
-use Rattle.ghc_trace.specs.Holding.{AreHolders, GoalReaches, goal_terms, HasGained, Holds, IsHeldBy, IsUnboundIn, holder_cmp}
+use Rattle.ghc_trace.specs.Holding.{AreHolders, AreHoldersAmong, GoalReaches, goal_terms, HasGained, IsHeldBy, IsUnboundIn, holder_cmp}
 
 -- the parts of an expression
 abbrev steps : Expression → ℕ
@@ -160,20 +160,27 @@ held_of_more S unbound reached done goal ks new is has put h = (
   ]),
 )
 
-pub holders_are : (t : State) (x : VarName) (unbound : Variables) (hs : List Holder) → IsSetOf unbound (IsUnboundIn (value_at t.store) x)
-    → HasGained [] hs (IsHeldOfThem (value_at t.store) unbound (finite.entries t.goals)) → IsStrictlySortedBy holder_cmp hs → AreHolders t x hs
-holders_are t x unbound hs is has sorted = (
+pub among_are : (t : State) (xs : Variables) (hs : List Holder) → HasGained [] hs (IsHeldOfThem (value_at t.store) xs (finite.entries t.goals)) → IsStrictlySortedBy holder_cmp hs → AreHoldersAmong t xs hs
+among_are t xs hs has sorted = (
   sorted,
   λ h. (
     λ i. elim ((has h).0 i) [
       | inl none ↦ absurd none
       | inr q ↦
           let goal = q.1.0 in
-          ((is h.variable).0 q.0, (goal.1, ap (finite.get t.goals) q.1.2 ∙ listed t.goals goal q.1.1, q.1.3))
+          (q.0, (goal.1, ap (finite.get t.goals) q.1.2 ∙ listed t.goals goal q.1.1, q.1.3))
     ],
-    λ c. (has h).1 (inr ((is h.variable).1 c.0, ((h.goal, c.1.0), there t.goals h.goal c.1.0 c.1.1, refl, c.1.2))),
+    λ c. (has h).1 (inr (c.0, ((h.goal, c.1.0), there t.goals h.goal c.1.0 c.1.1, refl, c.1.2))),
   ),
 )
+
+-- no variable is held
+pub none_among : (t : State) (xs : Variables) (ys : List VarName) → set.from_list ys ≡ xs → ys ≡ [] → AreHoldersAmong t xs []
+unfolding IsStrictlySortedBy
+none_among t xs ys all none = (tt, λ h. (λ i. absurd i, λ q. absurd (subst (In h.variable) none (is_member xs ys all h.variable q.0))))
+
+pub holders_are : (t : State) (x : VarName) (unbound : Variables) (hs : List Holder) → IsSetOf unbound (IsUnboundIn (value_at t.store) x) → AreHoldersAmong t unbound hs → AreHolders t x hs
+holders_are t x unbound hs is among = (among.0, λ h. (λ i. let q = (among.1 h).0 i in ((is h.variable).0 q.0, q.1), λ c. (among.1 h).1 ((is h.variable).1 c.0, c.1)))
 
 -- what is reached of a goal's terms
 pub reached_of : (S : VarName → Option Tree) (b : Goal) (ts : List Tree) (xs : Variables) → goal_terms b ≡ ts → IsSetOf xs (OneReaches S ts) → IsSetOf xs (GoalReaches S b)

@@ -12,6 +12,7 @@ pub mod CausePlaces
 pub mod Slicing
 pub mod Giving
 pub mod Held
+pub mod HeldFor
 pub mod Explained
 pub mod Resting
 pub mod OtherClauses

@@ -29,11 +29,11 @@ pub record Settled (P : Program) (G : Goals) (store : StoreValue) (notes : Notes
 
 module _ (P : Program) (G : Goals) (store : StoreValue) (notes : NotesByGoal) (settled : Settled P G store notes) where
   -- a note is the status
-  note_stands : (g : GoalName) (note : Note) → finite.get notes g ≡ Some note → StandsAs P G store g note.status
+  pub note_stands : (g : GoalName) (note : Note) → finite.get notes g ≡ Some note → StandsAs P G store g note.status
   note_stands g note e = let n = settled.exact.noted g note e in (n.0, n.1, n.3.0)
 
   -- a goal that is stuck has its status by its note
-  stuck_noted : (g : GoalName) (s : Status) → StandsAs P G store g s → IsStuck s → (note : Note) × (finite.get notes g ≡ Some note) × (note.status ≡ s)
+  pub stuck_noted : (g : GoalName) (s : Status) → StandsAs P G store g s → IsStuck s → (note : Note) × (finite.get notes g ≡ Some note) × (note.status ≡ s)
   stuck_noted g s st i = elim (found (finite.get notes g)) [
     | inl n ↦
         let k = settled.exact.noted g n.0 n.1 in
@@ -148,7 +148,7 @@ module _ (P : Program) (G H : Goals) (store after : StoreValue) (old mid new : N
         ),
   )
 
-settled_in : {w : World} {notes : NotesByGoal} → IsSettled w notes → Settled w.opening.program w.state.goals w.state.store notes
+pub settled_in : {w : World} {notes : NotesByGoal} → IsSettled w notes → Settled w.opening.program w.state.goals w.state.store notes
 settled_in s = record { exact = s.exact; acyclic = (reached_good s.standing).acyclic }
 
 pub ports_told : NotesTellPorts

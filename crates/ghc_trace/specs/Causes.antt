@@ -1,11 +1,15 @@
 -- The places of the steps on which a step depends directly, and the steps of a slice.
 use Rattle.std.specs.Prelude.{◌≡◌, ◌⊎◌, ◌↔◌, ◌<◌, ℕ, List}
 use Rattle.ghc_term.specs.declared.var_name.VarName.{VarName}
+use Rattle.ghc_term.specs.declared.goal_name.GoalName.{GoalName}
+use Rattle.ghc_term.specs.Goal.{Goal}
 use Rattle.ghc_term.specs.Lists.{In}
+use Rattle.ghc_flat.specs.Clause.{Program}
 use Rattle.ghc_records.specs.Orders.{Picks}
 use Rattle.ghc_records.specs.Record.{State, Record, numbers}
+use Rattle.ghc_records.specs.UseIndex.{StepBinds}
 use Rattle.ghc_records.specs.inner.Slots.{SlotList, StandsIn}
-use Rattle.ghc_depend.specs.Slices.{IsCauseOf, IsSliceOf}
+use Rattle.ghc_depend.specs.Slices.{IsCauseOf, IsGoalSliceOf, IsSliceOf}
 
 -- At the place p, in front of the other place, stands a step of which P holds.
 abbrev pub IsInFront : SlotList → ℕ → (Record → Type 0) → ℕ → Type 0
@@ -30,3 +34,11 @@ IsSliceTold kept roots told = (found : List Record) × Picks (IsCauseOf kept (Is
 -- Told are the steps of the slice of x, in recorded order, by their numbers.
 abbrev pub IsToldSliceOf : List Record → State → VarName → List ℕ → Type 0
 IsToldSliceOf kept t x told = (found rest : List Record) × IsSliceOf kept t x found rest × (numbers found ≡ told)
+
+-- These are the numbers of the kept steps that bound a variable of which Q holds.
+abbrev pub AreBindersOf : List Record → (VarName → Type 0) → List ℕ → Type 0
+AreBindersOf kept Q ns = (n : ℕ) → In n ns ↔ ((x : VarName) × Q x × StepBinds kept n x)
+
+-- Told are the steps of the slice of the goal b, named g, in recorded order, by their numbers.
+abbrev pub IsToldGoalSliceOf : Program → List Record → State → GoalName → Goal → List ℕ → Type 0
+IsToldGoalSliceOf P kept t g b told = (found rest : List Record) × IsGoalSliceOf P kept t g b found rest × (numbers found ≡ told)

@@ -34,6 +34,10 @@ pub record TellsGoal (Has : Named → Status → Type 0) (store : StoreValue) (g
 abbrev pub TellsGoals : (Named → Status → Type 0) → Goals → StoreValue → List ℕ → Type 0
 TellsGoals Has goals store text = (lines : List (List ℕ)) × AllZip (TellsGoal Has store) (finite.entries goals) lines × (text ≡ concat lines)
 
+-- The line tells the goal b, named g, with its status in the world.
+abbrev pub IsGoalLineOf : World → GoalName → Goal → List ℕ → Type 0
+IsGoalLineOf w g b line = TellsGoal (λ goal s. Stands w goal.0 s) w.state.store (g, b) line
+
 -- The text is a line for each goal of the world, by name, with its status there.
 abbrev pub AreGoalLines : World → List ℕ → Type 0
 AreGoalLines w text = TellsGoals (λ goal s. Stands w goal.0 s) w.state.goals w.state.store text

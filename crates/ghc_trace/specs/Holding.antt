@@ -1,5 +1,5 @@
--- Who holds the unbound variables of a term.
-use Rattle.std.specs.Prelude.{◌≡◌, ◌⊎◌, ◌↔◌, List, [], ◌∷◌, Option, Some, None, IsTrue}
+-- Who holds the unbound variables of a term, or those for which a goal waits.
+use Rattle.std.specs.Prelude.{◌≡◌, ◌≢◌, ◌⊎◌, ◌↔◌, List, [], ◌∷◌, Option, Some, None, IsTrue}
 use Rattle.std.specs.List.Sorted.{IsStrictlySortedBy}
 use Rattle.std.specs.declared.cmp.Ordering.{Ordering}
 use Rattle.std.specs.Ordering.{ordering_then}
@@ -14,8 +14,10 @@ use Rattle.ghc_term.specs.Lists.{In}
 use Rattle.ghc_term.specs.Sets.{Variables}
 use Rattle.ghc_term.specs.Store.{value_at}
 use Rattle.ghc_term.specs.Tree.{Tree, variable}
+use Rattle.ghc_hooks.specs.Face.{IsHookedOn}
 use Rattle.ghc_hooks.specs.Reached.{leaves, OneReaches}
 use Rattle.ghc_records.specs.Record.{State}
+use Rattle.ghc_core.specs.World.{World}
 use Rattle.ghc_trace.specs.declared.holding.Holder.{Holder}
 
 -- the terms of a goal
@@ -33,9 +35,17 @@ GoalReaches S b x = OneReaches S (goal_terms b) x
 abbrev pub IsUnboundIn : (VarName → Option Tree) → VarName → VarName → Type 0
 IsUnboundIn S x y = Reaches S (variable x) y × (S y ≡ None)
 
+-- The goal of the holder is there, and reaches its variable.
+abbrev pub IsReaching : State → Holder → Type 0
+IsReaching t h = (b : Goal) × (finite.get t.goals h.goal ≡ Some b) × GoalReaches (value_at t.store) b h.variable
+
 -- The variable is an unbound one of the term of x, and the goal is there and reaches it.
 abbrev pub Holds : State → VarName → Holder → Type 0
-Holds t x h = IsUnboundIn (value_at t.store) x h.variable × ((b : Goal) × (finite.get t.goals h.goal ≡ Some b) × GoalReaches (value_at t.store) b h.variable)
+Holds t x h = IsUnboundIn (value_at t.store) x h.variable × IsReaching t h
+
+-- The goal named g waits for the variable, and another goal is there and reaches it.
+abbrev pub HoldsFor : World → GoalName → Holder → Type 0
+HoldsFor w g h = IsHookedOn w.opening.program w.state.goals w.state.store h.variable g × (h.goal ≢ g) × IsReaching w.state h
 
 -- Holders by variable, then goal.
 abbrev pub holder_cmp : Holder → Holder → Ordering
@@ -44,6 +54,14 @@ holder_cmp h k = ordering_then (name_cmp h.variable k.variable) (goal_cmp h.goal
 -- Listed are all that hold an unbound variable of the term of x, by variable, then goal.
 abbrev pub AreHolders : State → VarName → List Holder → Type 0
 AreHolders t x hs = IsStrictlySortedBy holder_cmp hs × ((h : Holder) → In h hs ↔ Holds t x h)
+
+-- Listed are all other goals that reach a variable for which the goal named g waits, by variable, then goal.
+abbrev pub AreHoldersFor : World → GoalName → List Holder → Type 0
+AreHoldersFor w g hs = IsStrictlySortedBy holder_cmp hs × ((h : Holder) → In h hs ↔ HoldsFor w g h)
+
+-- Listed are all goals that reach one of these variables, by variable, then goal.
+abbrev pub AreHoldersAmong : State → Variables → List Holder → Type 0
+AreHoldersAmong t xs hs = IsStrictlySortedBy holder_cmp hs × ((h : Holder) → In h hs ↔ (IsTrue (set.contains xs h.variable) × IsReaching t h))
 
 -- The goal of this name is the holder, of a variable in both sets.
 abbrev pub IsHeldBy : Variables → Variables → GoalName → Holder → Type 0

@@ -1,5 +1,6 @@
-// The texts of the steps of a slice, and of those who hold a variable. Where one is refused, what was written may be a part of its text.
-ghost use Rattle.std.specs.Prelude.{◌≡◌, ◌≢◌, ◌++◌, ℕ, None, List, OnOk, drop, string_bytes};
+// The texts of the steps of a slice, of those who hold a variable, and of a goal. Where one is refused, what was written may be a
+// part of its text, but for that of a goal.
+ghost use Rattle.std.specs.Prelude.{◌≡◌, ◌≢◌, ◌⊎◌, ◌++◌, ℕ, None, Some, List, IfErr, OnErr, OnOk, drop, string_bytes};
 ghost use Rattle.std.specs.FinMap as finite;
 ghost use Rattle.ghc_term.specs.Lists.{In};
 ghost use Rattle.ghc_records.specs.Record.{Record as record_spec};
@@ -7,17 +8,17 @@ ghost use Rattle.ghc_depend.specs.Depend.{IsKeptAs};
 ghost use Rattle.ghc_hooks.specs.Status.{Status};
 ghost use Rattle.ghc_trace.specs.declared.holding.Holder.{Holder as holder_spec};
 ghost use Rattle.ghc_trace.specs.Explaining.{AreHolderLines, AreStepLines, holder_line, more_text, others_text, step_line};
-ghost use Rattle.ghc_trace.specs.GoalLines.{StandsByNote};
+ghost use Rattle.ghc_trace.specs.GoalLines.{IsGoalLineOf, IsTooLong};
 ghost use Rattle.ghc_trace.specs.Laws.{IsSettled};
 ghost use Rattle.ghc_trace.specs.News.{Stands};
 ghost use Rattle.ghc_trace.specs.OtherClauses.{AreOtherClauses};
 
-use crate::goal_lines::write_status;
+use crate::goal_lines::{write_line, write_status};
 use crate::holding::Holder;
 use crate::others::other_clauses;
 use ghc_core::Core;
 use ghc_records::{Record, push_goal_name, push_record};
-use ghc_term::{push_number, push_variable};
+use ghc_term::{Fault, Goal, GoalName, Limit, end_of, or_cut_back, push_number, push_variable};
 use std::alloc::{AllocError, Global};
 
 // Writes the clauses from this place on, each after a comma.
@@ -102,4 +103,32 @@ pub fn push_holders(core: &Core, holders: &[Holder], out: &mut String) -> Result
         write_holder(core, *holder, out)?;
     }
     Ok(())
+}
+
+/// Writes the line of the goal of this name, with its status and its text in the store, as `goals` has it, at the end of `out`, which
+/// stays as it was where that is refused: for want of memory, or by the limit `print`, just where memory is found but the text of
+/// the goal has more than `PRINT_LIMIT` bytes. Some look-ups, and the cost of `print_goal`.
+pub fn push_goal(
+    alloc: Global,
+    core: &Core,
+    name: GoalName,
+    goal: &Goal,
+    out: &mut String,
+) -> Result<(), Fault>
+    requires settled { IsSettled core.now.world core.now.notes }
+    requires there { finite.get core.now.world.state.goals name ≡ Some goal.now }
+    ensures text { OnOk result ((line : List ℕ) × IsGoalLineOf core.now.world name goal.now line × (string_bytes out.new ≡ string_bytes out.old ++ line)) }
+    ensures short { OnOk result (¬ IsTooLong core.now.world.state.store goal.now) }
+    ensures err { OnErr result (string_bytes out.new ≡ string_bytes out.old) }
+    ensures refused { IfErr result (λ fault. (fault ≡ Fault.Memory) ⊎ (fault ≡ Fault.Limit Limit.Print)) }
+    ensures too_long { result ≡ Err (Fault.Limit Limit.Print) → IsTooLong core.now.world.state.store goal.now }
+{
+    let length = end_of(out);
+    match write_line(alloc, name, goal, core.tries(), core.store(), out) {
+        Ok(()) => Ok(()),
+        Err(fault) => {
+            let _ = or_cut_back(out, length, Err(AllocError));
+            Err(fault)
+        }
+    }
 }

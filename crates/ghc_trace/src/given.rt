@@ -6,12 +6,13 @@ ghost use Rattle.ghc_term.specs.Sets.{IsSetOf};
 ghost use Rattle.ghc_term.specs.Store.{value_at};
 ghost use Rattle.ghc_records.specs.Record.{Record};
 ghost use Rattle.ghc_depend.specs.Slices.{Gave};
-ghost use Rattle.ghc_trace.specs.Causes.{IsToldSliceOf};
+ghost use Rattle.ghc_trace.specs.Causes.{AreBindersOf, IsToldSliceOf};
 
 use crate::slices::slice;
 use ghc_core::Core;
 use ghc_depend::place_of_maker;
 use ghc_hooks::reached_from;
+use ghc_records::Records;
 use ghc_term::{Store, Term, VarName, Variables};
 use std::alloc::{AllocError, Global};
 
@@ -24,6 +25,23 @@ pub(crate) fn reached_by(alloc: Global, store: &Store, term: &Term) -> Result<Va
     reached_from(alloc, store, terms)
 }
 
+// The numbers of the kept steps that bound one of these variables: a look-up for each.
+pub(crate) fn binders_of(
+    alloc: Global,
+    records: &Records,
+    xs: &[VarName],
+) -> Result<Vec<u32>, AllocError>
+    ensures { IfOk result (λ ns. AreBindersOf records.now.held (λ x. In x xs.now) ns.items) }
+{
+    let mut binders = Vec::new(alloc);
+    for x in xs {
+        if let Some(step) = records.binder_of(*x) {
+            binders.push(step)?;
+        }
+    }
+    Ok(binders)
+}
+
 // The numbers of the kept steps that gave the variable its term: those that bound a variable that it reaches, and the one that made
 // it. It goes once through the term, with a look-up for each variable.
 fn given_to(alloc: Global, core: &Core, x: VarName) -> Result<Vec<u32>, AllocError>
@@ -33,12 +51,7 @@ fn given_to(alloc: Global, core: &Core, x: VarName) -> Result<Vec<u32>, AllocErr
     let _count = records.len();
     let variable = Term::variable(x);
     let reached = reached_by(alloc, core.store(), &variable)?;
-    let mut givers = Vec::new(alloc);
-    for y in reached.members() {
-        if let Some(step) = records.binder_of(*y) {
-            givers.push(step)?;
-        }
-    }
+    let mut givers = binders_of(alloc, records, reached.members())?;
     if place_of_maker(records, x).is_some() {
         givers.push(x.step)?;
     }

@@ -39,7 +39,7 @@ pub(crate) fn write_status(
 }
 
 // Writes the line of a goal.
-fn write_line(
+pub(crate) fn write_line(
     alloc: Global,
     name: GoalName,
     goal: &Goal,

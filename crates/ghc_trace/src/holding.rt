@@ -1,13 +1,15 @@
-// Who holds the unbound variables of a term: the goals that reach them.
-ghost use Rattle.std.specs.Prelude.{◌≡◌, ◌++◌, map, IfOk, OnOk};
+// Who holds the unbound variables of a term, or those for which a goal waits: the goals that reach them.
+ghost use Rattle.std.specs.Prelude.{◌≡◌, ◌≢◌, ◌++◌, map, IfOk, OnOk};
 ghost use Rattle.ghc_term.specs.Sets.{IsSetOf};
 ghost use Rattle.ghc_term.specs.Store.{value_at};
 ghost use Rattle.ghc_hooks.specs.Reached.{leaves};
-ghost use Rattle.ghc_trace.specs.Holding.{AreHolders, GoalReaches, HasGained, IsHeldBy, IsUnboundIn};
+ghost use Rattle.ghc_records.specs.Orders.{Picks};
+ghost use Rattle.ghc_trace.specs.Holding.{AreHolders, AreHoldersAmong, AreHoldersFor, GoalReaches, HasGained, IsHeldBy, IsUnboundIn};
+ghost use Rattle.ghc_trace.specs.Laws.{IsSettled};
 
 use crate::given::reached_by;
 use ghc_core::Core;
-use ghc_hooks::reached_from;
+use ghc_hooks::{Verdict, reached_from};
 use ghc_term::{Expr, ExprView, Goal, GoalName, GoalView, Store, Term, VarName, Variables};
 use std::alloc::{AllocError, Global};
 use std::collections::BTreeSet;
@@ -114,19 +116,66 @@ fn listed(alloc: Global, holders: &BTreeSet<Holder>) -> Result<Vec<Holder>, Allo
     Ok(list)
 }
 
+// The goals that reach one of these variables, where there is one: it goes once through what each goal reaches, and puts what is found
+// in order.
+fn holders_among(
+    alloc: Global,
+    core: &Core,
+    variables: &Variables,
+) -> Result<Vec<Holder>, AllocError>
+    ensures { IfOk result (λ list. AreHoldersAmong core.now.world.state variables.now list.items) }
+{
+    if variables.members().is_empty() {
+        return Ok(Vec::new(alloc));
+    }
+    let mut held = BTreeSet::new(alloc);
+    let goals = core.goals().by_name(alloc)?;
+    for (name, goal) in &goals {
+        let reached = reached_by_goal(alloc, core.store(), *goal)?;
+        add_holder(&mut held, variables, &reached, *name)?;
+    }
+    let _count = held.len();
+    listed(alloc, &held)
+}
+
 /// The unbound variables of the variable's term, each with the goals that reach it: by variable, then goal, each by step, then place.
 /// Where there is no such variable it costs the size of the term; else it goes once through what each goal reaches, and puts what is
 /// found in order. It fails only where memory is refused.
 pub fn holders(alloc: Global, core: &Core, x: VarName) -> Result<Vec<Holder>, AllocError>
     ensures { IfOk result (λ list. AreHolders core.now.world.state x list.items) }
 {
-    let mut held = BTreeSet::new(alloc);
     let unbound = unbound_in(alloc, core.store(), x)?;
-    let goals = core.goals().by_name(alloc)?;
-    for (name, goal) in &goals {
-        let reached = reached_by_goal(alloc, core.store(), *goal)?;
-        add_holder(&mut held, &unbound, &reached, *name)?;
+    holders_among(alloc, core, &unbound)
+}
+
+// Those of the holders that are other goals.
+fn of_others(alloc: Global, holders: &[Holder], goal: GoalName) -> Result<Vec<Holder>, AllocError>
+    ensures { IfOk result (λ list. Picks (λ h. h.goal ≢ goal) holders.now list.items) }
+{
+    let mut others = Vec::new(alloc);
+    for holder in holders {
+        if holder.goal != goal {
+            others.push(*holder)?;
+        }
     }
-    let _count = held.len();
-    listed(alloc, &held)
+    Ok(others)
+}
+
+/// The variables for which the goal of this name waits, each with the other goals that reach it: by variable, then goal. Where the
+/// goal does not wait it costs a look-up; else what `holders` costs. It fails for want of memory alone.
+pub fn holders_for(alloc: Global, core: &Core, goal: GoalName) -> Result<Vec<Holder>, AllocError>
+    requires { IsSettled core.now.world core.now.notes }
+    ensures { IfOk result (λ list. AreHoldersFor core.now.world goal list.items) }
+{
+    let Some(note) = core.tries().get(goal) else {
+        return Ok(Vec::new(alloc));
+    };
+    match note.verdict() {
+        Verdict::Waiting(awaited) => {
+            let all = holders_among(alloc, core, awaited)?;
+            of_others(alloc, all.as_slice(), goal)
+        }
+        Verdict::Ready => Ok(Vec::new(alloc)),
+        Verdict::Failed(_) => Ok(Vec::new(alloc)),
+    }
 }

@@ -1,4 +1,4 @@
-use Rattle.ghc_trace.proofs.Words.{◌≡◌, ◌+◌, ◌++◌, [], ◌∷◌, ℕ, List, get_or, take, sym, subst, arith, append-nil, take_more, take_all, string_bytes}
+use Rattle.ghc_trace.proofs.Words.{◌≡◌, ◌++◌, [], ℕ, List, get_or, take, sym, subst, append-nil, take_more, string_bytes}
 use Rattle.ghc_term.proofs.ListsLemmas.{in_get}
 use Rattle.ghc_trace.specs.declared.holding.Holder.{Holder}
 use Rattle.ghc_trace.specs.Explaining.{AreHolderLines, no_holder}

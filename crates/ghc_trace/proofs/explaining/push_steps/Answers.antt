@@ -1,5 +1,5 @@
 use Rattle.std.specs.Prelude.{IfSome}
-use Rattle.ghc_trace.proofs.Words.{Bor, Option, ◌≡◌, ◌+◌, ◌++◌, [], ◌∷◌, ℕ, List, Record, In, get_or, take, sym, subst, arith, append-nil, take_more, take_all, string_bytes, option_copied}
+use Rattle.ghc_trace.proofs.Words.{Bor, Option, ◌≡◌, ◌++◌, [], ℕ, List, Record, In, get_or, take, sym, subst, append-nil, take_more, string_bytes}
 use Rattle.ghc_term.proofs.ListsLemmas.{in_get}
 use Rattle.ghc_depend.specs.Depend.{IsKeptAs}
 use Rattle.ghc_trace.specs.Explaining.{AreStepLines, no_step}

@@ -1,4 +1,4 @@
-use Rattle.ghc_trace.proofs.Words.{◌≡◌, ◌++◌, Some, Goal, Goals, NotesByGoal, sym, ap, ◌∙◌, subst, string_bytes, option_copied, Status, Stands, StandsByNote}
+use Rattle.ghc_trace.proofs.Words.{◌≡◌, ◌++◌, Some, Goals, NotesByGoal, sym, ap, ◌∙◌, subst, string_bytes, option_copied, StandsByNote}
 use Rattle.std.specs.Prelude.{codes}
 use Rattle.ghc_term.specs.Text.{variable_text}
 use Rattle.ghc_records.specs.StepText.{goal_name_text}

@@ -1,4 +1,4 @@
-use Rattle.ghc_trace.proofs.Words.{◌≡◌, ◌++◌, ◌≤◌, ◌-◌, length, drop, string_bytes}
+use Rattle.ghc_trace.proofs.Words.{◌≡◌, ◌++◌, ◌-◌, length, drop, string_bytes}
 use Rattle.ghc_trace.specs.Explaining.{more_text}
 use Rattle.ghc_trace.proofs.explaining.write_more.Given as goal
 

@@ -1,41 +1,14 @@
-use Rattle.ghc_trace.proofs.Words.{◌≡◌, [], ◌∷◌, ◌++◌, List, map, sym, ap, ◌∙◌, subst, append_assoc, append-nil, StoreValue, Goals, value_at}
-use Rattle.std.specs.FinMap as finite
+use Rattle.ghc_trace.proofs.Words.{subst, StoreValue, value_at}
 use Rattle.ghc_term.specs.Sets.{IsSetOf}
-use Rattle.ghc_trace.specs.GoalLines.{Named}
-use Rattle.ghc_trace.specs.inner.GoalLinesCode.{lent}
-use Rattle.ghc_trace.specs.Holding.{AreHolders, GoalReaches, HasGained, IsUnboundIn}
+use Rattle.ghc_trace.specs.Holding.{IsUnboundIn}
 use Rattle.ghc_trace.proofs.Giving.{if_ok}
-use Rattle.ghc_trace.proofs.Held.{IsHeldOfThem, held_of_more, held_of_none, holders_are}
+use Rattle.ghc_trace.proofs.Held.{holders_are}
 use Rattle.ghc_trace.proofs.holding.holders.Goals as goal
-
-pub loop-name-init : goal.loop-name-init
-loop-name-init c =
-    let t = c.args.core.now.world.state in
-    let entries : finite.entries t.goals ≡ lent c.into_iter-name-iterator.result =
-    ap (λ (goals : Goals). finite.entries goals) (sym c.goals.ensures) ∙ sym c.in_ok-goals.ensures ∙ ap lent (sym c.into_iter-name-iterator.ensures.into_iter_gives.0) in
-    ([], entries, subst (λ ks. HasGained [] ks (IsHeldOfThem (value_at t.store) c.in_ok-unbound.unbound [])) (sym c.new-held.ensures.empty) (held_of_none (value_at t.store) c.in_ok-unbound.unbound))
-
-pub loop-name-preserved : goal.loop-name-preserved
-loop-name-preserved c =
-    let t = c.args.core.now.world.state in
-    let goal : Named = (c.in-Some.name.now, c.in-Some.goal.now.now) in
-    let done = c.loop-name.invariant.0 in
-    let reached = c.in_ok-reached.reached in
-    let is : IsSetOf reached (GoalReaches (value_at t.store) goal.1) =
-    subst (λ (s : StoreValue). IsSetOf reached (GoalReaches (value_at s) goal.1)) c.store-in-loop-name.ensures c.in_ok-reached.ensures in (
-      done ++ goal ∷ [],
-      c.loop-name.invariant.1 ∙ ap (λ es. done ++ lent es) c.in-Some.ensures.steps ∙ sym (append_assoc done (goal ∷ []) (lent c.next.new.self)),
-      held_of_more (value_at t.store) c.in_ok-unbound.unbound reached done goal c.loop-name.held.keys c.add_holder.new.holders.keys is c.loop-name.invariant.2 c.in_ok-add_holder.ensures,
-    )
 
 pub returns : goal.returns
 returns c =
     let t = c.args.core.now.world.state in
     let x = c.args.x in
     let unbound = c.in_ok-unbound.unbound in
-    let ks = c.loop-name.held.keys in
-    let done = c.loop-name.invariant.0 in
-    let all : done ≡ finite.entries t.goals = sym (c.loop-name.invariant.1 ∙ ap (λ es. done ++ lent es) c.in-None.ensures.steps.0 ∙ append-nil done) in
     let free : IsSetOf unbound (IsUnboundIn (value_at t.store) x) = subst (λ (s : StoreValue). IsSetOf unbound (IsUnboundIn (value_at s) x)) c.store.ensures c.in_ok-unbound.ensures in
-    if_ok c.listed.result c.listed.ensures (λ list is. subst (λ hs. AreHolders t x hs) (sym is)
-    (holders_are t x unbound ks free (subst (λ goals. HasGained [] ks (IsHeldOfThem (value_at t.store) unbound goals)) all c.loop-name.invariant.2) c.len-count.ensures.ordered))
+    if_ok c.holders_among.result c.holders_among.ensures (λ list among. holders_are t x unbound list.items free among)

@@ -1,4 +1,4 @@
-use Rattle.ghc_trace.proofs.Words.{◌≡◌, List, map, Bor, Tree, value_at}
+use Rattle.ghc_trace.proofs.Words.{◌≡◌, map, value_at}
 use Rattle.std.proofs.Common.{rules}
 use Rattle.ghc_trace.specs.Holding.{goal_terms}
 use Rattle.ghc_trace.proofs.Giving.{if_ok}

@@ -1,5 +1,4 @@
-use Rattle.ghc_trace.proofs.Words.{◌≡◌, ◌+◌, [], ◌∷◌, ◌++◌, get_or, take, true, false, None, sym, ◌∙◌, subst, arith, take_more, take_all, VarName, Tree, value_at}
-use Rattle.std.proofs.Common.{rules}
+use Rattle.ghc_trace.proofs.Words.{◌≡◌, ◌+◌, [], ◌∷◌, ◌++◌, get_or, take, None, sym, subst, arith, take_more, take_all, VarName, Tree, value_at}
 use Rattle.ghc_term.specs.Bindings.{Reaches}
 use Rattle.ghc_term.specs.Sets.{IsSetOf}
 use Rattle.ghc_trace.proofs.Held.{AreUnboundOf, all_unbound, bound_one, none_unbound, unbound_one}
