@@ -30,7 +30,7 @@ note_send : (C : RattleType) → IsSend (tuple.Tuple (u64 ∷ Snap.the_row C ∷
 note_send C = search (sendable, crosses) depth 60 fits 20000
 
 pub pass_send : (C N E A R : RattleType) (g : growing.Ghosts C.Denot E.Denot A.Denot R.Denot) (n : naming.Ghosts N.Denot) (l : ledger.Ghosts N.Denot) → IsSend (pass.the_row C N E A R g n l)
-pass_send C N E A R g n l = view_send _ _ _ _ _ (declared_send (inside.the_type C N E A R g n l) (seat.the_send (tuple.Tuple (u64 ∷ Snap.the_row C ∷ [])) (knowledge.the_row E) (note_send C), (share.the_send N l, (search sendable, (search (crosses, sendable) depth 60 fits 20000, tt)))))
+pass_send C N E A R g n l = view_send _ _ _ _ _ (declared_send (inside.the_type C N E A R g n l) (seat.the_send (tuple.Tuple (u64 ∷ Snap.the_row C ∷ [])) (knowledge.the_row E) (note_send C), (share.the_send N l, (search sendable, (search (crosses, sendable) depth 60 fits 20000, (search sendable, tt))))))
 
 held_send : (C N E A R : RattleType) (l : ledger.Ghosts N.Denot) → IsSend (held.the_row C N E A R l)
 held_send C N E A R l = declared_send (held.the_type C N E A R l) (seat.the_send (tuple.Tuple (u64 ∷ Snap.the_row C ∷ [])) (knowledge.the_row E) (note_send C), (book.the_send N l, tt))

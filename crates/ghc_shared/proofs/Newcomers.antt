@@ -33,7 +33,7 @@ module _ {E : Type 0} where
 
   pub all_newcomers : (es : List E) (passes : ℕ) → AreAll passes 0 (newcomers es passes)
   all_newcomers es zero = refl
-  all_newcomers es (suc n) = all_more n 0 (newcomers es n) record { number = n; front = es; places = [] } (all_newcomers es n) refl
+  all_newcomers es (suc n) = all_more n 0 (newcomers es n) record { number = n; front = es; places = []; submits = 0 } (all_newcomers es n) refl
 
   -- the same numbers in the same order
   pub all_given : (passes k : ℕ) (ps qs : List (Known E)) → length qs ≡ length ps → ((i : ℕ) (d : Known E) → i < length ps → (get_or qs i d).number ≡ (get_or ps i d).number) → AreAll passes k ps → AreAll passes k qs

@@ -1,21 +1,28 @@
 -- What contracts see of a pass, and what is kept of passes and of the keeper's seat.
-use Rattle.std.specs.Prelude.{◌≡◌, ℕ, zero, suc, ◌++◌, ◌+◌, ◌<◌, ◌≤◌, List, [], ◌∷◌, length, drop}
+use Rattle.std.specs.Prelude.{◌≡◌, ℕ, zero, suc, ◌++◌, ◌+◌, ◌<◌, ◌≤◌, Bool, true, false, List, [], ◌∷◌, length, drop}
 use Rattle.atomic_table.specs.Table.{Me}
+use Rattle.ghc_fire.specs.Meter.{one_more}
 use Rattle.ghc_shared.specs.declared.knowledge.Knowledge.{Knowledge}
 use Rattle.ghc_shared.specs.inner.Logs.{items_of, AllBy, ArePlacesBy}
 use Rattle.ghc_shared.specs.Rule.{keeper, front}
 
--- a pass: its number, the front of the history that it has seen, and the places of its accepted calls
+-- a pass: its number, the front of the history that it has seen, the places of its accepted calls, and how many submits it has made, accepted or not
 pub record Known (E : Type 0) : Type 0 where
   pub number : ℕ
   pub front : List E
   pub places : List ℕ
+  pub submits : ℕ
+
+-- the count of submits after a call, which is a submit or not: one more, up to the greatest count, or the same
+abbrev pub submits_after : Bool → ℕ → ℕ
+submits_after true n = one_more n
+submits_after false n = n
 
 module _ {E : Type 0} where
   -- the passes at the opening
   abbrev pub newcomers : List E → ℕ → List (Known E)
   newcomers history zero = []
-  newcomers history (suc n) = newcomers history n ++ record { number = n; front = history; places = [] } ∷ []
+  newcomers history (suc n) = newcomers history n ++ record { number = n; front = history; places = []; submits = 0 } ∷ []
 
   -- AreAll passes k ps: these are the passes from number k on, of so many passes, each once and in order.
   abbrev pub AreAll : ℕ → ℕ → List (Known E) → Type 0

@@ -87,6 +87,7 @@ fn take_back<C: Growing, N: Naming>(
         share,
         number,
         places: _,
+        submits: _,
     } = pass;
     drop(catch_up(table, seat, claim, value, number, count, count));
     rest.merge(share);

@@ -1,15 +1,16 @@
 // The calls of a shared core.
 ghost use Rattle.std.specs.Prelude.{◌≡◌, List, IfOk};
 ghost use mathlib.Core.List.{IsPrefix};
-ghost use Rattle.ghc_fire.specs.Meter.{fired};
+ghost use Rattle.ghc_fire.specs.Meter.{fired, one_more};
 ghost use Rattle.ghc_records.specs.Journal.{Item};
 ghost use Rattle.ghc_core.specs.World.{World, no_hands};
 ghost use Rattle.ghc_core.specs.Events.{commit as committed, note as noted, command as commanded};
 ghost use Rattle.ghc_core.specs.Legal.{IsLegal, IsAnswered, Shows};
 ghost use Rattle.ghc_core.specs.CommandCode.{command_of};
 ghost use Rattle.ghc_shared.specs.declared.calls.Call.TheVariants.{Submit as submitted, Note as asked_note, Command as asked};
+ghost use Rattle.ghc_shared.specs.Passes.{submits_after};
 ghost use Rattle.ghc_shared.specs.Receipts.{IsDecided};
-ghost use Rattle.ghc_shared.specs.inner.Calls.{holding, hands_of, event_of, receipt_of, IsAnswerTo, IsToldOnFront, IsProposal};
+ghost use Rattle.ghc_shared.specs.inner.Calls.{holding, hands_of, event_of, receipt_of, IsAnswerTo, IsToldOnFront, IsProposal, is_submit};
 
 use crate::calls::Call;
 use crate::naming::Naming;
@@ -61,6 +62,7 @@ impl<N: Naming> Shared<Core, N> {
         ensures begins { IsPrefix me.old.front me.new.front }
         ensures number { me.new.number ≡ me.old.number }
         ensures legal { IsLegal me.new.front }
+        ensures submits { me.new.submits ≡ submits_after (is_submit call) me.old.submits }
         ensures decided { (before : List Item) × IsDecided IsAnswerTo before call result me.old me.new }
         ensures answered { IsAnswered (Unit {0}) me.old.front me.new.front (hands_of call) (event_of call) (receipt_of result) }
         ensures anyway { IsToldOnFront me.new.front call result }
@@ -83,6 +85,7 @@ impl<N: Naming> Shared<Core, N> {
         ensures begins { IsPrefix me.old.front me.new.front }
         ensures number { me.new.number ≡ me.old.number }
         ensures legal { IsLegal me.new.front }
+        ensures submits { me.new.submits ≡ one_more me.old.submits }
         ensures decided { (before : List Item) × IsDecided IsAnswerTo before (submitted proposal) result me.old me.new }
         ensures anyway { IsToldOnFront me.new.front (submitted proposal) result }
         ensures answered { IsAnswered (Unit {0}) me.old.front me.new.front (holding proposal) (committed 1) (receipt_of result) }
@@ -102,6 +105,7 @@ impl<N: Naming> Shared<Core, N> {
         ensures begins { IsPrefix me.old.front me.new.front }
         ensures number { me.new.number ≡ me.old.number }
         ensures legal { IsLegal me.new.front }
+        ensures submits { me.new.submits ≡ me.old.submits }
         ensures decided { (before : List Item) × IsDecided IsAnswerTo before (asked_note goal) result me.old me.new }
         ensures anyway { IsToldOnFront me.new.front (asked_note goal) result }
         ensures answered { IsAnswered (Unit {0}) me.old.front me.new.front no_hands (noted goal) (receipt_of result) }
@@ -121,6 +125,7 @@ impl<N: Naming> Shared<Core, N> {
         ensures begins { IsPrefix me.old.front me.new.front }
         ensures number { me.new.number ≡ me.old.number }
         ensures legal { IsLegal me.new.front }
+        ensures submits { me.new.submits ≡ me.old.submits }
         ensures decided { (before : List Item) × IsDecided IsAnswerTo before (asked command) result me.old me.new }
         ensures anyway { IsToldOnFront me.new.front (asked command) result }
         ensures answered { IsAnswered (Unit {0}) me.old.front me.new.front no_hands (commanded (command_of command)) (receipt_of result) }
@@ -139,7 +144,7 @@ impl<N: Naming> Shared<Core, N> {
     ) -> Result<Shown, AllocError>
         ensures begins { IsPrefix me.old.front me.new.front }
         ensures legal { IsLegal me.new.front }
-        ensures same { (me.new.number ≡ me.old.number) × (me.new.places ≡ me.old.places) }
+        ensures same { (me.new.number ≡ me.old.number) × (me.new.places ≡ me.old.places) × (me.new.submits ≡ me.old.submits) }
         ensures shows { IfOk result (λ shown. Shows me.new.front shown.length shown.kept.items) }
     {
         let mut held = self.lock.write(rt);

@@ -1,6 +1,6 @@
 // Values that can be shared.
 ghost use base.Stored.{Gv};
-ghost use Rattle.std.specs.Prelude.{◌≡◌, List, Option, None, length};
+ghost use Rattle.std.specs.Prelude.{◌≡◌, Bool, List, Option, None, length};
 ghost use Rattle.ghc_shared.specs.Receipts.{AddsIfAccepted};
 
 use std::alloc::Global;
@@ -28,6 +28,9 @@ pub trait Growing {
     /// What may be replied to a call after these items: with the item that it adds, where it is accepted, and else with none.
     ghost answers: { List Self.Item → Self.Ask → Self.Reply → Option Self.Item → Type 0 };
 
+    /// Whether a call is a submit, which its pass counts.
+    ghost submits: { Self.Ask → Bool };
+
     /// What a call with this reply may do to the value beside its history.
     ghost does: { Self → Self.Ask → Self.Reply → Self → Type 0 };
 
@@ -42,6 +45,10 @@ pub trait Growing {
     fn len(&self) -> u64
         ensures length { result ≡ length (history self.now) }
         ensures legal { legal (history self.now) };
+
+    /// Whether the call is a submit: a comparison.
+    fn is_submit(&self, ask: &Self::Ask) -> bool
+        ensures { result ≡ submits ask.now };
 
     /// Makes a call, and says beside the reply whether it was accepted. Where memory is refused, so is the call.
     fn call(&mut self, alloc: Global, ask: Self::Ask) -> (Self::Reply, bool)

@@ -1,6 +1,7 @@
 // What lies behind the lock: the value, with the keeper's seat and the book.
 ghost use Rattle.std.specs.Prelude.{◌≡◌, ◌⊎◌, IsTrue, length};
 ghost use mathlib.Core.List.{IsPrefix};
+ghost use Rattle.ghc_shared.specs.Passes.{submits_after};
 ghost use Rattle.ghc_shared.specs.Receipts.{AddsIfAccepted, IsDecided};
 
 use crate::exclusive::Exclusive;
@@ -8,7 +9,7 @@ use crate::growing::Growing;
 use crate::keeper::catch_up;
 use crate::knowledge::{Copied, HistorySeat, HistoryTable};
 use crate::naming::Naming;
-use crate::pass::Pass;
+use crate::pass::{Pass, counted};
 use crate::receipt::Receipt;
 use std::alloc::Global;
 use std::marker::Model;
@@ -48,7 +49,7 @@ impl<C: Growing, N: Naming> Locked<C, N> {
         ensures begins { IsPrefix me.old.front me.new.front }
         ensures front { me.new.front ≡ C.history self.old }
         ensures legal { C.legal me.new.front }
-        ensures same { (me.new.number ≡ me.old.number) × (me.new.places ≡ me.old.places) }
+        ensures same { (me.new.number ≡ me.old.number) × (me.new.places ≡ me.old.places) × (me.new.submits ≡ me.old.submits) }
     {
         let count = self.value.len();
         let Some(mut kept) = self.held.replace(None) else {
@@ -80,9 +81,11 @@ impl<C: Growing, N: Naming> Locked<C, N> {
         ensures number { me.new.number ≡ me.old.number }
         ensures legal { C.legal me.new.front }
         ensures front { me.new.front ≡ C.history self.new }
+        ensures submits { me.new.submits ≡ submits_after (C.submits ask) me.old.submits }
         ensures decided { IsDecided C.answers (C.history self.old) ask result me.old me.new }
     {
         let room = me.places.reserve(1).is_ok();
+        me.submits = counted(me.submits, self.value.is_submit(&ask));
         let (receipt, count) = call_with(&mut self.value, alloc, ask, room);
         let (place, accepted) = (receipt.place, receipt.accepted);
         let Some(mut kept) = self.held.replace(None) else {
@@ -118,8 +121,8 @@ impl<C: Growing, N: Naming> Locked<C, N> {
         requires { (table.now.shared.table_id ≡ N.table) × (N.table.words ≡ 1) }
         ensures one { IsPrefix me.old.front you.old.front ⊎ IsPrefix you.old.front me.old.front }
         ensures same { me.new.front ≡ you.new.front }
-        ensures mine { IsPrefix me.old.front me.new.front × (me.new.number ≡ me.old.number) × (me.new.places ≡ me.old.places) }
-        ensures yours { IsPrefix you.old.front you.new.front × (you.new.number ≡ you.old.number) × (you.new.places ≡ you.old.places) }
+        ensures mine { IsPrefix me.old.front me.new.front × (me.new.number ≡ me.old.number) × (me.new.places ≡ me.old.places) × (me.new.submits ≡ me.old.submits) }
+        ensures yours { IsPrefix you.old.front you.new.front × (you.new.number ≡ you.old.number) × (you.new.places ≡ you.old.places) × (you.new.submits ≡ you.old.submits) }
         ensures legal { C.legal me.new.front }
     {
         self.look(table, me);

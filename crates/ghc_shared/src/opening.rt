@@ -114,7 +114,7 @@ fn newcomer<C: Growing, N: Naming>(
     requires table { (table.now.shared.table_id ≡ N.table) × (N.table.words ≡ 1) × (seat.old.table_id ≡ N.table) × (seat.old.me ≡ (keeper (opening_log (C.history value.now)), [])) }
     requires counts { (number < N.passes) × (N.base ≡ length (C.history value.now)) }
     requires rest { (1 < rest.old.parts) × (rest.old.amount ≡ 0) }
-    ensures pass { (result.number ≡ number) × (result.front ≡ C.history value.now) × (result.places ≡ []) }
+    ensures pass { (result.number ≡ number) × (result.front ≡ C.history value.now) × (result.places ≡ []) × (result.submits ≡ 0) }
     ensures seat { (seat.new.table_id ≡ seat.old.table_id) × (seat.new.me ≡ seat.old.me) }
     ensures rest { (rest.new.parts + 1 ≡ rest.old.parts) × (rest.new.amount ≡ 0) }
 {
@@ -124,5 +124,6 @@ fn newcomer<C: Growing, N: Naming>(
         share: rest.split_off(1, 0),
         number: number as u64,
         places: Vec::new(alloc),
+        submits: 0,
     }
 }

@@ -1,6 +1,7 @@
 // The value behind its lock, as threads share it.
 ghost use Rattle.std.specs.Prelude.{◌≡◌, ◌⊎◌, List};
 ghost use mathlib.Core.List.{IsPrefix};
+ghost use Rattle.ghc_shared.specs.Passes.{submits_after};
 ghost use Rattle.ghc_shared.specs.Receipts.{IsDecided};
 
 use crate::exclusive::Exclusive;
@@ -29,7 +30,7 @@ pub struct Shared<C: Growing, N: Naming> {
 
 impl<C: Growing, N: Naming> Shared<C, N> {
     /// Makes a call of the value, and gives its receipt: accepted, the call is the last item of the pass's front, at the receipt's
-    /// place; refused, it was decided on just the pass's front. Where memory is refused for the place that the pass is to keep, the
+    /// place; refused, it was decided on just the pass's front. A submit is counted, accepted or not. Where memory is refused for the place that the pass is to keep, the
     /// value refuses the call. It costs the value's call, two looks at its length, and a few steps on one word.
     pub fn call<R: Wait>(
         &self,
@@ -41,6 +42,7 @@ impl<C: Growing, N: Naming> Shared<C, N> {
         ensures begins { IsPrefix me.old.front me.new.front }
         ensures number { me.new.number ≡ me.old.number }
         ensures legal { C.legal me.new.front }
+        ensures submits { me.new.submits ≡ submits_after (C.submits ask) me.old.submits }
         ensures decided { (before : List C.Item) × IsDecided C.answers before ask result me.old me.new }
     {
         self.lock.write(rt).call(&self.table, alloc, me, ask)
@@ -51,8 +53,8 @@ impl<C: Growing, N: Naming> Shared<C, N> {
     pub fn meet<R: Wait>(&self, rt: &R, me: &mut Pass<C, N>, you: &mut Pass<C, N>)
         ensures one { IsPrefix me.old.front you.old.front ⊎ IsPrefix you.old.front me.old.front }
         ensures same { me.new.front ≡ you.new.front }
-        ensures mine { IsPrefix me.old.front me.new.front × (me.new.number ≡ me.old.number) × (me.new.places ≡ me.old.places) }
-        ensures yours { IsPrefix you.old.front you.new.front × (you.new.number ≡ you.old.number) × (you.new.places ≡ you.old.places) }
+        ensures mine { IsPrefix me.old.front me.new.front × (me.new.number ≡ me.old.number) × (me.new.places ≡ me.old.places) × (me.new.submits ≡ me.old.submits) }
+        ensures yours { IsPrefix you.old.front you.new.front × (you.new.number ≡ you.old.number) × (you.new.places ≡ you.old.places) × (you.new.submits ≡ you.old.submits) }
         ensures legal { C.legal me.new.front }
     {
         self.lock.write(rt).meet(&self.table, me, you)

@@ -5,7 +5,7 @@ ghost use Rattle.ghc_core.specs.Answers.{Answers};
 ghost use Rattle.ghc_core.specs.EventCode.{reply_of};
 ghost use Rattle.ghc_core.specs.Legal.{IsLegal};
 ghost use Rattle.ghc_core.specs.World.{Hands};
-ghost use Rattle.ghc_shared.specs.inner.Calls.{hands_of, event_of, CallDoes, IsToldAnyway, IsAnswerTo, code_of};
+ghost use Rattle.ghc_shared.specs.inner.Calls.{hands_of, event_of, CallDoes, IsToldAnyway, IsAnswerTo, code_of, is_submit};
 
 use crate::calls::{Call, HistoryItem};
 use crate::growing::Growing;
@@ -64,6 +64,8 @@ impl Growing for Core {
 
     ghost answers = { IsAnswerTo };
 
+    ghost submits = { is_submit };
+
     ghost does = { CallDoes };
 
     fn refuse(&mut self, alloc: Global, ask: &Call) -> Reply {
@@ -74,6 +76,10 @@ impl Growing for Core {
     fn len(&self) -> u64 {
         self.stands();
         self.journal().len() as u64 + 1
+    }
+
+    fn is_submit(&self, ask: &Call) -> bool {
+        matches!(ask, Call::Submit(_))
     }
 
     fn call(&mut self, alloc: Global, ask: Call) -> (Reply, bool) {

@@ -1,6 +1,6 @@
 -- Calls of a shared core, and their answers.
 use base.Stored.{Gv}
-use Rattle.std.specs.Prelude.{◌≡◌, ◌⊎◌, ℕ, ◌-◌, false, List, Option, Some, None, Result, Err}
+use Rattle.std.specs.Prelude.{◌≡◌, ◌⊎◌, ℕ, ◌-◌, Bool, true, false, List, Option, Some, None, Result, Err}
 use Rattle.std.specs.FinMap as finite
 use Rattle.ghc_term.specs.declared.goal_name.GoalName.{GoalName}
 use Rattle.ghc_term.specs.declared.fault.Fault.{Fault}
@@ -39,6 +39,12 @@ abbrev pub event_of : Call → events.Event
 event_of (Submit p) = events.commit 1
 event_of (Note g) = events.note g
 event_of (Command c) = events.command (command_of c)
+
+-- whether the call is a submit
+abbrev pub is_submit : Call → Bool
+is_submit (Submit p) = true
+is_submit (Note g) = false
+is_submit (Command c) = false
 
 -- the receipt of a call after these items
 abbrev pub receipt_behind : List Item → Reply → Receipt

@@ -18,4 +18,4 @@ invariant_of-result g c =
 pub returns-clause-pass : goal.returns-clause-pass
 returns-clause-pass g c =
     let told = c.split_seat.ensures.4 ∙ ap (λ m. (front m.0.seen, [])) c.requires.table.3 in
-    (refl, told_opening _ c.split_seat.result.me _ told, c.new.ensures.items)
+    (refl, told_opening _ c.split_seat.result.me _ told, c.new.ensures.items, refl)
