@@ -50,11 +50,11 @@ newcomers_more items (q ∷ ps) p all front places = (all.0, all.1, newcomers_mo
 
 pub are_newcomers : (items : List Item) (n : ℕ) → AreNewcomers items (newcomers items n)
 are_newcomers items zero = tt
-are_newcomers items (suc n) = newcomers_more items (newcomers items n) record { number = n; front = items; places = [] } (are_newcomers items n) refl refl
+are_newcomers items (suc n) = newcomers_more items (newcomers items n) record { number = n; front = items; places = []; submits = 0 } (are_newcomers items n) refl refl
 
 pub newcomers_length : (items : List Item) (n : ℕ) → length (newcomers items n) ≡ n
 newcomers_length items zero = refl
-newcomers_length items (suc n) = omega (arith, newcomers_length items n, length-append (newcomers items n) (record { number = n; front = items; places = [] } ∷ []))
+newcomers_length items (suc n) = omega (arith, newcomers_length items n, length-append (newcomers items n) (record { number = n; front = items; places = []; submits = 0 } ∷ []))
 
 -- A step that a round of this scope took stands at this place of the items.
 pub record IsTakenAt (opened : Gv) (scope : Scope) (spies : Spies) (items : List Item) (place : ℕ) : Type 0 where

@@ -1,5 +1,5 @@
 -- What is told of a pass, when the pass goes on.
-use Rattle.ghc_pool.proofs.Words.{◌≡◌, ◌≤◌, ◌<◌, ◌++◌, ◌∙◌, ℕ, suc, List, [], ◌∷◌, length, drop, Bool, true, false, Option, Some, None, Ok, refl, sym, ap, subst, inl, inr, arith, append-nil, append_assoc, length-append, MatchBool, in_more, in_last, GoalName, Goal, Fault, Entry, Item, entered, Status, Proposal, Hands, World, no_hands, Answers, Begins, Receipt, IsReceipt, IsAnswered, Reply, Call, Submit, Known, AreAll, IsAcceptedCall, IsRefusedCall, IsDecided, holding, receipt_of, IsProposal, IsAnswerTo, Spies, IsSpied, Answer, Submitted, Noted, Starved, RoundStop, Memory, Limit, Full, Spied, Clash, Decided, Scope, Worker, Taken, one_if, IsReason, Work, work_of, works, AreTold, IsSpiedIn, IsSubmitStop, IsSettlingStop, IsNoteStop, GoesOnWithout, IsDecidedAs, IsInScope, StandsIn, IsSpiedGoal, IsStarvedGoal, IsUnspiedStep, IsNotedFor, IsAnswerOf, AreAnswers, places_if, places_in, step_places, IsPassAfter, IsStarved, AreFedAnswers, IsAskedBy, Asks}
+use Rattle.ghc_pool.proofs.Words.{◌≡◌, ◌≤◌, ◌<◌, ◌+◌, ◌++◌, ◌∙◌, ℕ, zero, suc, List, [], ◌∷◌, length, drop, Bool, true, false, Option, Some, None, Ok, refl, sym, ap, subst, inl, inr, arith, append-nil, append_assoc, length-append, MatchBool, in_more, in_last, GoalName, Goal, Fault, Entry, Item, entered, Status, Proposal, Hands, World, no_hands, Answers, Begins, Receipt, IsReceipt, IsAnswered, Reply, Call, Submit, Known, AreAll, IsAcceptedCall, IsRefusedCall, IsDecided, holding, receipt_of, IsProposal, IsAnswerTo, Spies, IsSpied, Answer, Submitted, Noted, Starved, RoundStop, Memory, Limit, Full, Spied, Clash, Decided, Scope, Worker, Taken, one_if, submits_in, IsReason, Work, work_of, works, submits, total_work, submits_by, AreTold, IsSpiedIn, IsSubmitStop, IsSettlingStop, IsNoteStop, GoesOnWithout, IsDecidedAs, IsInScope, StandsIn, IsSpiedGoal, IsStarvedGoal, IsUnspiedStep, IsNotedFor, IsAnswerOf, AreAnswers, places_if, places_in, step_places, after_submits, IsPassAfter, submits_since, IsStarved, AreFedAnswers, IsAskedBy, Asks}
 use base.Stored.{Gv}
 use mathlib.Core.List.{IsPrefix}
 use lib.ListN.{get_or}
@@ -10,6 +10,9 @@ use Rattle.ghc_core.specs.Playing.{IsRefusal}
 use Rattle.ghc_records.specs.Journal.{took, step_of}
 use Rattle.ghc_shared.specs.declared.receipt.Receipt as given
 use Rattle.ghc_shared.specs.declared.calls.Call.TheVariants.{Note}
+use Rattle.ghc_fire.specs.Meter.{one_more}
+use Rattle.std.proofs.Math.Nat.{min-le_left}
+use Rattle.ghc_pool.proofs.Stealing.{submits-append}
 
 -- an answer is a receipt in what is known now
 pub receipt_of_answer : (Starved : Type 0) (old new : List Item) (hands : Hands) (e : events.Event) (r : Receipt) → IsAnswered Starved old new hands e r → IsReceipt Starved new hands e r
@@ -44,6 +47,14 @@ step_places_append : (taken : List Taken) (x : Taken) → step_places (taken ++ 
 step_places_append [] x = append-nil (places_in x.1)
 step_places_append (y ∷ taken) x = ap (λ l. places_in y.1 ++ l) (step_places_append taken x) ∙ sym (append_assoc (places_in y.1) (step_places taken) (places_in x.1))
 
+after_more : (m k n : ℕ) → after_submits (m + k) n ≡ after_submits k (after_submits m n)
+after_more m zero n =
+    let same : m + zero ≡ m = omega arith in
+    ap (λ t. after_submits t n) same
+after_more m (suc k) n =
+    let same : m + suc k ≡ suc (m + k) = omega arith in
+    ap (λ t. after_submits t n) same ∙ ap one_more (after_more m k n)
+
 module _ (opened : Gv) (scope : Scope) (spies : Spies) (steps : Bool) where
   answer_later : (base front longer : List Item) (g : GoalName) (a : Answer) → IsPrefix front longer → IsAnswerOf opened scope spies steps base front g a → IsAnswerOf opened scope spies steps base longer g a
   answer_later base front longer g (Submitted r) p is = (is.0, is.1, is.2, receipt_later _ front longer _ _ _ p is.3, is.4, (λ yes. stands_later front longer is.0 r p (is.5 yes)), is.6)
@@ -58,25 +69,27 @@ module _ (opened : Gv) (scope : Scope) (spies : Spies) (steps : Bool) where
   answers_more base front [] x all is = (is, tt)
   answers_more base front (y ∷ taken) x all is = (all.0, answers_more base front taken x all.1 is)
 
-  -- a pass goes on, and has no more places
-  pub told_later : (old new : Known Item) → new.number ≡ old.number → IsPrefix old.front new.front → new.places ≡ old.places
+  -- a pass goes on, and has no more places, and made no submit
+  pub told_later : (old new : Known Item) → new.number ≡ old.number → IsPrefix old.front new.front → new.places ≡ old.places → new.submits ≡ old.submits
       → (start : Known Item) (taken : List Taken) → IsPassAfter opened scope spies steps start taken old → IsPassAfter opened scope spies steps start taken new
-  told_later old new number begins places start taken was = record {
+  told_later old new number begins places none start taken was = record {
     number = number ∙ was.number;
     begins = prefix_chain start.front old.front new.front was.begins begins;
     answers = answers_later start.front old.front new.front taken begins was.answers;
     places = places ∙ was.places;
+    submits = none ∙ was.submits;
   }
 
   -- a pass goes on with one answer more
-  pub told_more : (old new : Known Item) (g : GoalName) (a : Answer) → new.number ≡ old.number → IsPrefix old.front new.front → new.places ≡ old.places ++ places_in a
+  pub told_more : (old new : Known Item) (g : GoalName) (a : Answer) → new.number ≡ old.number → IsPrefix old.front new.front → new.places ≡ old.places ++ places_in a → new.submits ≡ after_submits (submits_in a) old.submits
       → ((base : List Item) → length base ≤ length old.front → IsAnswerOf opened scope spies steps base new.front g a)
       → (start : Known Item) (taken : List Taken) → IsPassAfter opened scope spies steps start taken old → IsPassAfter opened scope spies steps start (taken ++ (g, a) ∷ []) new
-  told_more old new g a number begins places is start taken was = record {
+  told_more old new g a number begins places made is start taken was = record {
     number = number ∙ was.number;
     begins = prefix_chain start.front old.front new.front was.begins begins;
     answers = answers_more start.front new.front taken (g, a) (answers_later start.front old.front new.front taken begins was.answers) (is start.front (prefix_longer start.front old.front was.begins));
     places = places ∙ ap (λ l. l ++ places_in a) was.places ∙ append_assoc start.places (step_places taken) (places_in a) ∙ ap (λ l. start.places ++ l) (sym (step_places_append taken (g, a)));
+    submits = made ∙ ap (λ n. after_submits (submits_in a) n) was.submits ∙ sym (after_more (submits taken) (submits_in a) start.submits) ∙ ap (λ k. after_submits k start.submits) (sym (submits-append taken (g, a)));
   }
 
 -- the receipt lies behind what had been seen
@@ -202,21 +215,21 @@ module _ (opened : Gv) (scope : Scope) (spies : Spies) (steps : Bool) (g : GoalN
   )
 
   module _ (old new : Known Item) (step made : ℕ) where
-    pub decided_submit : (before : List Item) (p : Proposal) (r : given.Receipt Reply) (stop : Option RoundStop) → steps ≡ true → IsInScope scope g → IsUnspiedStep opened spies g p → new.number ≡ old.number → IsPrefix old.front new.front
+    pub decided_submit : (before : List Item) (p : Proposal) (r : given.Receipt Reply) (stop : Option RoundStop) → steps ≡ true → IsInScope scope g → IsUnspiedStep opened spies g p → new.number ≡ old.number → IsPrefix old.front new.front → new.submits ≡ one_more old.submits
         → IsDecided IsAnswerTo before (Submit p) r old new → IsAnswered (Unit {0}) old.front new.front (holding p) (events.commit 1) (receipt_of r) → IsSubmitStop r.reply stop
         → IsDecidedAs opened scope spies steps g old new (record { answer = Submitted r; stop = stop; step = step; made = made })
-    decided_submit before p r stop takes inside unspied number begins d a s = record {
-      told = told_more opened scope spies steps old new g (Submitted r) number begins (submit_places before (Submit p) r old new d)
+    decided_submit before p r stop takes inside unspied number begins made_one d a s = record {
+      told = told_more opened scope spies steps old new g (Submitted r) number begins (submit_places before (Submit p) r old new d) made_one
           (λ base low. (p, inside, unspied, receipt_of_answer _ old.front new.front _ _ _ a, behind before (Submit p) r old new d base low, submit_stands before p r old new d, submit_refused before p r old new d));
       submits = omega (arith, ap one_if takes);
       reason = reason_of_submit r stop takes s;
     }
 
-    pub decided_note : (before : List Item) (r : given.Receipt Reply) (stop : Option RoundStop) → (steps ≡ true → IsNotedFor opened scope spies g r.reply) → new.number ≡ old.number → IsPrefix old.front new.front
+    pub decided_note : (before : List Item) (r : given.Receipt Reply) (stop : Option RoundStop) → (steps ≡ true → IsNotedFor opened scope spies g r.reply) → new.number ≡ old.number → IsPrefix old.front new.front → new.submits ≡ old.submits
         → IsDecided IsAnswerTo before (Note g) r old new → IsAnswered (Unit {0}) old.front new.front no_hands (events.note g) (receipt_of r) → IsReason AreFedAnswers (Asks opened spies steps) stop ((g, Noted r) ∷ [])
         → IsDecidedAs opened scope spies steps g old new (record { answer = Noted r; stop = stop; step = step; made = made })
-    decided_note before r stop cause number begins d a reason = record {
-      told = told_more opened scope spies steps old new g (Noted r) number begins (note_places before g r old new d ∙ sym (append-nil old.places))
+    decided_note before r stop cause number begins none d a reason = record {
+      told = told_more opened scope spies steps old new g (Noted r) number begins (note_places before g r old new d ∙ sym (append-nil old.places)) none
           (λ base low. (receipt_of_answer _ old.front new.front _ _ _ a, behind before (Note g) r old new d base low, cause));
       submits = omega arith;
       reason = reason;
@@ -224,14 +237,14 @@ module _ (opened : Gv) (scope : Scope) (spies : Spies) (steps : Bool) (g : GoalN
 
   pub decided_starved : (old : Known Item) (step made : ℕ) → steps ≡ true → IsStarvedGoal opened g → IsDecidedAs opened scope spies steps g old old (record { answer = Starved; stop = Some RoundStop.Memory; step = step; made = made })
   decided_starved old step made takes why = record {
-    told = told_more opened scope spies steps old old g Starved refl ([], append-nil old.front) (sym (append-nil old.places)) (λ base low. (takes, why));
+    told = told_more opened scope spies steps old old g Starved refl ([], append-nil old.front) (sym (append-nil old.places)) refl (λ base low. (takes, why));
     submits = omega arith;
     reason = tt;
   }
 
   -- a goal was noted as ready, and the pass goes on
-  pub goes_on : (old new : Known Item) (before : List Item) (r : given.Receipt Reply) → new.number ≡ old.number → IsPrefix old.front new.front → IsDecided IsAnswerTo before (Note g) r old new → GoesOnWithout opened scope spies steps old new
-  goes_on old new before r number begins d = told_later opened scope spies steps old new number begins (note_places before g r old new d)
+  pub goes_on : (old new : Known Item) (before : List Item) (r : given.Receipt Reply) → new.number ≡ old.number → IsPrefix old.front new.front → new.submits ≡ old.submits → IsDecided IsAnswerTo before (Note g) r old new → GoesOnWithout opened scope spies steps old new
+  goes_on old new before r number begins none d = told_later opened scope spies steps old new number begins (note_places before g r old new d) none
 
   pub decided_after : (old mid new : Known Item) (d : Decided) → GoesOnWithout opened scope spies steps old mid → IsDecidedAs opened scope spies steps g mid new d → IsDecidedAs opened scope spies steps g old new d
   decided_after old mid new d on is = record { told = λ start taken was. is.told start taken (on start taken was); submits = is.submits; reason = is.reason }
@@ -283,3 +296,17 @@ told_all opened scope spies steps n k [] (w ∷ ks) ps told all = absurd told
 told_all opened scope spies steps n k (s ∷ ss) [] ps told all = absurd told
 told_all opened scope spies steps n k (s ∷ ss) (w ∷ ks) [] told all = absurd told
 told_all opened scope spies steps n k (s ∷ ss) (w ∷ ks) (p ∷ ps) told all = (told.0.number ∙ all.0, told_all opened scope spies steps n (suc k) ss ks ps told.1 all.1)
+
+after_at_most : (k n : ℕ) → after_submits k n ≤ k + n
+after_at_most zero n = omega arith
+after_at_most (suc k) n = omega (arith, min-le_left (after_submits k n + 1) 18446744073709551615, after_at_most k n)
+
+-- the passes made no more submits than the answers tell of
+pub few_made : (opened : Gv) (scope : Scope) (spies : Spies) (steps : Bool) (starts : List (Known Item)) (ks : List Work) (nows : List (Known Item)) → AreTold (IsPassAfter opened scope spies steps) starts ks nows → submits_since starts nows ≤ total_work submits_by ks
+few_made opened scope spies steps [] [] [] told = omega arith
+few_made opened scope spies steps [] [] (p ∷ ps) told = absurd told
+few_made opened scope spies steps [] (k ∷ ks) ps told = absurd told
+few_made opened scope spies steps (s ∷ ss) [] ps told = absurd told
+few_made opened scope spies steps (s ∷ ss) (k ∷ ks) [] told = absurd told
+few_made opened scope spies steps (s ∷ ss) (k ∷ ks) (p ∷ ps) told =
+    omega (arith, told.0.submits, after_at_most (submits k.taken.items) s.submits, few_made opened scope spies steps ss ks ps told.1)

@@ -55,7 +55,7 @@ pub use Rattle.ghc_pool.specs.Runs.{AsksForNoStop, CanGoOn, HasFailed, HasMetNoF
 pub use Rattle.ghc_pool.specs.inner.Stops.{AreFed, AreJudged, AreOpen, AreWell, GoesOn, IsJudged, IsOpen, IsSpent, IsWell, OneAsks, WentOn, joined}
 pub use Rattle.ghc_pool.specs.inner.Stretches.{TakesAtMost}
 pub use Rattle.ghc_pool.specs.inner.Survey.{AreListed, IsStopped, StandsTo}
-pub use Rattle.ghc_pool.specs.inner.Told.{AreAnswers, AreFedAnswers, Asks, Covers, IsAnswerOf, IsAskedBy, IsInScope, IsNotedFor, IsPassAfter, IsSpiedGoal, IsStarved, IsStarvedGoal, IsUnspiedStep, StandsIn, places_if, places_in, step_places}
+pub use Rattle.ghc_pool.specs.inner.Told.{AreAnswers, AreFedAnswers, Asks, Covers, IsAnswerOf, IsAskedBy, IsInScope, IsNotedFor, IsPassAfter, IsSpiedGoal, IsStarved, IsStarvedGoal, IsUnspiedStep, StandsIn, after_submits, places_if, places_in, step_places, submits_since}
 pub use Rattle.ghc_pool.specs.inner.Workers.{AreVictims, DidNothing, HasRoomToAnswer, HasRoomToOffer, IsAble, IsOfferedOrStopped, IsRoomier, IsVictim, Keeps, KeepsRoom, Work, deques, got_of, in_of, left_in, names, offered_in, out_of, over, put_of, stolen, stolen_of, submits, submits_by, submits_of, taken_in, total_work, work_of, works}
 pub use Rattle.ghc_pool.specs.declared.answer.Answer.{Answer}
 pub use Rattle.ghc_pool.specs.declared.answer.Answer.TheVariants.{Noted, Starved, Submitted}

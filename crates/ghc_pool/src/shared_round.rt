@@ -4,7 +4,7 @@ ghost use Rattle.std.specs.Vec.{vec_capacity, vec_len};
 ghost use Rattle.ghc_pool.specs.inner.Workers.{works, total_work, submits_by, AreSettled};
 ghost use Rattle.ghc_pool.specs.inner.Stops.{AreJudged};
 ghost use Rattle.ghc_pool.specs.inner.Gathered.{AreTold, FirstBegins};
-ghost use Rattle.ghc_pool.specs.inner.Told.{IsPassAfter, AreFedAnswers, Asks};
+ghost use Rattle.ghc_pool.specs.inner.Told.{IsPassAfter, AreFedAnswers, Asks, submits_since};
 ghost use Rattle.ghc_pool.specs.Modes.{takes_steps, limit_of};
 
 use crate::answer::{RoundStop, Work};
@@ -55,14 +55,15 @@ fn take_apart(workers: Vec<Worker>, done: &mut Vec<Work>)
     }
 }
 
-/// A round over a shared core. As many workers as there are passes, from 1 to 64, each in a thread of its own, work off the names, and
-/// the goals that their steps make. The first offers first what is handed in. Where steps are taken, a worker proposes and submits a
-/// step of each name in the scope, unless the goal is a call of a spied predicate. It notes a name that is not in the scope or is spied,
-/// or of which no step could be proposed. Where no steps are taken it notes each name. However names are weighed, what was offered is
-/// what was taken and what was left. Each that was taken has an answer that is a receipt in what its worker's pass has seen. Each step
-/// that a pass has made is one of these answers, and stands at the place of its receipt. Where there is no reason to stop, nothing is
-/// left. Where a worker has one, the others end with what they have in hand. Where memory is refused for the room that the round needs,
-/// nothing is offered, and the passes come back as they were. They always come back in their order.
+/// A round over a shared core. As many workers as there are passes, from 1 to 64, each in a thread of its own, work off the names,
+/// and the goals that their steps make. The first offers first what is handed in. Where steps are taken, a worker proposes and
+/// submits a step of each name in the scope, unless the goal is a call of a spied predicate. It notes a name that is not in the
+/// scope or is spied, or of which no step could be proposed. Where no steps are taken it notes each name. However names are weighed,
+/// what was offered is what was taken and what was left. Each that was taken has an answer that is a receipt in what its worker's
+/// pass has seen. Each step that a pass has made is one of these answers, and stands at the place of its receipt. Each submit,
+/// accepted or not, has its answer, and all workers together make at most as many as the limit allows. Where there is no reason to
+/// stop, nothing is left. Where a worker has one, the others end with what they have in hand. Where memory is refused for the room
+/// that the round needs, nothing is offered, and the passes come back as they were. They always come back in their order.
 pub fn round<'a, N: Naming + Send + Sync, R: Threads + Wait + Sync, G: Gate + Sync>(
     rt: &'a R,
     alloc: Global,
@@ -78,6 +79,7 @@ pub fn round<'a, N: Naming + Send + Sync, R: Threads + Wait + Sync, G: Gate + Sy
     requires few { length names.now < 2 ^ 60 }
     ensures settled { IfOk result (λ r. AreSettled r.1.workers.items) }
     ensures few { IfOk result (λ r. total_work submits_by r.1.workers.items ≤ limit_of mode.now) }
+    ensures made { IfOk result (λ r. submits_since passes.items r.0.items ≤ limit_of mode.now) }
     ensures judged { IfOk result (λ r. AreJudged AreFedAnswers (Asks N.opened spies.now (takes_steps mode.now)) ((takes_steps mode.now ≡ true) × (total_work submits_by r.1.workers.items ≡ limit_of mode.now)) r.1.stop r.1.workers.items) }
     ensures told { IfOk result (λ r. AreTold (IsPassAfter N.opened scope.now spies.now (takes_steps mode.now)) passes.items r.1.workers.items r.0.items) }
     ensures begins { IfOk result (λ r. FirstBegins names.now r.1.workers.items) }

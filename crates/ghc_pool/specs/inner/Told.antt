@@ -1,11 +1,12 @@
 -- What a round over a shared core tells of its workers.
-use Rattle.std.specs.Prelude.{◌≡◌, ◌≢◌, ◌⊎◌, ℕ, ◌≤◌, ◌++◌, List, [], ◌∷◌, length, Bool, true, false, Option, Some, None, Ok, Err}
+use Rattle.std.specs.Prelude.{◌≡◌, ◌≢◌, ◌⊎◌, ℕ, zero, suc, ◌+◌, ◌-◌, ◌≤◌, ◌++◌, List, [], ◌∷◌, length, Bool, true, false, Option, Some, None, Ok, Err}
 use Rattle.ghc_core.specs.Playing.{IsRefusal}
 use base.Stored.{Gv}
 use mathlib.Core.List.{IsPrefix}
 use Rattle.ghc_term.specs.Lists.{In}
 use Rattle.ghc_term.specs.declared.goal_name.GoalName.{GoalName}
 use Rattle.ghc_term.specs.declared.fault.Fault.{Fault}
+use Rattle.ghc_fire.specs.Meter.{one_more}
 use Rattle.ghc_records.specs.Journal.{Entry, Item, entered}
 use Rattle.ghc_hooks.specs.Status.{Status, ready, failed}
 use Rattle.ghc_core.specs.World.{Proposal, World, no_hands}
@@ -26,6 +27,7 @@ use Rattle.ghc_pool.specs.declared.scope.Scope.{Scope}
 use Rattle.ghc_pool.specs.declared.scope.Scope.TheVariants.{Any, Of}
 use Rattle.ghc_pool.specs.Runs.{IsInQuestion, IsSpiedIn}
 use Rattle.ghc_pool.specs.inner.Answers.{Taken}
+use Rattle.ghc_pool.specs.inner.Workers.{submits}
 
 -- A round of this scope may step the goal named g: any goal; or those of these names, and those that the step of this number or a later one made.
 abbrev pub IsInScope : Scope → GoalName → Type 0
@@ -101,12 +103,24 @@ abbrev pub step_places : List Taken → List ℕ
 step_places [] = []
 step_places (x ∷ xs) = places_in x.1 ++ step_places xs
 
--- IsPassAfter opened scope spies steps start taken now: the pass went on from what it was at the start. It has the answers to the names taken. Its front begins with the one at the start, and the places that it has more are those of the steps of which the answers tell.
+-- a count of submits after so many more, up to the greatest count
+abbrev pub after_submits : ℕ → ℕ → ℕ
+after_submits zero n = n
+after_submits (suc k) n = one_more (after_submits k n)
+
+-- IsPassAfter opened scope spies steps start taken now: the pass went on from what it was at the start. It has the answers to the names taken, and made as many submits as they tell of. Its front begins with the one at the start, and the places that it has more are those of the steps of which the answers tell.
 pub record IsPassAfter (opened : Gv) (scope : Scope) (spies : Spies) (steps : Bool) (start : Known Item) (taken : List Taken) (now : Known Item) : Type 0 where
   pub number : now.number ≡ start.number
   pub begins : IsPrefix start.front now.front
   pub answers : AreAnswers opened scope spies steps start.front now.front taken
   pub places : now.places ≡ start.places ++ step_places taken
+  pub submits : now.submits ≡ after_submits (submits taken) start.submits
+
+-- how many submits were made with these passes, which were so at the start
+abbrev pub submits_since : List (Known Item) → List (Known Item) → ℕ
+submits_since [] ps = 0
+submits_since (s ∷ ss) [] = 0
+submits_since (s ∷ ss) (p ∷ ps) = (p.submits - s.submits) + submits_since ss ps
 
 -- Memory was refused for this answer.
 abbrev pub IsStarved : Answer → Type 0

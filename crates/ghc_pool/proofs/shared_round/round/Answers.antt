@@ -3,7 +3,7 @@ use mir.Syntax.{named}
 use denote.Param.{param}
 use denote.Param.Send.{sendable}
 use Rattle.ghc_pool.proofs.Crosses.{deciding_sync}
-use Rattle.ghc_pool.proofs.Telling.{told_count, works_count}
+use Rattle.ghc_pool.proofs.Telling.{told_count, works_count, few_made}
 use Rattle.ghc_pool.proofs.shared_round.round.Goals as goal
 
 pub work_together-requires-send-P : goal.work_together-requires-send-P
@@ -19,3 +19,9 @@ take_apart-requires g c =
     let passes = c.args.passes in
     let count = told_count _ passes.items (works workers.items) ended.0.items c.in-Ok-work_together.ensures.tells in
     record { room = (c.in-Ok.ensures.items, omega (arith, c.in-Ok.ensures.capacity, c.len.ensures, count, works_count workers.items, workers.ok.0, passes.ok.0)) }
+
+pub returns-in-Ok-work_together-clause-made : goal.returns-in-Ok-work_together-clause-made
+returns-in-Ok-work_together-clause-made g c =
+    let ended = c.in-Ok-work_together.ended in
+    let is = c.in-Ok-work_together.ensures in
+    omega (arith, few_made _ _ _ _ c.args.passes.items (works ended.1.workers.items) ended.0.items is.tells, is.few, c.limit-limit.ensures)
