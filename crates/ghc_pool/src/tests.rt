@@ -1,5 +1,6 @@
 // Four workers: all names are taken, and no more is submitted than the limit allows.
 mod overlap;
+mod played_again;
 mod undoing;
 mod unifications;
 

@@ -8,6 +8,7 @@ use crate::gate::Gate;
 use crate::mode::Mode;
 use crate::scope::Scope;
 use crate::shared_round::{RoundReport, round};
+use crate::tests::played_again::is_played_again;
 use ghc_core::{Core, Reply};
 use ghc_flat::check;
 use ghc_reader::{read_program, read_query};
@@ -95,7 +96,7 @@ fn two_unifications(rt: HostRuntime) -> Result<(), Fail> {
     two_named::<Brand, _>(&rt, rt.alloc(), opening)
 }
 
-// All is taken, both goals by a step, and nothing is left.
+// All is taken, both goals by a step, and nothing is left; the journal comes again where a new core is given its events.
 fn two_named<N: Naming + Send + Sync, R: Threads + Wait + Abort + Sync>(
     rt: &R,
     alloc: Global,
@@ -135,5 +136,7 @@ fn two_named<N: Naming + Send + Sync, R: Threads + Wait + Abort + Sync>(
     assert_eq!(rt; core.records().len(), 2);
     assert_eq!(rt; core.meter().firings(), 2);
     assert_eq!(rt; core.meter().tries(), 0);
+    let new = two(alloc).ok_or("a core")?;
+    assert!(rt; is_played_again(alloc, core.journal(), new));
     Ok(())
 }

@@ -19,7 +19,7 @@ use Rattle.ghc_pool.proofs.tests.undoing.undo_named.Goals as goal
 
 undoing_sync : (a : NamedLft) (N R : RattleType) (n : naming.Ghosts N.Denot) (l : ledger.Ghosts N.Denot) → IsSync R → IsSync (undoing.the_row a N R n l)
 undoing_sync a N R n l y = declared_sync (undoing.the_type a N R n l)
-    (as_row_sync (row_field (ShrRef a.mir a.lft R)) (shr_sync a.mir a.lft R y), (search (crosses, sendable) depth 60 fits 20000, (shr_sync a.mir a.lft (shared.the_row core.the_row N item.the_row call.the_row reply.the_row n ghosts l) (shared_core_sync N n l), (search (crosses, sendable, core_pass_send) depth 60 fits 20000, (word.the_sync, tt)))))
+    (as_row_sync (row_field (ShrRef a.mir a.lft R)) (shr_sync a.mir a.lft R y), (search (crosses, sendable) depth 60 fits 20000, (shr_sync a.mir a.lft (shared.the_row core.the_row N item.the_row call.the_row reply.the_row n ghosts l) (shared_core_sync N n l), (search (crosses, sendable, core_pass_send) depth 60 fits 20000, (word.the_sync, (word.the_sync, (word.the_sync, tt)))))))
 
 pub round-requires-sync-G : goal.round-requires-sync-G
 round-requires-sync-G g c κs within = record { shared = (undoing_sync (record { mir = named 4; lft = κs.1.1.1.1.1.0 }) (param 0 g.row.N) (param 1 g.row.R) g.N.Naming g.N.Ledger c.type_bounds.sync-R).shared }
