@@ -1,5 +1,5 @@
 // What the program does with the words of its command line.
-ghost use Rattle.std.specs.Prelude.{◌≡◌, ◌≢◌, IfErr, IfOk};
+ghost use Rattle.std.specs.Prelude.{◌≡◌, ◌≢◌, ◌⊎◌, IfErr, IfOk};
 ghost use Rattle.clap.specs.Words.{kind_of};
 ghost use Rattle.clap.specs.declared.error.kind.ErrorKind.{ErrorKind};
 ghost use Rattle.ghc_term.specs.Answered.{AnsweredUnless};
@@ -7,7 +7,7 @@ ghost use Rattle.ghc_term.specs.Fault.{fault_text};
 ghost use Rattle.ghcdb.specs.inner.Ending.{DoOpen, EndsWith, IsEnd, IsRefusalOf};
 ghost use Rattle.ghcdb.specs.Opening.{IsDebuggerOf, IsOpenRefusal, IsWithoutMemory};
 ghost use Rattle.ghcdb.specs.inner.Texts.{history_in, schedule_in};
-ghost use Rattle.ghcdb.specs.inner.Status.{spare_fault, status_of};
+ghost use Rattle.ghcdb.specs.inner.Status.{spare_fault, status_of, status_of_print};
 
 use crate::command_line::options;
 use crate::files::{Texts, read_texts};
@@ -39,18 +39,35 @@ pub fn run<R: Threads + Wait + Sync + Files + Input + Print + Eprint + AllocGlob
     }
 }
 
-// Prints help or the version on the standard output, and what is wrong with the words on the standard error.
-fn answer<R: Print + Eprint>(rt: &R, error: &Error) -> Status
-    ensures help { kind_of error.now ≡ ErrorKind.DisplayHelp → result ≡ Status.Done }
-    ensures version { kind_of error.now ≡ ErrorKind.DisplayVersion → result ≡ Status.Done }
+// How it ends where the text of `clap` was printed, or could not be: help and the version are what was asked for.
+fn status_after(error: &Error, printed: bool) -> Status
+    ensures help { kind_of error.now ≡ ErrorKind.DisplayHelp → result ≡ status_of_print printed }
+    ensures version { kind_of error.now ≡ ErrorKind.DisplayVersion → result ≡ status_of_print printed }
     ensures mistake { kind_of error.now ≢ ErrorKind.DisplayHelp → kind_of error.now ≢ ErrorKind.DisplayVersion → result ≡ Status.Misused }
 {
-    let _ = error.print(rt);
     if error.use_stderr() {
-        Status::Misused
-    } else {
-        Status::Done
+        return Status::Misused;
     }
+    if printed {
+        Status::Done
+    } else {
+        Status::Broken
+    }
+}
+
+// Prints help or the version on the standard output, and what is wrong with the words on the standard error, whose failing changes
+// nothing.
+fn answer<R: Print + Eprint>(rt: &R, error: &Error) -> Status
+    ensures help { kind_of error.now ≡ ErrorKind.DisplayHelp → (result ≡ Status.Done) ⊎ (result ≡ Status.Broken) }
+    ensures version { kind_of error.now ≡ ErrorKind.DisplayVersion → (result ≡ Status.Done) ⊎ (result ≡ Status.Broken) }
+    ensures mistake { kind_of error.now ≢ ErrorKind.DisplayHelp → kind_of error.now ≢ ErrorKind.DisplayVersion → result ≡ Status.Misused }
+{
+    let printed = error.print(rt).is_ok();
+    let status = status_after(error, printed);
+    if matches!(status, Status::Broken) {
+        let _ = eprintln!(rt; "{}", spare_text(&Fault::Device));
+    }
+    status
 }
 
 // What the texts of the files and the options start: the program and the history are in the files, and the query in the

@@ -1,5 +1,5 @@
 -- How the program ends.
-use Rattle.std.specs.Prelude.{ℕ}
+use Rattle.std.specs.Prelude.{ℕ, Bool, true, false}
 use Rattle.ghc_term.specs.declared.fault.Fault.{Fault}
 use Rattle.ghc_term.specs.declared.fault.Fault.TheVariants.{Device, Memory}
 use Rattle.ghcdb.specs.declared.status.Status.{Status}
@@ -14,6 +14,11 @@ status_of _ = Refused
 abbrev pub spare_fault : Fault → Fault
 spare_fault Device = Device
 spare_fault _ = Memory
+
+-- the status where what was asked for was printed, or could not be
+abbrev pub status_of_print : Bool → Status
+status_of_print true = Done
+status_of_print false = Broken
 
 -- the number that the process ends with
 abbrev pub status_code : Status → ℕ
