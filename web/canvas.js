@@ -124,7 +124,7 @@ const Canvas = (() => {
     if (svg.querySelector(".legend")) svg.querySelector(".legend").setAttribute("transform", `translate(${area.scrollLeft} 0)`);
     svg.querySelector(".axis").setAttribute("transform", `translate(0 ${area.scrollTop})`);
     const { left, ticks } = canvas.view, words = [...svg.querySelectorAll(".axis text")], name = words.pop();
-    words.forEach((word, at) => { word.style.visibility = area.scrollLeft > 0 && ticks[at].x - ticks[at].text.length * TICK_LETTER - area.scrollLeft < left - 6 ? "hidden" : ""; });
+    words.forEach((word, at) => { word.style.display = area.scrollLeft > 0 && ticks[at].x - ticks[at].text.length * TICK_LETTER - area.scrollLeft < left - 6 ? "none" : ""; });
     name.setAttribute("transform", `translate(${area.scrollLeft} 0)`);
   }
 
