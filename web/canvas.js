@@ -5,6 +5,7 @@ const Canvas = (() => {
   const { find } = Elements;
   const canvas = { by: "record", theme: "light", zoom: 1, isFit: false, chosen: null, way: new Set(), others: new Set(), slice: null, view: null };
   const LEGEND = 70; // points below the lanes
+  const TICK_LETTER = 3.2; // points, half the width of a letter of the axis
   const OWN_SCROLL = 250; // milliseconds in which the browser tells of a scrolling that the page did
   let scrolledAt = -OWN_SCROLL;
 
@@ -123,7 +124,7 @@ const Canvas = (() => {
     if (svg.querySelector(".legend")) svg.querySelector(".legend").setAttribute("transform", `translate(${area.scrollLeft} 0)`);
     svg.querySelector(".axis").setAttribute("transform", `translate(0 ${area.scrollTop})`);
     const { left, ticks } = canvas.view, words = [...svg.querySelectorAll(".axis text")], name = words.pop();
-    words.forEach((word, at) => { word.style.visibility = ticks[at].x - area.scrollLeft < left - 4 ? "hidden" : ""; });
+    words.forEach((word, at) => { word.style.display = area.scrollLeft > 0 && ticks[at].x - ticks[at].text.length * TICK_LETTER - area.scrollLeft < left - 6 ? "none" : ""; });
     name.setAttribute("transform", `translate(${area.scrollLeft} 0)`);
   }
 

@@ -112,6 +112,6 @@ const Told = (() => {
     }
   }
 
-  return Object.assign(Told, { countLines, numberAt, stepsOf });
+  return Object.assign(Told, { countLines });
 })();
 if (typeof module !== "undefined") module.exports = Told;
