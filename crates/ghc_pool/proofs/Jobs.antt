@@ -82,7 +82,7 @@ module _ {P L : Type 0} where
   module _ (fed : List Taken → Type 0) (asks : List Taken → RoundStop → Type 0) (tells : P → List Taken → P → Type 0) where
     pub new_job : (k : ℕ) (ds : List (RowsId × Global)) (j : Job P L) → IsStarting k ds j.worker → fed [] → tells j.pass [] j.pass → j.share.parts ≡ 1 → j.share.amount ≡ 0 → j.spare ≡ 0 → IsJob fed asks tells k ds j.pass j
     new_job k ds j is unfed told part none spare = record {
-      works = (is.able, well is.stop, record { part = part; counted = omega (arith, none, spare, ap (λ l. submits l) is.taken); one = omega (arith, spare) });
+      works = (is.able, well is.stop, record { part = part; counted = omega (arith, none, spare, ap (λ l. submits l) is.taken); few = omega (arith, spare) });
       balanced = is.balanced;
       room = is.room;
       parts = is.parts;

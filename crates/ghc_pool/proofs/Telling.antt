@@ -1,6 +1,7 @@
 -- What is told of a pass, when the pass goes on.
 use Rattle.ghc_pool.proofs.Words.{◌≡◌, ◌≤◌, ◌<◌, ◌+◌, ◌++◌, ◌∙◌, ℕ, zero, suc, List, [], ◌∷◌, length, drop, Bool, true, false, Option, Some, None, Ok, refl, sym, ap, subst, inl, inr, arith, append-nil, append_assoc, length-append, MatchBool, in_more, in_last, GoalName, Goal, Fault, Entry, Item, entered, Status, Proposal, Hands, World, no_hands, Answers, Begins, Receipt, IsReceipt, IsAnswered, Reply, Call, Submit, Known, AreAll, IsAcceptedCall, IsRefusedCall, IsDecided, holding, receipt_of, IsProposal, IsAnswerTo, Spies, IsSpied, Answer, Submitted, Noted, Starved, RoundStop, Memory, Limit, Full, Spied, Clash, Decided, Scope, Worker, Taken, one_if, submits_in, IsReason, Work, work_of, works, submits, total_work, submits_by, AreTold, IsSpiedIn, IsSubmitStop, IsSettlingStop, IsNoteStop, GoesOnWithout, IsDecidedAs, IsInScope, StandsIn, IsSpiedGoal, IsStarvedGoal, IsUnspiedStep, IsNotedFor, IsAnswerOf, AreAnswers, places_if, places_in, step_places, after_submits, IsPassAfter, submits_since, IsStarved, AreFedAnswers, IsAskedBy, Asks}
 use base.Stored.{Gv}
+use Rattle.std.specs.Global.{Vec}
 use mathlib.Core.List.{IsPrefix}
 use lib.ListN.{get_or}
 use Rattle.ghc_core.specs.Events as events
@@ -9,6 +10,9 @@ use Rattle.ghc_core.specs.EventCode.{reply_of}
 use Rattle.ghc_core.specs.Playing.{IsRefusal}
 use Rattle.ghc_records.specs.Journal.{took, step_of}
 use Rattle.ghc_shared.specs.declared.receipt.Receipt as given
+use Rattle.ghc_shared.specs.inner.Calls.{ListsWoken}
+use Rattle.ghc_term.specs.Lists.{In}
+use Rattle.ghc_pool.specs.inner.Plans.{AreWokenOf}
 use Rattle.ghc_shared.specs.declared.calls.Call.TheVariants.{Note}
 use Rattle.ghc_fire.specs.Meter.{one_more}
 use Rattle.std.proofs.Math.Nat.{min-le_left}
@@ -178,6 +182,14 @@ full_memory e = cc
 noted_memory : (g : GoalName) (s : Status) → events.noted g s ≡ events.refused Fault.Memory → ⊥
 noted_memory g s e = cc
 
+-- where no step is taken nothing is woken
+none_woken : (opened : Gv) (g : GoalName) (woken : List GoalName) → woken ≡ [] → AreWokenOf opened g woken
+none_woken opened g woken none h i = absurd (subst (In h) none i)
+
+-- what was listed behind nothing is woken
+pub woken_of : (opened : Gv) (g : GoalName) (p : Proposal) (old new : List GoalName) → old ≡ [] → (w : World) × IsProposal opened w g None (Ok p) × ListsWoken w (Ok p) old new → AreWokenOf opened g new
+woken_of opened g p old new none said h i = elim (said.2 h i) [ inl was ↦ absurd (subst (In h) none was) | inr looks ↦ (said.0, p, said.1, looks) ]
+
 module _ (opened : Gv) (scope : Scope) (spies : Spies) (steps : Bool) (g : GoalName) where
   reason_of_submit : (r : given.Receipt Reply) (stop : Option RoundStop) → steps ≡ true → IsSubmitStop r.reply stop → IsReason AreFedAnswers (Asks opened spies steps) stop ((g, Submitted r) ∷ [])
   reason_of_submit r None takes is = λ y i. elim i [ inl e ↦ λ s. is (subst (λ (z : Taken). IsStarved z.1) e s) | inr none ↦ absurd none ]
@@ -214,32 +226,36 @@ module _ (opened : Gv) (scope : Scope) (spies : Spies) (steps : Bool) (g : GoalN
     (takes, ((g, Noted r), inl refl, is)),
   )
 
-  module _ (old new : Known Item) (step made : ℕ) where
+  module _ (old new : Known Item) (step made : ℕ) (woken : Vec GoalName) where
     pub decided_submit : (before : List Item) (p : Proposal) (r : given.Receipt Reply) (stop : Option RoundStop) → steps ≡ true → IsInScope scope g → IsUnspiedStep opened spies g p → new.number ≡ old.number → IsPrefix old.front new.front → new.submits ≡ one_more old.submits
         → IsDecided IsAnswerTo before (Submit p) r old new → IsAnswered (Unit {0}) old.front new.front (holding p) (events.commit 1) (receipt_of r) → IsSubmitStop r.reply stop
-        → IsDecidedAs opened scope spies steps g old new (record { answer = Submitted r; stop = stop; step = step; made = made })
-    decided_submit before p r stop takes inside unspied number begins made_one d a s = record {
+        → AreWokenOf opened g woken.items → IsDecidedAs opened scope spies steps g old new (record { answer = Submitted r; stop = stop; step = step; made = made; woken = woken })
+    decided_submit before p r stop takes inside unspied number begins made_one d a s listed = record {
       told = told_more opened scope spies steps old new g (Submitted r) number begins (submit_places before (Submit p) r old new d) made_one
           (λ base low. (p, inside, unspied, receipt_of_answer _ old.front new.front _ _ _ a, behind before (Submit p) r old new d base low, submit_stands before p r old new d, submit_refused before p r old new d));
       submits = omega (arith, ap one_if takes);
       reason = reason_of_submit r stop takes s;
+      woken = listed;
     }
 
     pub decided_note : (before : List Item) (r : given.Receipt Reply) (stop : Option RoundStop) → (steps ≡ true → IsNotedFor opened scope spies g r.reply) → new.number ≡ old.number → IsPrefix old.front new.front → new.submits ≡ old.submits
         → IsDecided IsAnswerTo before (Note g) r old new → IsAnswered (Unit {0}) old.front new.front no_hands (events.note g) (receipt_of r) → IsReason AreFedAnswers (Asks opened spies steps) stop ((g, Noted r) ∷ [])
-        → IsDecidedAs opened scope spies steps g old new (record { answer = Noted r; stop = stop; step = step; made = made })
-    decided_note before r stop cause number begins none d a reason = record {
-      told = told_more opened scope spies steps old new g (Noted r) number begins (note_places before g r old new d ∙ sym (append-nil old.places)) none
+        → woken.items ≡ [] → IsDecidedAs opened scope spies steps g old new (record { answer = Noted r; stop = stop; step = step; made = made; woken = woken })
+    decided_note before r stop cause number begins same d a reason none = record {
+      told = told_more opened scope spies steps old new g (Noted r) number begins (note_places before g r old new d ∙ sym (append-nil old.places)) same
           (λ base low. (receipt_of_answer _ old.front new.front _ _ _ a, behind before (Note g) r old new d base low, cause));
       submits = omega arith;
       reason = reason;
+      woken = none_woken opened g woken.items none;
     }
 
-  pub decided_starved : (old : Known Item) (step made : ℕ) → steps ≡ true → IsStarvedGoal opened g → IsDecidedAs opened scope spies steps g old old (record { answer = Starved; stop = Some RoundStop.Memory; step = step; made = made })
-  decided_starved old step made takes why = record {
+  pub decided_starved : (old : Known Item) (step made : ℕ) (woken : Vec GoalName) → steps ≡ true → IsStarvedGoal opened g → woken.items ≡ []
+      → IsDecidedAs opened scope spies steps g old old (record { answer = Starved; stop = Some RoundStop.Memory; step = step; made = made; woken = woken })
+  decided_starved old step made woken takes why none = record {
     told = told_more opened scope spies steps old old g Starved refl ([], append-nil old.front) (sym (append-nil old.places)) refl (λ base low. (takes, why));
     submits = omega arith;
     reason = tt;
+    woken = none_woken opened g woken.items none;
   }
 
   -- a goal was noted as ready, and the pass goes on
@@ -247,7 +263,7 @@ module _ (opened : Gv) (scope : Scope) (spies : Spies) (steps : Bool) (g : GoalN
   goes_on old new before r number begins none d = told_later opened scope spies steps old new number begins (note_places before g r old new d) none
 
   pub decided_after : (old mid new : Known Item) (d : Decided) → GoesOnWithout opened scope spies steps old mid → IsDecidedAs opened scope spies steps g mid new d → IsDecidedAs opened scope spies steps g old new d
-  decided_after old mid new d on is = record { told = λ start taken was. is.told start taken (on start taken was); submits = is.submits; reason = is.reason }
+  decided_after old mid new d on is = record { told = λ start taken was. is.told start taken (on start taken was); submits = is.submits; reason = is.reason; woken = is.woken }
 
 pub opposite : {A : Type 0} (b : Bool) → b ≡ true → b ≡ false → A
 opposite b t f = let clash : true ≡ false = sym t ∙ f in cc

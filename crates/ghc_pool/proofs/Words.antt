@@ -44,7 +44,7 @@ pub use Rattle.ghc_hooks.specs.Status.{HasStatus, Status, failed, is_failed, is_
 pub use Rattle.ghc_hooks.specs.Tries.{IsUnblocked}
 pub use Rattle.ghc_hooks.specs.Verdict.{status_of}
 pub use Rattle.ghc_pool.specs.inner.Answers.{IsReason, Taken, one_if, submits_in}
-pub use Rattle.ghc_pool.specs.inner.Fair.{Balanced, IdleIsEmpty, all_parts, hand, total, weigh}
+pub use Rattle.ghc_pool.specs.inner.Fair.{Balanced, IdleIsEmpty, all_parts, hand, most_permits, total, weigh}
 pub use Rattle.ghc_pool.specs.inner.Gathered.{AreDrained, AreDrainedTo, ArePending, AreReady, AreReleased, AreTold, FirstBegins, HaveGivenBack, HaveParts, HavePartsFrom, IsAbsorbed, IsDrained, IsPending, IsReady, all_victims, own_deques}
 pub use Rattle.ghc_pool.specs.Laws.{AddsAtTheEnd, RunsAddAtTheEnd, RunsReduce}
 pub use Rattle.ghc_pool.specs.inner.Meeting.{HasStepped, IsMet, IsNotedReady, IsNotedWaiting, TookInQuestion, WasTaken, WasTried}

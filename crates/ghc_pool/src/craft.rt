@@ -6,13 +6,15 @@ ghost use Rattle.ghc_pool.specs.inner.Answers.{Taken, submits_in, one_if, IsReas
 use crate::answer::{Answer, RoundStop};
 use ghc_term::GoalName;
 
-/// What came of a name: its answer, the reason to stop if it is one, and how many goals were made, by which step.
+/// What came of a name: its answer, the reason to stop if it is one, how many goals were made, by which step, and the goals that it
+/// woke. Where no step was taken, no goal is made and none is woken.
 #[derive(Drop)]
 pub struct Decided {
     pub answer: Answer,
     pub stop: Option<RoundStop>,
     pub step: u32,
     pub made: u32,
+    pub woken: Vec<GoalName>,
 }
 
 /// What workers share, each of whom has a pass.

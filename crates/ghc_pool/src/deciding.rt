@@ -3,7 +3,7 @@ ghost use Rattle.std.specs.Prelude.{◌≡◌, ◌↔◌, IsTrue, MatchOption, t
 ghost use Rattle.ghc_term.specs.declared.fault.Fault.TheVariants.{Memory as memory};
 ghost use Rattle.ghc_hooks.specs.Status.{ready};
 ghost use Rattle.ghc_pool.specs.inner.Told.{IsInScope, IsSpiedGoal, IsRefusedGoal, IsStarvedGoal, IsUnspiedStep, TellsStatus};
-ghost use Rattle.ghc_pool.specs.inner.Plans.{IsPlan, IsSubmitStop, IsSettlingStop, IsNoteStop, GoesOnWithout, IsDecidedAs};
+ghost use Rattle.ghc_pool.specs.inner.Plans.{IsPlan, IsSubmitStop, IsSettlingStop, IsNoteStop, GoesOnWithout, IsDecidedAs, AreWokenOf};
 
 use crate::answer::{Answer, RoundStop};
 use crate::craft::{Craft, Decided};
@@ -33,8 +33,8 @@ pub struct Deciding<'a, N: Naming, R: Wait, G: Gate> {
 // What is to be done with a goal where steps are taken.
 #[derive(Drop)]
 pub enum Plan {
-    // This step of it is to be submitted.
-    Submit(Proposal),
+    // This step of it is to be submitted, and these goals looked at what it binds.
+    Submit(Proposal, Vec<GoalName>),
     // It is to be noted, since the round may not step it.
     Outside,
     // It is to be noted, as a call of a spied predicate.
@@ -114,15 +114,16 @@ impl<N: Naming, R: Wait, G: Gate> Deciding<'_, N, R, G> {
             return Plan::Outside;
         }
         let mut meter = Meter::new();
+        let mut woken = Vec::new(self.alloc);
         match self
             .shared
-            .propose(self.rt, self.alloc, &mut meter, goal, None)
+            .propose_and_list(self.rt, self.alloc, &mut meter, goal, &mut woken)
         {
             Ok(proposal) => {
                 if self.spies.is_spied(proposal.consumed()) {
                     return Plan::Pass;
                 }
-                Plan::Submit(proposal)
+                Plan::Submit(proposal, woken)
             }
             Err(fault) => {
                 if is_memory(&fault) {
@@ -133,17 +134,19 @@ impl<N: Naming, R: Wait, G: Gate> Deciding<'_, N, R, G> {
         }
     }
 
-    // Submits the step of the goal; where it is taken, it makes the goals that were proposed.
+    // Submits the step of the goal; where it is taken, it makes the goals that were proposed, and wakes these.
     fn submit(
         &self,
         worker: usize,
         pass: &mut Pass<Core, N>,
         goal: GoalName,
         proposal: Proposal,
+        woken: Vec<GoalName>,
     ) -> Decided
         requires steps { self.now.steps ≡ true }
         requires inside { IsInScope self.now.scope.now goal }
         requires proposed { IsUnspiedStep N.opened self.now.spies.now goal proposal }
+        requires woken { AreWokenOf N.opened goal woken.items }
         ensures { IsDecidedAs N.opened self.now.scope.now self.now.spies.now self.now.steps goal pass.old pass.new result }
     {
         let goals = proposal.effect().made();
@@ -157,6 +160,7 @@ impl<N: Naming, R: Wait, G: Gate> Deciding<'_, N, R, G> {
             stop,
             step,
             made,
+            woken,
         }
     }
 
@@ -172,6 +176,7 @@ impl<N: Naming, R: Wait, G: Gate> Deciding<'_, N, R, G> {
             stop,
             step: 0,
             made: 0,
+            woken: Vec::new(self.alloc),
         }
     }
 
@@ -187,6 +192,7 @@ impl<N: Naming, R: Wait, G: Gate> Deciding<'_, N, R, G> {
             stop,
             step: 0,
             made: 0,
+            woken: Vec::new(self.alloc),
         }
     }
 
@@ -203,6 +209,7 @@ impl<N: Naming, R: Wait, G: Gate> Deciding<'_, N, R, G> {
             stop,
             step: 0,
             made: 0,
+            woken: Vec::new(self.alloc),
         }
     }
 
@@ -222,6 +229,7 @@ impl<N: Naming, R: Wait, G: Gate> Deciding<'_, N, R, G> {
             stop,
             step: 0,
             made: 0,
+            woken: Vec::new(self.alloc),
         })
     }
 
@@ -238,6 +246,7 @@ impl<N: Naming, R: Wait, G: Gate> Deciding<'_, N, R, G> {
             stop: Some(RoundStop::Memory),
             step: 0,
             made: 0,
+            woken: Vec::new(self.alloc),
         }
     }
 
@@ -248,7 +257,9 @@ impl<N: Naming, R: Wait, G: Gate> Deciding<'_, N, R, G> {
     {
         for _ in self.rt.forever() {
             match self.plan(goal) {
-                Plan::Submit(proposal) => return self.submit(worker, pass, goal, proposal),
+                Plan::Submit(proposal, woken) => {
+                    return self.submit(worker, pass, goal, proposal, woken);
+                }
                 Plan::Outside => return self.note_outside(pass, goal),
                 Plan::Pass => return self.note_spied(pass, goal),
                 Plan::Refuse => {

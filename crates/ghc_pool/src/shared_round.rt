@@ -56,7 +56,7 @@ fn take_apart(workers: Vec<Worker>, done: &mut Vec<Work>)
 }
 
 /// A round over a shared core. As many workers as there are passes, from 1 to 64, each in a thread of its own, work off the names,
-/// and the goals that their steps make. The first offers first what is handed in. Where steps are taken, a worker proposes and
+/// and the goals that their steps make or wake. The first offers first what is handed in. Where steps are taken, a worker proposes and
 /// submits a step of each name in the scope, unless the goal is a call of a spied predicate. It notes a name that is not in the
 /// scope or is spied, or of which no step could be proposed. Where no steps are taken it notes each name. However names are weighed,
 /// what was offered is what was taken and what was left. Each that was taken has an answer that is a receipt in what its worker's

@@ -21,7 +21,9 @@ use std::test::*;
 use std::thread::Threads;
 
 // A goal of an even place waits; the step of one of step 100 or more makes a goal.
-struct Trial;
+struct Trial {
+    alloc: Global,
+}
 
 impl Craft<u64> for Trial {
     ghost use Rattle.std.specs.Prelude.{true};
@@ -50,6 +52,7 @@ impl Craft<u64> for Trial {
                 stop: None,
                 step: 0,
                 made: 0,
+                woken: Vec::new(self.alloc),
             };
         }
         *pass = pass.wrapping_add(1);
@@ -58,6 +61,7 @@ impl Craft<u64> for Trial {
             stop: None,
             step: name.step.wrapping_sub(100),
             made: if name.step >= 100 { 1 } else { 0 },
+            woken: Vec::new(self.alloc),
         }
     }
 }
@@ -105,7 +109,8 @@ fn round<R: Threads + Wait + Sync>(
         };
     }
     let blank = Blank::new(passes.len() as u64 + 1);
-    match work_together::<u64, Trial, Brand, R>(rt, alloc, &Trial, blank, limit, passes, names) {
+    let trial = Trial { alloc };
+    match work_together::<u64, Trial, Brand, R>(rt, alloc, &trial, blank, limit, passes, names) {
         Ok((_passes, ended)) => Some(ended),
         Err(_passes) => None,
     }

@@ -8,4 +8,5 @@ pub mod ExclusiveCrosses
 pub mod Answering
 pub mod AnsweredCalls
 pub mod CoreCrosses
+pub mod Listing
 mod Words

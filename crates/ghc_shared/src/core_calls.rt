@@ -1,5 +1,5 @@
 // The calls of a shared core.
-ghost use Rattle.std.specs.Prelude.{◌≡◌, List, IfOk};
+ghost use Rattle.std.specs.Prelude.{◌≡◌, List, IfOk, None};
 ghost use mathlib.Core.List.{IsPrefix};
 ghost use Rattle.ghc_fire.specs.Meter.{fired, one_more};
 ghost use Rattle.ghc_records.specs.Journal.{Item};
@@ -10,13 +10,14 @@ ghost use Rattle.ghc_core.specs.CommandCode.{command_of};
 ghost use Rattle.ghc_shared.specs.declared.calls.Call.TheVariants.{Submit as submitted, Note as asked_note, Command as asked};
 ghost use Rattle.ghc_shared.specs.Passes.{submits_after};
 ghost use Rattle.ghc_shared.specs.Receipts.{IsDecided};
-ghost use Rattle.ghc_shared.specs.inner.Calls.{holding, hands_of, event_of, receipt_of, IsAnswerTo, IsToldOnFront, IsProposal, is_submit};
+ghost use Rattle.ghc_shared.specs.inner.Calls.{holding, hands_of, event_of, receipt_of, IsAnswerTo, IsToldOnFront, IsProposal, ListsWoken, is_submit};
 
 use crate::calls::Call;
 use crate::naming::Naming;
 use crate::pass::Pass;
 use crate::receipt::Receipt;
 use crate::shared::Shared;
+use crate::waking::list_woken;
 use ghc_core::{Command, Core, Reply, leaves_is_one, legal_is_reachable};
 use ghc_fire::{Meter, Proposal};
 use ghc_term::{Fault, GoalName};
@@ -49,6 +50,32 @@ impl<N: Naming> Shared<Core, N> {
         let core = &held.value;
         core.stands();
         core.attempt(alloc, meter, goal, choice)
+    }
+
+    /// Proposes a step of the goal, a call by the least clause that accepts it, as `propose` does, and lists the goals that the step
+    /// would wake, as far as there is memory: those whose notes looked at a variable that it binds. Both are looked up under one
+    /// holding of the read side; the list costs a look-up for each variable bound and a place for each goal.
+    pub fn propose_and_list<R: Wait>(
+        &self,
+        rt: &R,
+        alloc: Global,
+        meter: &mut Meter,
+        goal: GoalName,
+        woken: &mut Vec<GoalName>,
+    ) -> Result<Proposal, Fault>
+        ensures answer { (w : World) × IsProposal N.opened w goal None result × ListsWoken w result woken.old.items woken.new.items }
+        ensures counted { meter.new ≡ fired meter.old }
+    {
+        let held = self.lock.read(rt);
+        let core = &held.value;
+        core.stands();
+        match core.attempt(alloc, meter, goal, None) {
+            Ok(proposal) => {
+                list_woken(core, &proposal, woken);
+                Ok(proposal)
+            }
+            Err(fault) => Err(fault),
+        }
     }
 
     // Asks the core, and tells it by the core's words.

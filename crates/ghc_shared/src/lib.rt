@@ -16,6 +16,7 @@ mod receipt;
 mod shared;
 mod telling;
 mod tending;
+mod waking;
 
 pub use calls::{Call, HistoryItem};
 pub use core_calls::Shown;

@@ -13,6 +13,10 @@ hand parts put got = record { parts = parts; put = put; got = got }
 abbrev pub all_parts : ℕ
 all_parts = 128
 
+-- how many permits of the limit a worker is given at once, at most
+abbrev pub most_permits : ℕ
+most_permits = 32
+
 -- the weights of the items, added up
 abbrev pub weigh : (GoalName → ℕ) → List GoalName → ℕ
 weigh h [] = 0

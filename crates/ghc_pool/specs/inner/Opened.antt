@@ -13,7 +13,7 @@ use Rattle.ghc_pool.specs.declared.rounds.victim.Victim.{Victim}
 use Rattle.ghc_pool.specs.declared.rounds.worker.Worker.{Worker}
 use Rattle.ghc_pool.specs.declared.rounds.working.Job.{Job}
 use Rattle.ghc_pool.specs.inner.Answers.{Taken}
-use Rattle.ghc_pool.specs.inner.Fair.{hand}
+use Rattle.ghc_pool.specs.inner.Fair.{hand, most_permits}
 use Rattle.ghc_pool.specs.inner.Workers.{work_of, AreVictims, deques, stolen, submits, IsAble, HasRoom, Keeps, KeepsRoom, in_of, out_of}
 use Rattle.ghc_pool.specs.inner.Stops.{IsWell}
 
@@ -72,11 +72,11 @@ abbrev pub AreNew : ℕ → List (RowsId × Global) → List Worker → Type 0
 AreNew k ds [] = Unit {0}
 AreNew k ds (w ∷ ws) = IsStarting k ds w × (w.offered.items ≡ []) × AreNew k ds ws
 
--- The worker has one part of the budget, in which its submits are counted, and the one permit at most that it has not used.
+-- The worker has one part of the budget, in which its submits are counted, and the permits that it has not used, no more than are given at once.
 pub record IsCounted {P L : Type 0} (j : Job P L) : Type 0 where
   pub part : j.share.parts ≡ 1
   pub counted : j.share.amount ≡ submits j.worker.taken.items + j.spare
-  pub one : j.spare ≤ 1
+  pub few : j.spare ≤ most_permits
 
 -- Each is so.
 abbrev pub AreCounted : {P L : Type 0} → List (Job P L) → Type 0

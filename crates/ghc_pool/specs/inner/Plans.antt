@@ -1,14 +1,17 @@
 -- What is to be done with a goal, and what comes of it.
-use Rattle.std.specs.Prelude.{◌≡◌, ◌≤◌, ◌++◌, List, [], ◌∷◌, Bool, true, Option, Some, None}
+use Rattle.std.specs.Prelude.{◌≡◌, ◌≤◌, ◌++◌, List, [], ◌∷◌, Bool, true, Option, Some, None, Ok}
 use base.Stored.{Gv}
 use Rattle.ghc_term.specs.declared.goal_name.GoalName.{GoalName}
 use Rattle.ghc_term.specs.declared.fault.Fault.{Fault}
+use Rattle.ghc_term.specs.Lists.{In}
 use Rattle.ghc_records.specs.Journal.{Item}
 use Rattle.ghc_hooks.specs.Status.{ready, failed}
+use Rattle.ghc_core.specs.World.{World, Proposal}
 use Rattle.ghc_core.specs.Events as events
 use Rattle.ghc_core.specs.EventCode.{reply_of}
 use Rattle.ghc_core.specs.declared.reply.Reply.{Reply}
 use Rattle.ghc_shared.specs.Passes.{Known}
+use Rattle.ghc_shared.specs.inner.Calls.{IsProposal, LooksWhereBound}
 use Rattle.ghc_trace.specs.Spies.{Spies}
 use Rattle.ghc_pool.specs.declared.answer.RoundStop.{RoundStop}
 use Rattle.ghc_pool.specs.declared.answer.RoundStop.TheVariants.{Memory, Limit, Full, Spied, Clash}
@@ -19,9 +22,13 @@ use Rattle.ghc_pool.specs.declared.scope.Scope.{Scope}
 use Rattle.ghc_pool.specs.inner.Answers.{Taken, submits_in, one_if, IsReason}
 use Rattle.ghc_pool.specs.inner.Told.{IsInScope, TellsStatus, IsSpiedGoal, IsRefusedGoal, IsStarvedGoal, IsUnspiedStep, IsPassAfter, AreFedAnswers, Asks}
 
--- A step of the goal, which the round may step, is there to be submitted. Or there is none: the round may not step the goal; or it is a call of a spied predicate, and passed over; or no step of it could be proposed; or memory was refused for that.
+-- Each of these goals looks where a step binds that was proposed of the goal named g, in a world of the opening.
+abbrev pub AreWokenOf : Gv → GoalName → List GoalName → Type 0
+AreWokenOf opened g woken = (h : GoalName) → In h woken → (w : World) × (p : Proposal) × IsProposal opened w g None (Ok p) × LooksWhereBound w p h
+
+-- A step of the goal, which the round may step, is there to be submitted, with goals that look where it binds. Or there is none: the round may not step the goal; or it is a call of a spied predicate, and passed over; or no step of it could be proposed; or memory was refused for that.
 abbrev pub IsPlan : Gv → Scope → Spies → GoalName → Plan → Type 0
-IsPlan opened scope spies g (Submit p) = IsInScope scope g × IsUnspiedStep opened spies g p
+IsPlan opened scope spies g (Submit p woken) = IsInScope scope g × IsUnspiedStep opened spies g p × AreWokenOf opened g woken.items
 IsPlan opened scope spies g Outside = ¬ IsInScope scope g
 IsPlan opened scope spies g Pass = IsSpiedGoal opened spies g
 IsPlan opened scope spies g Refuse = IsRefusedGoal opened g
@@ -63,8 +70,9 @@ module _ (opened : Gv) (scope : Scope) (spies : Spies) (steps : Bool) where
   abbrev pub GoesOnWithout : Known Item → Known Item → Type 0
   GoesOnWithout old new = (start : Known Item) (taken : List Taken) → IsPassAfter opened scope spies steps start taken old → IsPassAfter opened scope spies steps start taken new
 
-  -- The goal named g was decided: a pass that went on so far goes on with this answer. It tells of a submit at most, and of none where no steps are taken. The reason to stop, if there is one, is this answer's.
+  -- The goal named g was decided: a pass that went on so far goes on with this answer. It tells of a submit at most, and of none where no steps are taken. The reason to stop, if there is one, is this answer's. What is woken looks where a step of the goal binds that was proposed.
   pub record IsDecidedAs (g : GoalName) (old new : Known Item) (d : Decided) : Type 0 where
     pub told : (start : Known Item) (taken : List Taken) → IsPassAfter opened scope spies steps start taken old → IsPassAfter opened scope spies steps start (taken ++ (g, d.answer) ∷ []) new
     pub submits : submits_in d.answer ≤ one_if steps
     pub reason : IsReason AreFedAnswers (Asks opened spies steps) d.stop ((g, d.answer) ∷ [])
+    pub woken : AreWokenOf opened g d.woken.items

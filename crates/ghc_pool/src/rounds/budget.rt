@@ -1,5 +1,6 @@
 // How many submits the workers of a round may make together.
-ghost use Rattle.std.specs.Prelude.{◌≡◌, ℕ, ◌+◌, ◌<◌, MatchBool};
+ghost use Rattle.std.specs.Prelude.{◌≡◌, ℕ, ◌+◌, ◌<◌, ◌≤◌};
+ghost use Rattle.ghc_pool.specs.inner.Fair.{most_permits};
 
 use std::marker::Brand;
 use std::sync::ledger::{Book, Ledger, Share};
@@ -11,6 +12,27 @@ pub trait Limited: Ledger {
 
 impl Limited for Brand {
     ghost limit = { 0 };
+}
+
+// Where as many permits are left, several are given at once.
+const MANY: u64 = 4096;
+
+// How many permits are given at once, where many are left.
+const MOST: u64 = 32;
+
+// How many permits are given at once where so many are left: several where they are many, else one, so that each worker gets some.
+fn given_at_once(left: u64) -> u64
+    ensures there { result ≤ left }
+    ensures few { result ≤ most_permits }
+    ensures none { result ≡ 0 → left ≡ 0 }
+{
+    if left >= MANY {
+        return MOST;
+    }
+    if left > 0 {
+        return 1;
+    }
+    0
 }
 
 // The permits that were given, and how many may still be given: one for each submit that the limit allows.
@@ -29,19 +51,19 @@ impl<L: Limited> Budget<L> {
         Budget { left: limit, made }
     }
 
-    // Gives a permit, and counts it; or none is left.
-    pub fn permit(&mut self, mine: &mut Share<L>) -> bool
+    // Gives permits, and counts them: as many as are given at once, or none where none is left.
+    pub fn permits(&mut self, mine: &mut Share<L>) -> u64
         requires { 0 < mine.old.parts }
         ensures parts { mine.new.parts ≡ mine.old.parts }
-        ensures amount { MatchBool result (mine.new.amount ≡ mine.old.amount + 1) ((mine.new.amount ≡ mine.old.amount) × (self.new.left ≡ 0)) }
+        ensures amount { mine.new.amount ≡ mine.old.amount + result }
+        ensures few { result ≤ most_permits }
+        ensures none { result ≡ 0 → self.new.left ≡ 0 }
     {
-        if self.left == 0 {
-            return false;
-        }
+        let given = given_at_once(self.left);
         let Budget { left, made } = self;
-        made.add(mine, 1);
-        *left -= 1;
-        true
+        made.add(mine, given);
+        *left -= given;
+        given
     }
 
     // How many permits were not given.

@@ -28,10 +28,10 @@ impl<L: Limited> Permits<L> {
             share,
             spare,
         } = self;
-        if budget.permit(share) {
-            *spare = 1;
-            return true;
+        *spare = budget.permits(share);
+        if *spare == 0 {
+            return false;
         }
-        false
+        true
     }
 }

@@ -22,7 +22,7 @@ use crate::rounds::working::{Crew, Job};
 use ghc_shared::tend_all;
 use ghc_term::GoalName;
 use std::alloc::Global;
-use std::sync::atomic::AtomicBool;
+use std::sync::atomic::{AtomicBool, AtomicU64};
 use std::sync::ledger::{Blank, Share};
 use std::sync::{Mutex, Wait};
 use std::thread::Threads;
@@ -180,11 +180,13 @@ fn work_in_threads<P: Send, C: Craft<P> + Sync, L: Limited + Send + Sync, R: Thr
 {
     let budget = Mutex::new(budget);
     let halted = AtomicBool::new(false);
+    let at_work = AtomicU64::new(0);
     let crew = Crew {
         rt,
         craft,
         budget: &budget,
         halted: &halted,
+        at_work: &at_work,
     };
     let threads = jobs.len();
     tend_all(rt, &crew, jobs.as_mut_slice(), threads);

@@ -2,16 +2,18 @@
 ghost use Rattle.std.specs.Prelude.{◌≡◌, ◌≤◌, ◌+◌, ◌<◌, [], ◌∷◌, true, None};
 ghost use Rattle.std.specs.Vec.{vec_len};
 ghost use Rattle.crossbeam_deque.specs.Handles.{worker_view};
+ghost use Rattle.ghc_pool.specs.inner.Fair.{most_permits};
 ghost use Rattle.ghc_pool.specs.inner.Workers.{work_of, IsAble, HasRoomToAnswer, Keeps, KeepsRoom, IsOfferedOrStopped, submits};
 ghost use Rattle.ghc_pool.specs.inner.Stops.{IsWell};
 ghost use Rattle.ghc_pool.specs.inner.Opened.{Works, HasWorked};
 
 use crate::craft::{Craft, Decided};
 use crate::rounds::budget::{Budget, Limited};
+use crate::rounds::looking::{begin_work, end_work, look};
 use crate::rounds::worker::{Found, Worker};
 use ghc_shared::Tender;
 use ghc_term::GoalName;
-use std::sync::atomic::{AtomicBool, Ordering};
+use std::sync::atomic::{AtomicBool, AtomicU64, Ordering};
 use std::sync::ledger::Share;
 use std::sync::{Mutex, Wait};
 
@@ -43,7 +45,40 @@ impl Worker {
         }
     }
 
-    // The name that is in hand is decided, and the goals that are made are offered.
+    // Offers the goals that a step woke, as far as there is memory.
+    fn offer_woken(&mut self, woken: &[GoalName])
+        requires able { IsAble self.old }
+        ensures keeps { Keeps [] [] self.old self.new }
+        ensures room { KeepsRoom self.old self.new }
+        ensures got { (worker_view self.new.owner).got ≡ (worker_view self.old.owner).got }
+        ensures taken { self.new.taken ≡ self.old.taken }
+        ensures stop { IsOfferedOrStopped self.old self.new }
+    {
+        for name in woken {
+            if !self.offer(*name) {
+                return;
+            }
+        }
+    }
+
+    // Offers the goals that a step made, and then those that it woke, as far as there is memory. Where no step was taken it has the
+    // number 0, and nothing is offered.
+    fn offer_of_step(&mut self, step: u32, made: u32, woken: &[GoalName])
+        requires able { IsAble self.old }
+        ensures keeps { Keeps [] [] self.old self.new }
+        ensures room { KeepsRoom self.old self.new }
+        ensures got { (worker_view self.new.owner).got ≡ (worker_view self.old.owner).got }
+        ensures taken { self.new.taken ≡ self.old.taken }
+        ensures stop { IsOfferedOrStopped self.old self.new }
+    {
+        self.offer_made(step, made);
+        if step == 0 || self.stop.is_some() {
+            return;
+        }
+        self.offer_woken(woken);
+    }
+
+    // The name that is in hand is decided, and the goals that its step makes are offered, and those that it wakes.
     pub fn handle<P, C: Craft<P>>(
         &mut self,
         craft: &C,
@@ -70,17 +105,19 @@ impl Worker {
             stop,
             step,
             made,
+            woken,
         } = craft.decide(number, pass, name);
         *spare -= answer.submits();
         self.answer(name, answer, stop);
         if stop.is_some() {
             return;
         }
-        self.offer_made(step, made);
+        self.offer_of_step(step, made, &woken);
     }
 }
 
-// Whether a name may be taken: where steps are taken, a permit is needed that is not used.
+// Whether a name may be taken: where steps are taken, a permit is needed that is not used. Several are asked for at once, so that
+// workers seldom meet at the budget.
 fn is_permitted<P, C: Craft<P>, L: Limited, R: Wait>(
     rt: &R,
     craft: &C,
@@ -91,26 +128,28 @@ fn is_permitted<P, C: Craft<P>, L: Limited, R: Wait>(
     requires { share.old.parts ≡ 1 }
     ensures part { share.new.parts ≡ 1 }
     ensures one { result ≡ true → C.takes craft.now ≡ true → 0 < spare.new }
-    ensures few { spare.old ≤ 1 → spare.new ≤ 1 }
+    ensures few { spare.old ≤ most_permits → spare.new ≤ most_permits }
     ensures counted { share.new.amount + spare.old ≡ share.old.amount + spare.new }
 {
     if !craft.takes_steps() || *spare > 0 {
         return true;
     }
-    if budget.lock(rt).permit(share) {
-        *spare = 1;
-        return true;
+    *spare = budget.lock(rt).permits(share);
+    if *spare == 0 {
+        return false;
     }
-    false
+    true
 }
 
-// Works until the worker stops, finds that another has stopped, finds no name, or gets no permit where steps are taken. A worker
-// that stops sets `halted`, and each looks at it before it takes a name: so what they have in hand is all that they still do.
+// Works until the worker stops, finds that another has stopped, finds no name while nobody is at work who could offer one, or gets no
+// permit where steps are taken. A worker that stops sets `halted`, and each looks at it before it takes a name: so what they have in
+// hand is all that they still do.
 fn work<P, C: Craft<P>, L: Limited, R: Wait>(
     rt: &R,
     craft: &C,
     budget: &Mutex<Budget<L>>,
     halted: &AtomicBool,
+    at_work: &AtomicU64,
     job: &mut Job<P, L>,
 )
     requires { Works (C.fed craft.now) (C.asks craft.now) job.old }
@@ -134,7 +173,7 @@ fn work<P, C: Craft<P>, L: Limited, R: Wait>(
         if !is_permitted(rt, craft, budget, share, spare) {
             return;
         }
-        match worker.take() {
+        match look(rt, at_work, worker) {
             Found::Name(name) => worker.handle(craft, *number, pass, spare, name),
             Found::Again => {}
             Found::Nothing => return,
@@ -142,13 +181,15 @@ fn work<P, C: Craft<P>, L: Limited, R: Wait>(
     }
 }
 
-// What the workers share. A worker that has a reason to stop sets `halted`, and each looks at it before it takes a name.
+// What the workers share. A worker that has a reason to stop sets `halted`, and each looks at it before it takes a name; `at_work`
+// counts those that have a name or look for one.
 #[derive(Drop)]
 pub struct Crew<'a, C, L: Limited, R: Wait> {
     pub rt: &'a R,
     pub craft: &'a C,
     pub budget: &'a Mutex<Budget<L>>,
     pub halted: &'a AtomicBool,
+    pub at_work: &'a AtomicU64,
 }
 
 impl<P, C: Craft<P>, L: Limited, R: Wait> Tender<Job<P, L>> for Crew<'_, C, L, R> {
@@ -159,6 +200,15 @@ impl<P, C: Craft<P>, L: Limited, R: Wait> Tender<Job<P, L>> for Crew<'_, C, L, R
     ghost does = { λ crew old new. HasWorked (C.fed crew.craft.now) (C.asks crew.craft.now) (C.tells crew.craft.now) old new };
 
     fn tend(&self, job: &mut Job<P, L>) {
-        work(self.rt, self.craft, self.budget, self.halted, job);
+        begin_work(self.at_work);
+        work(
+            self.rt,
+            self.craft,
+            self.budget,
+            self.halted,
+            self.at_work,
+            job,
+        );
+        end_work(self.at_work);
     }
 }

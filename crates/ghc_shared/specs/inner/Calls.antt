@@ -1,10 +1,15 @@
 -- Calls of a shared core, and their answers.
 use base.Stored.{Gv}
-use Rattle.std.specs.Prelude.{◌≡◌, ◌⊎◌, ℕ, ◌-◌, Bool, true, false, List, Option, Some, None, Result, Err}
+use Rattle.std.specs.Prelude.{◌≡◌, ◌⊎◌, ℕ, ◌-◌, Bool, true, false, List, Option, Some, None, Result, Ok, Err, IsTrue}
 use Rattle.std.specs.FinMap as finite
 use Rattle.ghc_term.specs.declared.goal_name.GoalName.{GoalName}
+use Rattle.ghc_term.specs.declared.var_name.VarName.{VarName}
 use Rattle.ghc_term.specs.declared.fault.Fault.{Fault}
+use Rattle.ghc_term.specs.Goal.{Goal}
+use Rattle.ghc_term.specs.Lists.{In}
+use Rattle.ghc_term.specs.Store.{value_at}
 use Rattle.ghc_term.specs.Answered.{Answered}
+use Rattle.ghc_match.specs.Looked.{GoalLooksAt}
 use Rattle.ghc_fire.specs.Attempt.{refused}
 use Rattle.ghc_records.specs.Journal.{Opening, Entry, Item, entered}
 use Rattle.ghc_records.specs.inner.RecordCode.{opening_code}
@@ -90,3 +95,12 @@ pub record IsProposal (opened : Gv) (w : World) (goal : GoalName) (choice : Opti
   pub answer : Answered (IsProposedIn w goal choice) (λ f. AttemptAnswers w goal choice (refused f)) result
   pub no_goal : AttemptAnswers w goal choice (refused Fault.NoGoal) → result ≡ Err Fault.NoGoal
   pub no_clause : AttemptAnswers w goal choice (refused Fault.NoClause) → result ≡ Err Fault.NoClause
+
+-- In the world w the goal named g is there, and a trial of it looks at a variable that the proposal binds.
+abbrev pub LooksWhereBound : World → Proposal → GoalName → Type 0
+LooksWhereBound w p g = (b : Goal) × (x : VarName) × (finite.get w.state.goals g ≡ Some b) × GoalLooksAt w.opening.program (value_at w.state.store) b x × IsTrue (finite.contains_key p.effect.binds x)
+
+-- Where a step was proposed in the world w, each name that the list has more is that of a goal that looks where the step binds.
+abbrev pub ListsWoken : World → Result Proposal Fault → List GoalName → List GoalName → Type 0
+ListsWoken w (Ok p) old new = (g : GoalName) → In g new → In g old ⊎ LooksWhereBound w p g
+ListsWoken w (Err f) old new = new ≡ old

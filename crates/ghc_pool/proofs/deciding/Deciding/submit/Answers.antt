@@ -4,5 +4,5 @@ use Rattle.ghc_pool.proofs.deciding.Deciding.submit.Goals as goal
 pub returns : goal.returns
 returns g c =
     let call = c.submit-receipt.ensures in
-    decided_submit g.N.Naming.opened c.args.self.now.scope.now c.args.self.now.spies.now c.args.self.now.steps c.args.goal c.args.pass.now c.submit-receipt.new.me _ _ call.decided.0 c.args.proposal c.submit-receipt.result c.stop_of_submit-stop.result c.requires.steps c.requires.inside c.requires.proposed call.number call.begins call.submits call.decided.1 call.answered
-    c.stop_of_submit-stop.ensures
+    decided_submit g.N.Naming.opened c.args.self.now.scope.now c.args.self.now.spies.now c.args.self.now.steps c.args.goal c.args.pass.now c.submit-receipt.new.me _ _ _ call.decided.0 c.args.proposal c.submit-receipt.result c.stop_of_submit-stop.result c.requires.steps c.requires.inside c.requires.proposed call.number call.begins call.submits call.decided.1 call.answered
+    c.stop_of_submit-stop.ensures c.requires.woken

@@ -1,4 +1,4 @@
-use Rattle.ghc_pool.proofs.Words.{◌<◌, ◌++◌, ◌∷◌, length, drop, sym, ap, ◌∙◌, subst, arith, Job, over, submits_of, IsCounted, AreCounted, workers_in, passes_in}
+use Rattle.ghc_pool.proofs.Words.{◌<◌, ◌≤◌, ◌++◌, ◌∷◌, length, drop, sym, ap, ◌∙◌, subst, arith, Job, over, submits_of, IsCounted, AreCounted, workers_in, passes_in}
 use Rattle.ghc_pool.proofs.Jobs.{first_counted, over_last, put_between}
 use Rattle.ghc_pool.proofs.rounds.together.dismiss.Goals as goal
 
@@ -21,7 +21,7 @@ loop-moved-preserved g c =
       subst AreCounted (sym rest) first.1,
       omega (arith, c.merge.ensures.parts, was.3, is.part),
       omega (arith, c.merge.ensures.amount, was.4, is.counted, ap (λ l. over submits_of l) push.items, over_last submits_of c.loop-moved.workers.items j.worker),
-      omega (arith, was.5, is.one),
+      (let few : j.spare ≤ 32 = is.few in omega (arith, was.5, few)),
       omega (arith, out.len, was.6),
       omega (arith, push.len, was.7),
       omega (arith, push'.len, was.8),

@@ -9,9 +9,9 @@ loop-preserved-in-Name g c =
     let permit = c.if-not-is_permitted.ensures in
     let take = c.in-Name.ensures in
     let handle = c.handle.ensures in
-    let met = keeps_after [] (c.in-Name.name ∷ []) [] c.loop.worker c.take.new.self c.handle.new.self take.found.0 handle.keeps in (
+    let met = keeps_after [] (c.in-Name.name ∷ []) [] c.loop.worker c.look.new.worker c.handle.new.self take.found.0 handle.keeps in (
       keeps_after [] [] [] _ _ _ was.0 met,
-      room_after c.args.job.now.worker c.loop.worker c.handle.new.self was.1 (room_after c.loop.worker c.take.new.self c.handle.new.self (room_same c.loop.worker c.take.new.self take.same) handle.room),
+      room_after c.args.job.now.worker c.loop.worker c.handle.new.self was.1 (room_after c.loop.worker c.look.new.worker c.handle.new.self (room_same c.loop.worker c.look.new.worker take.same) handle.room),
       handle.well,
       permit.part,
       omega (arith, permit.counted, was.4, handle.spent, ap (λ l. submits l) take.same.taken),
@@ -25,8 +25,8 @@ loop-preserved g c =
     let permit = c.if-not-is_permitted.ensures in
     let take = c.in-Again.ensures in (
       keeps_after [] [] [] _ _ _ was.0 take.found,
-      room_after c.args.job.now.worker c.loop.worker c.take.new.self was.1 (room_same c.loop.worker c.take.new.self take.same),
-      well_same (g.C.Craft.fed c.args.craft.now) (g.C.Craft.asks c.args.craft.now) c.loop.worker c.take.new.self take.same was.2,
+      room_after c.args.job.now.worker c.loop.worker c.look.new.worker was.1 (room_same c.loop.worker c.look.new.worker take.same),
+      well_same (g.C.Craft.fed c.args.craft.now) (g.C.Craft.asks c.args.craft.now) c.loop.worker c.look.new.worker take.same was.2,
       permit.part,
       omega (arith, permit.counted, was.4, ap (λ l. submits l) take.same.taken),
       permit.few was.5,
@@ -41,7 +41,7 @@ returns-in-Nothing g c =
     let keeps = keeps_after [] [] [] _ _ _ was.0 take.found in
     record {
       keeps = keeps;
-      room = room_after c.args.job.now.worker c.loop.worker c.take.new.self was.1 (room_same c.loop.worker c.take.new.self take.same);
-      works = (keeps.able, well_same (g.C.Craft.fed c.args.craft.now) (g.C.Craft.asks c.args.craft.now) c.loop.worker c.take.new.self take.same was.2, record { part = permit.part; counted = omega (arith, permit.counted, was.4, ap (λ l. submits l) take.same.taken); one = permit.few was.5 });
+      room = room_after c.args.job.now.worker c.loop.worker c.look.new.worker was.1 (room_same c.loop.worker c.look.new.worker take.same);
+      works = (keeps.able, well_same (g.C.Craft.fed c.args.craft.now) (g.C.Craft.asks c.args.craft.now) c.loop.worker c.look.new.worker take.same was.2, record { part = permit.part; counted = omega (arith, permit.counted, was.4, ap (λ l. submits l) take.same.taken); few = permit.few was.5 });
       told = λ start told. subst (λ l. g.C.Craft.tells c.args.craft.now start l c.loop.pass) (sym take.same.taken) (was.6 start told);
     }
