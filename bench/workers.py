@@ -1,18 +1,24 @@
 #!/usr/bin/env python3
-"""Times runs by several workers, and prints a table: bench/workers.py [--runs N] [--only WORD] [--workers N,N,..] [PROGRAM]
+"""Times runs by several workers, and prints a table: bench/workers.py [--runs N] [--only WORD] [--workers N,N,..] [--instructions] [PROGRAM]
 
 PROGRAM is the built program, ../crates/ghcdb/out/ghcdb where none is named. Each row is one `leap`: of a program whose matching is
 heavy, and of some whose steps are light. Columns are numbers of workers (1, 2 and 4): the time by the clock, the processor time of
 all threads, and how many times faster by the clock it is than the first. What the program takes to start is taken off; the lines of
-the steps are made and thrown away. The figure is the median of N runs (5). --only takes the rows whose name has WORD. Nothing here
-passes or fails: figures depend on the machine, and on what else it does, so compare only what one run has measured.
+the steps are made and thrown away. The figure is the median of N runs (5). --only takes the rows whose name has WORD. Where there is
+`strace`, a last column tells in how many rounds the most workers made the run: each round starts one thread fewer than there are
+workers. Where there is `valgrind`, --instructions tells in place of the times how many instructions all threads took together, in
+millions; there threads take turns, so those that rest look for goals more often. Nothing here passes or fails: times depend on the
+machine, and on what else it does, so compare only what one run has measured.
 """
 
 import argparse
 import os
+import re
+import shutil
 import statistics
 import subprocess
 import sys
+import tempfile
 import time
 
 HERE = os.path.dirname(os.path.abspath(__file__))
@@ -47,6 +53,39 @@ def timed(words, runs):
     return [max(0.0, statistics.median(them) - statistics.median(those)) for them, those in zip(zip(*leaps), zip(*starts))]
 
 
+def rounds_of(words, workers):
+    """In how many rounds the leap was made, as text: by one thread there are none, and without `strace` nothing is told."""
+    if workers == 1 or not shutil.which("strace"):
+        return ""
+    with tempfile.NamedTemporaryFile() as told:
+        watch = ["strace", "-f", "-qq", "-e", "trace=clone,clone3", "-o", told.name]
+        subprocess.run([*watch, *words], input=b"leap\n", stdout=subprocess.DEVNULL, check=True)
+        started = sum(1 for line in told.read().splitlines() if b"= -1" not in line and b"resumed" not in line)
+    return f"{-(-started // (workers - 1)):,} rounds"
+
+
+def instructions_of(words):
+    """How many instructions the session takes, by all threads."""
+    watch = ["valgrind", "--tool=callgrind", "--callgrind-out-file=/dev/null"]
+    told = subprocess.run([*watch, *words], input=b"leap\n", stdout=subprocess.DEVNULL, stderr=subprocess.PIPE, check=True).stderr
+    return int(re.search(rb"Collected : (\d+)", told)[1])
+
+
+def row_of(words_by_workers, given):
+    """The columns of a row: for each number of workers its times, or its instructions."""
+    first, line = None, ""
+    for words in words_by_workers:
+        if given.instructions:
+            count = instructions_of(words)
+            first = first or count
+            line += f"{count / 1e6:>23.1f} M{count / first:>7.2f}"
+            continue
+        clock, processor = timed(words, given.runs)
+        first = first or clock
+        line += f"{clock * 1000:>11.1f} ms{processor * 1000:>8.1f} ms{first / max(clock, 1e-6):>7.2f}"
+    return line
+
+
 def steps_of(words):
     """How many steps the leap takes, and why it stops."""
     told = subprocess.run(words, input=b"leap\n", stdout=subprocess.PIPE, check=True).stdout
@@ -59,20 +98,20 @@ def main():
     parser.add_argument("--runs", type=int, default=5)
     parser.add_argument("--only", default="")
     parser.add_argument("--workers", type=lambda text: [int(word) for word in text.split(",")], default=[1, 2, 4])
+    parser.add_argument("--instructions", action="store_true")
     given = parser.parse_args()
     if not os.access(given.program, os.X_OK):
         sys.exit(f"there is no program {given.program}: build it first, by ./ghcdb --prove")
-    print(f"{'':28}{'steps':>9}" + "".join(f"{f'{it} workers':>14}{'processor':>11}{'times':>7}" for it in given.workers))
+    what = "" if given.instructions else "processor"
+    print(f"{'':28}{'steps':>9}" + "".join(f"{f'{it} workers':>14}{what:>11}{'times':>7}" for it in given.workers))
     for name, (file, query) in ROWS.items():
         if given.only not in name:
             continue
-        first, line = None, ""
-        for workers in given.workers:
-            clock, processor = timed(words_of(given.program, file, query, workers), given.runs)
-            first = first or clock
-            line += f"{clock * 1000:>11.1f} ms{processor * 1000:>8.1f} ms{first / max(clock, 1e-6):>7.2f}"
-        steps, ended = steps_of(words_of(given.program, file, query, given.workers[0]))
-        print(f"{name:28}{steps:>9,}{line}" + ("" if ended == "stopped quiet" else f"  {ended}"), flush=True)
+        words = [words_of(given.program, file, query, workers) for workers in given.workers]
+        line = row_of(words, given)
+        steps, ended = steps_of(words[0])
+        rounds = rounds_of(words[-1], given.workers[-1])
+        print(f"{name:28}{steps:>9,}{line}{rounds:>14}" + ("" if ended == "stopped quiet" else f"  {ended}"), flush=True)
 
 
 if __name__ == "__main__":
