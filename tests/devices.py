@@ -67,6 +67,13 @@ SHELLS = [
         "stopped memory\nX = _0_1\n",
     ),
     Shell(
+        "what was done is saved when memory runs out, line by line",
+        "(ulimit -v 66000; printf 'leap\\nrecords\\nsave\\n' | $ghcdb loop.ghc --query 'loop(X)')"
+        " | sed -n -e '/^stopped/p' -e '/^F1/p' -e '/^ghc-history 2$/,$w saved';"
+        " printf 'save\\n' | $ghcdb loop.ghc --query 'loop(X)' --load saved | cmp - saved && grep -c '^[0-9]' saved",
+        "stopped memory\n131071\n",
+    ),
+    Shell(
         "memory runs out for several workers",
         "ulimit -v 66000; printf 'leap\nshow X\n' | $ghcdb loop.ghc --query 'loop(X), loop(Y)' --workers 4 | grep -v -e '^REDU' -e '^F1 no memory$'",
         "stopped memory\nX = _0_1\n",

@@ -12,6 +12,7 @@ The reply to a line that was refused memory has to be
     other replies are as ever; or
   - where it is `keep`, the beginning of its own reply, up to some rollback, and then `F1 no memory`; the line behind it is the same
     again, and its reply is the rest; or
+  - where it is `records` or `save`, its own reply with `F1 no memory` in place of some of its lines, and all other replies are as ever; or
   - where it is a run, a line for each step that it took, by number, or `F1 no memory` in its place, and then `stopped REASON`, or
     `F1 no memory` in its place. `records` before and behind the run tell which steps these are; behind it no line is refused
     memory, and each `show` and `goals` between the last run and the next change is answered as ever.
@@ -42,6 +43,7 @@ from lib.texts import APPEND, HISTORY, MANY, SUM
 
 MOST = 400
 CHANGES = ("step", "in", "end", "ask", "undo", "roll", "redo", "arrange")
+LISTINGS = ("records", "save")  # whole lines of the console
 SHOWN = ("show", "goals")
 
 WAITS = "p(a,_) :- true | true.\np(_,b) :- true | true.\nq(a,b) :- true | true.\n"
@@ -207,6 +209,8 @@ class Case:
             return self.fits_run(at, got)
         if self.word(at) == "keep":
             return self.fits_keep(at, got)
+        if self.lines[at - 1] in LISTINGS:
+            return tells_lines(got[at], plain[at]) and got[:at] == plain[:at] and got[at + 1 :] == plain[at + 1 :]
         return self.word(at) in CHANGES and got == plain[:at] + [front(plain[at]) + F1] + plain[at + 1 :]
 
     def fits_run(self, at, got):
@@ -241,6 +245,12 @@ def tells_steps(told, steps):
     if len(told) != len(steps) + 1 or not (told[-1] == F1 or told[-1].startswith(b"stopped ")):
         return False
     return all(line == F1 or line.startswith(b"REDU %d " % step) for line, step in zip(told, steps))
+
+
+def tells_lines(told, whole):
+    """Whether the reply has the lines of the whole one, with F1 in place of some of them."""
+    got, lines = told.splitlines(True), whole.splitlines(True)
+    return len(got) == len(lines) and all(one in (line, F1) for one, line in zip(got, lines))
 
 
 def front(reply):

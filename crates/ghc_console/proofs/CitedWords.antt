@@ -1,14 +1,16 @@
 -- The words of other crates and of the definitions that the proofs cite, from one place.
-pub use Rattle.ghc_console.specs.inner.Answered.{AsksForRun, HasRun, IsAnsweredBy, IsCommandAnsweredBy, ServesSo, leap_asks, skip_asks}
+pub use Rattle.ghc_console.specs.inner.Answered.{AsksForListing, AsksForRun, HasRun, IsAnsweredBy, IsCommandAnsweredBy, ServesSo, leap_asks, records_asks, save_asks, skip_asks}
 pub use Rattle.ghc_console.specs.AskedFor.{IsReadAskFor}
 pub use Rattle.ghc_console.specs.Commands.{arrange_with, command_of, command_of_words, step_with}
 pub use Rattle.ghc_console.specs.inner.Device.{Counts, WritesFront}
 pub use Rattle.ghc_console.specs.Firing.{Fires, FiresInObeying, firings_in, firings_of, firings_of_obeying, runs_in, runs_of}
 pub use Rattle.ghc_console.specs.LineMemory.{BeginsWithNumber, TakesMemory, for_numbers}
 pub use Rattle.ghc_console.specs.Lines.{line_feeds, line_of, lines_of, onto, rows_of}
+pub use Rattle.ghc_console.specs.ListingLaws.{ListingsAreWhole, SaysMemory}
+pub use Rattle.ghc_console.specs.Listings.{TellsListing, records_listed, records_text, saved_text, session_listed}
 pub use Rattle.ghc_console.specs.PredicateWords.{is_name, predicate_named, predicate_of, predicate_of_parts}
 pub use Rattle.ghc_console.specs.Reading.{AsksAtNeed, CountsGiven, HasGathered, IsMadeOf, IsNextLine, LineSays, TakesFirst, TakesFront, TakesLine, line_limit}
-pub use Rattle.ghc_console.specs.Replies.{Answers, IsFrontOf, IsObeyed, IsReply, RepliesToAsk, RepliesToGoals, RepliesToInput, RepliesToKeep, RepliesToSaveSteps, RepliesToShow, RepliesToSpy, RepliesToStep, RepliesToWho, RepliesToWhy, Settled, TellsChange, TellsSlot, asks, fails, full, goal_too_long, has_asked, is_spied, is_undefined, keeps, keeps_nothing, lined, lines_or_none, lists, names_nothing, no_goals, no_memory, no_variable, not_kept, numbers_text, obeys, print_limit, quits, reads, record_lines, records_text, refusal, refuses, replies, saved_text, settled, shows, steps, steps_told, takes, tells_binders, tells_history, tells_reasons, text_lines, too_long, unasked, unread, unsettled}
+pub use Rattle.ghc_console.specs.Replies.{Answers, IsFrontOf, IsObeyed, IsReply, RepliesToAsk, RepliesToGoals, RepliesToInput, RepliesToKeep, RepliesToSaveSteps, RepliesToShow, RepliesToSpy, RepliesToStep, RepliesToWho, RepliesToWhy, Settled, TellsChange, TellsSlot, asks, fails, full, goal_too_long, has_asked, is_spied, is_undefined, keeps, keeps_nothing, lined, lines_or_none, lists, names_nothing, no_goals, no_memory, no_variable, not_kept, numbers_text, obeys, print_limit, quits, reads, record_lines, refusal, refuses, replies, settled, shows, steps, steps_told, takes, tells_binders, tells_history, tells_reasons, text_lines, too_long, unasked, unread, unsettled}
 pub use Rattle.ghc_console.specs.RunReplies.{AreLinesTold, IsAdded, IsLineTold, RepliesToSkip, TellsRun, and_line, last_of, mode_of, no_goal, no_line, run_lines, skips, step_line, stop_line}
 pub use Rattle.ghc_console.specs.ScheduleReplies.{Hears, IsAskedOf, IsDoneBy, IsGiven, PlaysCommand, does, reply_text, starves, told_text}
 pub use Rattle.ghc_console.specs.ScheduleText.{ArePlayedOut, BrokenOff, Schedule, WritesSchedule, hand_count, nothing_more, part_of_records, part_of_reply, then_begun, then_whole, told_at_end, with_hands}
@@ -19,7 +21,7 @@ pub use Rattle.ghc_console.specs.VariableNamed.{IsGivenName, IsVariableNamed, nu
 pub use Rattle.ghc_console.specs.Words.{behind, from_space, goal_name_of, goal_named, goal_of_parts, in_front, is_printable, is_variable, number_of, numbers_of, unindented, words_of}
 pub use Rattle.ghc_console.specs.inner.WritesTold.{WritesTold}
 pub use Rattle.ghc_console.specs.declared.answered.Answered.{Answered}
-pub use Rattle.ghc_console.specs.declared.answered.Answered.TheVariants.{Asks, Ends, Told}
+pub use Rattle.ghc_console.specs.declared.answered.Answered.TheVariants.{Asks, Ends, Lists, Told}
 pub use Rattle.ghc_console.specs.declared.command.LineCommand.{LineCommand}
 pub use Rattle.ghc_console.specs.declared.command.LineCommand.TheVariants.{Ask, Goals, Input, Keep, Leap, Nothing, Obey, Quit, Records, Save, SaveSteps, Shelf, Show, Skip, Spy, Step, Unknown, Unspy, Who, Why}
 pub use Rattle.ghc_console.specs.declared.line_buffer.Gathered.{Gathered}
@@ -57,13 +59,18 @@ pub use Rattle.ghc_records.proofs.Listing.{led, led_next}
 pub use Rattle.ghc_records.proofs.OrderLemmas.{record_once}
 pub use Rattle.ghc_records.proofs.SlotRanks.{rank, rank_end, rank_gap, rank_next, rank_stands, rank_zero}
 pub use Rattle.ghc_records.specs.Chronicle.{chronicle_of}
-pub use Rattle.ghc_records.specs.ChronicleText.{chronicle_text}
-pub use Rattle.ghc_records.specs.HistoryText.{history_text}
+pub use Rattle.ghc_records.specs.ChronicleText.{chronicle_heading, chronicle_lines, entries_line, opening_line, spies_line}
+pub use Rattle.ghc_records.specs.EntryText.{entry_text}
+pub use Rattle.ghc_records.specs.History.{History}
+pub use Rattle.ghc_records.specs.HistoryText.{end_line, history_text, lines_text}
+pub use Rattle.ghc_records.specs.Journal.{Entry}
 pub use Rattle.ghc_records.specs.Orders.{AreDistinct}
 pub use Rattle.ghc_records.specs.Record.{Record, numbers}
 pub use Rattle.ghc_records.specs.Replay.{IsVariableOf}
-pub use Rattle.ghc_records.specs.inner.Slots.{SlotList, held_in}
-pub use Rattle.ghc_records.specs.StepText.{record_text}
+pub use Rattle.ghc_records.specs.inner.Slots.{SlotList, StandsIn, held_in}
+pub use Rattle.ghc_records.specs.Predicates.{predicate_text as chronicle_predicate_text}
+pub use Rattle.ghc_records.specs.StepText.{record_text, step_text}
+pub use Rattle.ghc_records.specs.declared.predicate.Predicate.{Predicate}
 pub use Rattle.ghc_term.proofs.ListsLemmas.{in_at, in_right, not_both}
 pub use Rattle.ghc_term.specs.inner.Code.{var_inj}
 pub use Rattle.ghc_term.specs.Goal.{Goal}
@@ -91,7 +98,7 @@ pub use Rattle.std.proofs.Common.{All, Bool, Bor, Err, HoldsAt, IfOk, IfSome, Is
 pub use Rattle.std.proofs.KnownBytes.{Appends-kept, Appends-nil, Appends-trans, Consumes-kept, Consumes-nil, Keeps-refl, Keeps-trans, prepend_known-nil}
 pub use Rattle.std.proofs.Math.Seq.{drop-append_seam, take-append_seam}
 pub use Rattle.std.proofs.lemmas.Bool.{eq-eqb, eqb-true, false≢true, ne_eqb}
-pub use Rattle.std.proofs.lemmas.List.{drop-drop, drop-take, drop_more, length-drop, length-take, nil_from_length, take_rest}
+pub use Rattle.std.proofs.lemmas.List.{drop-drop, drop-take, drop_more, length-drop, length-take, map-append, nil_from_length, take_rest}
 pub use Rattle.std.proofs.lemmas.List.Elements.{All-append, All-cons, All-head, All-tail}
 pub use Rattle.std.proofs.lemmas.List.Splits.{join_with_byte-slice_split, slice_split-cons_no, slice_split-cons_yes, slice_split_at, slice_split_none}
 pub use Rattle.std.proofs.lemmas.List.Sums.{AllPass-from_list_all, list_all-from_AllPass, sum_by-append}

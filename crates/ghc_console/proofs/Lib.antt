@@ -22,6 +22,8 @@ pub mod LineMemory
 pub mod Spying
 pub mod RunLines
 pub mod RunCommands
+pub mod ListedLines
+mod WholeListings
 pub mod Parting
 pub mod Keeping
 pub mod KeptAlone

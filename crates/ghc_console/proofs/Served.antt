@@ -1,6 +1,7 @@
 -- What it is to have served a line.
-use Rattle.ghc_console.proofs.CitedWords.{◌≡◌, ◌≤◌, ℕ, Bool, true, false, Option, List, [], length, take, refl, sym, subst, Result, Ok, Err, MatchResult, Appends, Keeps, Appends-kept, Appends-nil, GoalName, AsksForRun, HasRun, IsAnsweredBy, ServesSo, command_of, Counts, WritesFront, line_limit, IsReply, refusal, no_memory, Served, SessionState, Answered, Told as told, Ends as ends, Asks as asks}
+use Rattle.ghc_console.proofs.CitedWords.{◌≡◌, ◌≤◌, ℕ, Bool, true, false, Option, List, [], length, take, refl, sym, subst, Result, Ok, Err, MatchResult, Appends, Keeps, Appends-kept, Appends-nil, GoalName, AsksForRun, HasRun, IsAnsweredBy, ServesSo, command_of, Counts, WritesFront, line_limit, IsReply, refusal, no_memory, Served, SessionState, Answered, Told as told, Ends as ends, Asks as asks, Lists as lists, AsksForListing}
 use Rattle.ghc_term.specs.declared.fault.Fault.TheVariants as fault
+use Rattle.ghc_console.specs.declared.answered.Listing.{Listing}
 use Rattle.ghc_console.proofs.RunCommands.{run_replied}
 use Rattle.ghc_console.proofs.SessionLoop.{kept_then}
 
@@ -23,6 +24,11 @@ ends_reply s t bytes text r a e is h = subst (λ b. IsAnsweredBy s bytes text t 
 pub asks_run : {E : Type 0} (s t : SessionState) (bytes text : List ℕ) (r : Result Answered E) (a : Answered) (root : Option GoalName) (limit : ℕ) → r ≡ Ok a → a ≡ asks root limit → IsAnswer s t bytes text r
     → (t ≡ s) × (length bytes ≤ line_limit) × AsksForRun s.world (command_of bytes) root limit
 asks_run s t bytes text r a root limit e is h = subst (λ b. IsAnsweredBy s bytes text t b) is (subst (IsAnswer s t bytes text) e h)
+
+-- the listing for which the line asks
+pub asks_listing : {E : Type 0} (s t : SessionState) (bytes text : List ℕ) (r : Result Answered E) (a : Answered) (listed : Listing) → r ≡ Ok a → a ≡ lists listed → IsAnswer s t bytes text r
+    → (t ≡ s) × (length bytes ≤ line_limit) × AsksForListing (command_of bytes) listed
+asks_listing s t bytes text r a listed e is h = subst (λ b. IsAnsweredBy s bytes text t b) is (subst (IsAnswer s t bytes text) e h)
 
 pub starved_reply : {E : Type 0} (s t : SessionState) (bytes text : List ℕ) (r : Result Answered E) (error : E) → r ≡ Err error → IsAnswer s t bytes text r → IsReply s bytes (refusal fault.Memory) t false
 starved_reply s t bytes text r error e h = subst (IsAnswer s t bytes text) e h
@@ -56,6 +62,10 @@ has_served {E} s t bytes old new ended served =
 pub has_told : {E : Type 0} (s t : SessionState) (bytes : List ℕ) (old new : Option (List ℕ)) (r : Result Answered E) (a : Answered) → r ≡ Ok a → a ≡ told → ServesSo s bytes t old new r
     → (text : List ℕ) × IsReply s bytes text t false × Appends old new text
 has_told {E} s t bytes old new r a e is h = has_served {E = E} s t bytes old new false (subst (λ b. ServesSo {E = E} s bytes t old new (Ok b)) is (subst (ServesSo {E = E} s bytes t old new) e h))
+
+pub has_listed : {E : Type 0} (s t : SessionState) (bytes : List ℕ) (old new : Option (List ℕ)) (r : Result Answered E) (a : Answered) (listed : Listing) → r ≡ Ok a → a ≡ lists listed → ServesSo s bytes t old new r
+    → (text : List ℕ) × IsReply s bytes text t false × Appends old new text
+has_listed {E} s t bytes old new r a listed e is h = has_served {E = E} s t bytes old new false (subst (λ b. ServesSo {E = E} s bytes t old new (Ok b)) is (subst (ServesSo {E = E} s bytes t old new) e h))
 
 pub has_ended : {E : Type 0} (s t : SessionState) (bytes : List ℕ) (old new : Option (List ℕ)) (r : Result Answered E) (a : Answered) → r ≡ Ok a → a ≡ ends → ServesSo s bytes t old new r
     → (text : List ℕ) × IsReply s bytes text t true × Appends old new text

@@ -13,6 +13,8 @@ pub mod Explaining
 pub mod RunReplies
 pub mod Keeping
 pub mod KeepLaws
+pub mod Listings
+pub mod ListingLaws
 pub mod Replies
 pub mod Session
 pub mod ScheduleLines

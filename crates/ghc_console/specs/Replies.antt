@@ -20,7 +20,6 @@ use Rattle.ghc_records.specs.Record.{Record, Shelf, numbers}
 use Rattle.ghc_records.specs.Journal.{step_of}
 use Rattle.ghc_records.specs.StepText.{record_text, step_text}
 use Rattle.ghc_records.specs.HistoryText.{history_text}
-use Rattle.ghc_records.specs.ChronicleText.{chronicle_text}
 use Rattle.ghc_depend.specs.Depend.{IsNotKept}
 use Rattle.ghc_depend.specs.Slices.{IsSliceOf}
 use Rattle.ghc_core.specs.World.{World, IsFull, with_step}
@@ -35,7 +34,6 @@ use Rattle.ghc_core.specs.Change.{Changes}
 use Rattle.ghc_core.specs.Answers.{Fails}
 use Rattle.ghc_core.specs.Asked.{IsAskedFor}
 use Rattle.ghc_core.specs.Load.{AskForGoals, history_of}
-use Rattle.ghc_core.specs.Resume.{chronicle_of_world}
 use Rattle.ghc_trace.specs.Ports.{Port, ArePorts}
 use Rattle.ghc_trace.specs.PortText.{ports_text}
 use Rattle.ghc_trace.specs.News.{Standing, AreNews, news_text}
@@ -45,12 +43,13 @@ use Rattle.ghc_trace.specs.ReasonText.{reason_text}
 use Rattle.ghc_trace.specs.Why.{AreReasonsTold}
 use Rattle.ghc_trace.specs.declared.who_bound.Binder.{Binder}
 use Rattle.ghc_trace.specs.Who.{AreBindersTold, binder_text}
-use Rattle.ghc_trace.specs.Spies.{Spies, spies_in_order}
+use Rattle.ghc_trace.specs.Spies.{Spies}
 pub use Rattle.ghc_console.specs.TextLines.{lined, lines_or_none, numbers_text, record_lines, refusal, text_lines, undone_text}
 use Rattle.ghc_console.specs.Explaining.{RepliesToExplain}
 use Rattle.ghc_console.specs.Looks.{RepliesToSince, RepliesToCauses, RepliesToGoalOf, RepliesToClauses}
 use Rattle.ghc_console.specs.RunReplies.{TellsRun, RepliesToSkip}
 use Rattle.ghc_console.specs.Keeping.{TellsKept}
+pub use Rattle.ghc_console.specs.Listings.{TellsListing, records_listed, records_text, saved_text, session_listed}
 use Rattle.ghc_console.specs.VariableNamed.{IsVariableNamed}
 use Rattle.ghc_console.specs.AskedFor.{IsReadAskFor}
 use Rattle.ghc_console.specs.Commands.{command_of}
@@ -116,11 +115,6 @@ pub data RepliesToShow (w : World) (word : List ℕ) : List ℕ → Type 0 where
 abbrev pub TellsSlot : SlotList → ℕ → List ℕ → List ℕ → Type 0
 TellsSlot ss place before after = ((r : Record) × StandsIn ss place r × (after ≡ before ++ record_lines (r ∷ []))) ⊎ (((r : Record) → ¬ StandsIn ss place r) × (after ≡ before))
 
--- the text of all records, and `none` where there is none
-abbrev pub records_text : List Record → List ℕ
-records_text [] = lined (codes "none")
-records_text (r ∷ rs) = record_lines (r ∷ rs)
-
 -- RepliesToGoals w text: each goal with its status, by name, and `none` where there is no goal; or the refusal where the text of a goal is too long.
 pub data RepliesToGoals (w : World) : List ℕ → Type 0 where
   no_goals : w.state.goals ≡ finite.empty → RepliesToGoals w (lined (codes "none"))
@@ -151,10 +145,6 @@ pub data RepliesToKeep (w : World) (word : List ℕ) : List ℕ → World → Ty
       → RepliesToKeep w word text v
   keeps_nothing : ((x : VarName) → ¬ IsVariableNamed w word x) → RepliesToKeep w word (refusal Fault.NoVariable) w
 
--- the text of the whole session: what it began with, the entries of the journal after that, the spies in order, and the next number
-abbrev pub saved_text : World → Spies → List ℕ
-saved_text w spies = chronicle_text (chronicle_of_world w (spies_in_order spies))
-
 -- RepliesToSaveSteps w text: the history of the kept steps; or the refusal where one of them asks for goals, which no text of that version tells.
 pub data RepliesToSaveSteps (w : World) : List ℕ → Type 0 where
   tells_history : ¬ AskForGoals w.kept → RepliesToSaveSteps w (history_text (history_of w))
@@ -171,7 +161,7 @@ Replies workers spies w nothing text v = (text ≡ []) × (v ≡ w)
 Replies workers spies w (step g choice) text v = RepliesToStep w g choice text v
 Replies workers spies w (obey c) text v = IsObeyed w (core_command_of c) text v
 Replies workers spies w (show word) text v = RepliesToShow w word text × (v ≡ w)
-Replies workers spies w records text v = (text ≡ records_text w.kept) × (v ≡ w)
+Replies workers spies w records text v = TellsListing (records_listed w.kept) text × (v ≡ w)
 Replies workers spies w (since n) text v = RepliesToSince w n text × (v ≡ w)
 Replies workers spies w causes text v = RepliesToCauses w text × (v ≡ w)
 Replies workers spies w (goal_of n) text v = RepliesToGoalOf w n text × (v ≡ w)
@@ -182,7 +172,7 @@ Replies workers spies w (who word) text v = RepliesToWho w word text × (v ≡ w
 Replies workers spies w (explain word) text v = RepliesToExplain w word text × (v ≡ w)
 Replies workers spies w (keep word) text v = RepliesToKeep w word text v
 Replies workers spies w shelf text v = (text ≡ shelf_text w.shelf) × (v ≡ w)
-Replies workers spies w save text v = (text ≡ saved_text w spies) × (v ≡ w)
+Replies workers spies w save text v = TellsListing (session_listed w spies) text × (v ≡ w)
 Replies workers spies w save_steps text v = RepliesToSaveSteps w text × (v ≡ w)
 Replies workers spies w (spy f n) text v = RepliesToSpy w.opening.program f n text × (v ≡ w)
 Replies workers spies w (unspy f n) text v = (text ≡ lined (codes "not spying " ++ predicate_text f n)) × (v ≡ w)

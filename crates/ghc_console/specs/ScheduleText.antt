@@ -8,7 +8,7 @@ use Rattle.ghc_core.specs.Playing.{empty_hands}
 use Rattle.ghc_core.specs.declared.world.World.{World as Played}
 use Rattle.ghc_console.specs.inner.Device.{WritesFront}
 use Rattle.ghc_console.specs.Lines.{lines_of}
-use Rattle.ghc_console.specs.Replies.{records_text}
+use Rattle.ghc_console.specs.Listings.{records_text}
 use Rattle.ghc_console.specs.ScheduleReplies.{Hears, told_text}
 
 -- how many hands play a schedule

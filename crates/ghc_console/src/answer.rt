@@ -1,14 +1,14 @@
 // The replies to lines, each written into a text of the session.
-ghost use Rattle.std.specs.Prelude.{◌≡◌, ◌≤◌, false, [], List, ℕ, length, IfOk, MatchResult, OnErr, OnOk, string_bytes};
+ghost use Rattle.std.specs.Prelude.{◌≡◌, ◌≤◌, false, true, [], List, ℕ, length, IfOk, MatchResult, OnErr, OnOk, string_bytes};
 ghost use Rattle.ghc_console.specs.Commands.{command_of};
-ghost use Rattle.ghc_console.specs.Firing.{Fires, runs_of};
+ghost use Rattle.ghc_console.specs.Firing.{Fires};
 ghost use Rattle.ghc_console.specs.Reading.{LineSays, line_limit};
-ghost use Rattle.ghc_console.specs.inner.Answered.{IsAnsweredBy, IsCommandAnsweredBy};
+ghost use Rattle.ghc_console.specs.inner.Answered.{IsAnsweredBy, IsCommandAnsweredBy, is_told_at_once};
 ghost use Rattle.ghc_console.specs.Replies.{IsReply, Replies, refusal};
 ghost use Rattle.ghc_console.specs.SessionState.{LeavesSpies, state_of};
 
 use crate::all_causes::causes;
-use crate::answered::Answered;
+use crate::answered::{Answered, Listing};
 use crate::causes::{who, why};
 use crate::clause_lines::clauses;
 use crate::command::{LineCommand, parse};
@@ -18,16 +18,16 @@ use crate::goal_of_step::goal_of;
 use crate::keep::keep;
 use crate::obey_reply::{ask, input, obey};
 use crate::reading::Line;
-use crate::reply::{goals, records, refused, show, step};
+use crate::reply::{goals, refused, show, step};
 use crate::run_reply::skip;
-use crate::save_reply::{save, save_steps};
+use crate::save_reply::save_steps;
 use crate::shelf_reply::shelf;
 use crate::since::since;
 use crate::spy_reply::{spy, unspy};
 use ghc_term::{Fault, Limit};
 use std::alloc::{AllocError, Global};
 
-// Carries a command out that is no run, and writes the reply. An error leaves the state as it was.
+// Carries a command out whose reply is made at once, and writes it. An error leaves the state as it was.
 fn tell(
     alloc: Global,
     debugger: &mut Debugger,
@@ -35,7 +35,7 @@ fn tell(
     reply: &mut String,
 ) -> Result<(), AllocError>
     requires empty { string_bytes reply.old ≡ [] }
-    requires told { runs_of command.now ≡ 0 }
+    requires told { is_told_at_once command.now ≡ true }
     ensures reply { OnOk result (Replies debugger.old.workers debugger.old.spies debugger.old.core.world command.now (string_bytes reply.new) debugger.new.core.world) }
     ensures spies { OnOk result (LeavesSpies debugger.old.core.world.opening.program debugger.old.spies command.now debugger.new.spies) }
     ensures world { OnErr result (debugger.new.core.world ≡ debugger.old.core.world) }
@@ -49,7 +49,6 @@ fn tell(
         LineCommand::Step(goal, choice) => step(alloc, &mut debugger.core, *goal, *choice, reply),
         LineCommand::Obey(command) => obey(alloc, &mut debugger.core, command, reply),
         LineCommand::Show(word) => show(alloc, &debugger.core, word.as_str(), reply),
-        LineCommand::Records => records(&debugger.core, reply),
         LineCommand::Since(number) => since(&debugger.core, *number, reply),
         LineCommand::Causes => causes(alloc, &debugger.core, reply),
         LineCommand::GoalOf(number) => goal_of(&debugger.core, *number, reply),
@@ -60,7 +59,6 @@ fn tell(
         LineCommand::Explain(word) => explain(alloc, &mut debugger.core, word.as_str(), reply),
         LineCommand::Keep(word) => keep(alloc, &mut debugger.core, word.as_str(), reply),
         LineCommand::Shelf => shelf(alloc, &debugger.core, reply),
-        LineCommand::Save => save(alloc, &debugger.core, &debugger.spies, reply),
         LineCommand::SaveSteps => save_steps(alloc, &debugger.core, reply),
         LineCommand::Spy(name, arity) => {
             spy(
@@ -78,11 +76,12 @@ fn tell(
         }
         LineCommand::Ask(text) => ask(alloc, &mut debugger.core, text.as_slice(), reply),
         LineCommand::Unknown => refused(&Fault::Command, reply),
-        LineCommand::Leap(_) | LineCommand::Skip(_) => unreachable!(),
+        LineCommand::Leap(_) | LineCommand::Skip(_) | LineCommand::Records | LineCommand::Save =>
+            unreachable!(),
     }
 }
 
-// Carries a command out, and writes the reply; or says which run it asks for. An error leaves the state as it was.
+// Carries a command out, and writes the reply; or says which run or listing it asks for. An error leaves the state as it was.
 fn execute(
     alloc: Global,
     debugger: &mut Debugger,
@@ -98,6 +97,8 @@ fn execute(
     match command {
         LineCommand::Leap(limit) => Ok(Answered::Asks(None, *limit)),
         LineCommand::Skip(goal) => skip(debugger, *goal, reply),
+        LineCommand::Records => Ok(Answered::Lists(Listing::Records)),
+        LineCommand::Save => Ok(Answered::Lists(Listing::Session)),
         LineCommand::Quit => Ok(Answered::Ends),
         _ => {
             tell(alloc, debugger, command, reply)?;
@@ -106,7 +107,7 @@ fn execute(
     }
 }
 
-// Carries a whole line out, and writes the reply; or says which run it asks for.
+// Carries a whole line out, and writes the reply; or says which run or listing it asks for.
 fn execute_line(
     alloc: Global,
     debugger: &mut Debugger,
@@ -124,8 +125,9 @@ fn execute_line(
 }
 
 /// Carries a line out, and writes the reply in place of what stood in the text, and says whether the session ends. Where the line
-/// asks for a run it says of how many steps at most and of which goals; nothing is done then, and the text is to be taken for
-/// nothing. An error says that memory was refused, which is the reply then. It costs what the command costs.
+/// asks for a run it says of how many steps at most and of which goals, and where it asks for a listing, which; nothing is done then,
+/// and the text is to be taken for nothing. An error says that memory was refused, which is the reply then. It costs what the
+/// command costs.
 pub fn answer(
     alloc: Global,
     debugger: &mut Debugger,

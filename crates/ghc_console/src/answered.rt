@@ -1,6 +1,15 @@
 // What a line is answered with.
 use ghc_term::GoalName;
 
+/// What a line lists that is written line by line.
+#[derive(Clone, Copy, Drop)]
+pub enum Listing {
+    /// The records.
+    Records,
+    /// The whole session, as a history.
+    Session,
+}
+
 /// What a line is answered with.
 #[derive(Clone, Copy, Drop)]
 pub enum Answered {
@@ -11,4 +20,6 @@ pub enum Answered {
     /// Nothing was done: a run is asked for, of at most so many steps of any goals, or where a root is named, of the goals that
     /// descend from it. Its lines are the reply, and the session goes on.
     Asks(Option<GoalName>, u32),
+    /// Nothing was done: this listing is asked for. Its lines are the reply, and the session goes on.
+    Lists(Listing),
 }

@@ -8,7 +8,8 @@ ghost use Rattle.ghc_trace.specs.Disturbed.{AreDisturbed};
 ghost use Rattle.ghc_trace.specs.Laws.{IsSettled};
 ghost use Rattle.ghc_trace.specs.Ports.{Port, ArePorts};
 ghost use Rattle.ghc_trace.specs.PortText.{ports_text};
-ghost use Rattle.ghc_console.specs.Replies.{RepliesToStep, RepliesToShow, RepliesToGoals, lined, record_lines, TellsSlot, records_text, refusal};
+ghost use Rattle.ghc_console.specs.Replies.{RepliesToStep, RepliesToShow, RepliesToGoals, lined, record_lines, TellsSlot, refusal};
+ghost use Rattle.ghc_console.specs.Listings.{records_text};
 
 use crate::asking::variable_named;
 use crate::obey_reply::carry_out;

@@ -12,7 +12,7 @@ use ghc_records::{Record, push_goal_name, push_step};
 use std::alloc::AllocError;
 
 // The line that stands where memory was refused for a line.
-const UNTOLD: &str = "F1 no memory\n";
+pub(crate) const UNTOLD: &str = "F1 no memory\n";
 
 // Why a run stopped.
 fn push_stop(stop: Stop, out: &mut String) -> Result<(), AllocError>

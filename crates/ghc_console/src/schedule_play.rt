@@ -4,7 +4,7 @@ ghost use Rattle.std.specs.Io.KnownBytes.{Keeps};
 ghost use Rattle.ghc_core.specs.EventCode.{reply_of};
 ghost use Rattle.ghc_console.specs.inner.Device.{WritesFront};
 ghost use Rattle.ghc_console.specs.Lines.{lines_of};
-ghost use Rattle.ghc_console.specs.Replies.{records_text};
+ghost use Rattle.ghc_console.specs.Listings.{records_text};
 ghost use Rattle.ghc_console.specs.ScheduleReplies.{reply_text};
 ghost use Rattle.ghc_console.specs.ScheduleText.{ArePlayedOut, EndsSo, IsScheduleOf, PlaysLine};
 

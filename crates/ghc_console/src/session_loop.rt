@@ -14,6 +14,7 @@ use crate::answer::answer;
 use crate::answered::Answered;
 use crate::debugger::Debugger;
 use crate::device::{Broken, Device, write_all};
+use crate::listing::write_listing;
 use crate::reading::{Ahead, Line};
 use crate::run_lines::write_run;
 use crate::run_reply::leap;
@@ -34,8 +35,8 @@ pub(crate) fn cut_down(alloc: Global, reply: &mut String) {
     }
 }
 
-// Carries a line out and writes its reply, and says whether the session ends; or says which run the line asks for, and hands on what
-// was written before.
+// Carries a line out and writes its reply, that of a listing line by line, and says whether the session ends; or says which run the
+// line asks for, and hands on what was written before.
 fn serve<D: Device>(
     alloc: Global,
     debugger: &mut Debugger,
@@ -66,6 +67,19 @@ fn serve<D: Device>(
             Ok(()) => Ok(Answered::Asks(root, limit)),
             Err(Broken) => Err(Broken),
         },
+        Ok(Answered::Lists(listing)) => {
+            match write_listing(
+                alloc,
+                device,
+                &debugger.core,
+                &debugger.spies,
+                listing,
+                reply,
+            ) {
+                Ok(()) => Ok(Answered::Lists(listing)),
+                Err(Broken) => Err(Broken),
+            }
+        }
         Err(_) => match write_all(device, b"F1 no memory\n") {
             Ok(()) => Ok(Answered::Told),
             Err(Broken) => Err(Broken),
@@ -145,6 +159,7 @@ pub fn session<R: Threads + Wait + Sync, G: Gate + Sync, D: Device>(
         match answered {
             Answered::Ends => return (debugger, Ok(())),
             Answered::Told => (),
+            Answered::Lists(_) => (),
             Answered::Asks(root, limit) => {
                 let (left, written) = serve_run(
                     rt, alloc, debugger, gate, device, root, limit, &mut reply,

@@ -41,7 +41,7 @@ pub record SessionsStayTellable : Type 0 where
       (program_text query_text : List ℕ) (s : Started) (t : SessionState)
       → IsStarted program_text query_text s → IsStateOf s t → IsTellable t → HasFewEntries t.world → CanBeTold (chronicle_of_world t.world (spies_in_order t.spies))
 
--- Take any point of a session that was opened, also of one that was broken off, where the journal has no more entries than a text may have. What `save` tells there opens as that session, with its world, whole, and its spies.
+-- Take any point of a session that was opened, also of one that was broken off, where the journal has no more entries than a text may have. Where none of its lines says that memory was refused, what `save` tells there opens as that session, with its world, whole, and its spies.
 abbrev pub EachSaveOpensAgain : Type 0
 EachSaveOpensAgain =
     (program_text query_text : List ℕ) (s : Started) (history : Option (List ℕ)) (first last : SessionState) (count : ℕ) (lines : List (List ℕ)) (out : List ℕ)

@@ -68,8 +68,8 @@ pub fn sessions_stay_tellable()
     legal_is_reachable();
 }
 
-/// What `save` tells anywhere in a session that was opened, also in one that was broken off, opens as that session again, where its
-/// journal has no more entries than a text may have.
+/// What `save` tells anywhere in a session that was opened, also in one that was broken off, opens as that session again. No line of it
+/// may say that memory was refused, and the journal may have no more entries than a text.
 pub fn each_save_opens_again()
     ensures { EachSaveOpensAgain }
 {

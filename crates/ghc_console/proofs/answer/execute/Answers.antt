@@ -1,5 +1,12 @@
-use Rattle.ghc_console.proofs.CitedWords.{None, refl, sym, subst, AsksForRun, leap_asks}
+use Rattle.ghc_console.proofs.CitedWords.{None, refl, sym, subst, AsksForListing, AsksForRun, leap_asks, records_asks, save_asks}
+use Rattle.ghc_console.specs.declared.answered.Listing.TheVariants as listing
 use Rattle.ghc_console.proofs.answer.execute.Goals as goal
 
 pub returns-in-Leap-clause-answered : goal.returns-in-Leap-clause-answered
 returns-in-Leap-clause-answered c = (refl, subst (λ k. AsksForRun c.args.debugger.now.core.world k None c.in-Leap.limit) (sym c.in-Leap.is) (leap_asks c.in-Leap.limit))
+
+pub returns-in-Records-clause-answered : goal.returns-in-Records-clause-answered
+returns-in-Records-clause-answered c = (refl, subst (λ k. AsksForListing k listing.Records) (sym c.in-Records.is) records_asks)
+
+pub returns-in-Save-clause-answered : goal.returns-in-Save-clause-answered
+returns-in-Save-clause-answered c = (refl, subst (λ k. AsksForListing k listing.Session) (sym c.in-Save.is) save_asks)

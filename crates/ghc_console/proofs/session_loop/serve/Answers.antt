@@ -1,5 +1,6 @@
-use Rattle.ghc_console.proofs.CitedWords.{◌≡◌, false, refl, string_bytes, true, Told as told, Ends as ends, Asks as asks, state_of}
-use Rattle.ghc_console.proofs.Served.{asks_run, breaks, ends_reply, not_run, serves, starved_reply, told_reply}
+use Rattle.ghc_console.proofs.CitedWords.{◌≡◌, false, refl, string_bytes, true, Told as told, Ends as ends, Asks as asks, Lists as lists, state_of}
+use Rattle.ghc_console.proofs.RunCommands.{listing_replied}
+use Rattle.ghc_console.proofs.Served.{asks_listing, asks_run, breaks, ends_reply, not_run, serves, starved_reply, told_reply}
 use Rattle.ghc_console.proofs.session_loop.serve.Goals as goal
 
 pub returns-in-Ok-clause-served : goal.returns-in-Ok-clause-served
@@ -55,3 +56,25 @@ returns-in-Err-write_all-3-clause-served g c bytes says =
     let answer = c.answer in
     let reply = starved_reply (state_of c.args.debugger.now) (state_of answer.new.debugger) bytes (string_bytes answer.new.reply) answer.result _ c.in-Err.is (answer.ensures.reply bytes says) in
     breaks _ (state_of c.args.debugger.now) (state_of answer.new.debugger) bytes _ _ false _ _ reply refl c.in-Err-write_all-3.ensures.bytes
+
+pub returns-in-Ok-write_listing-clause-served : goal.returns-in-Ok-write_listing-clause-served
+returns-in-Ok-write_listing-clause-served g c bytes says =
+    let answer = c.answer in
+    let s = state_of c.args.debugger.now in
+    let t = state_of answer.new.debugger in
+    let listed = c.in-Ok-Lists.listing in
+    let is : c.in-Ok-Lists.field-0 ≡ lists listed = c.in-Ok-Lists.field-0-is in
+    let asked = asks_listing s t bytes (string_bytes answer.new.reply) answer.result _ listed c.in-Ok-Lists.is is (answer.ensures.reply bytes says) in
+    let told = c.in-Ok-write_listing.ensures.told in
+    serves s t bytes told.0 told.0 false _ _ (listing_replied s t bytes listed told.0 asked.0 asked.1 asked.2 told.1) refl told.2
+
+pub returns-in-Err-write_listing-clause-served : goal.returns-in-Err-write_listing-clause-served
+returns-in-Err-write_listing-clause-served g c bytes says =
+    let answer = c.answer in
+    let s = state_of c.args.debugger.now in
+    let t = state_of answer.new.debugger in
+    let listed = c.in-Ok-Lists.listing in
+    let is : c.in-Ok-Lists.field-0 ≡ lists listed = c.in-Ok-Lists.field-0-is in
+    let asked = asks_listing s t bytes (string_bytes answer.new.reply) answer.result _ listed c.in-Ok-Lists.is is (answer.ensures.reply bytes says) in
+    let told = c.in-Err-write_listing.ensures.told in
+    breaks _ s t bytes told.0 told.0 false _ _ (listing_replied s t bytes listed told.0 asked.0 asked.1 asked.2 told.1) refl told.2

@@ -1,9 +1,9 @@
 use Rattle.ghc_console.proofs.CitedWords.{◌∙◌, arith, refl, rules, sym, Keeps-trans, prepend_known-nil, command_of}
 use Rattle.ghc_console.proofs.RunCommands.{run_fires}
-use Rattle.ghc_console.proofs.Served.{counts_same, has_asked, has_broken, has_broken_run, has_ended, has_run, has_told}
+use Rattle.ghc_console.proofs.Served.{counts_same, has_asked, has_broken, has_broken_run, has_ended, has_listed, has_run, has_told}
 use Rattle.ghc_console.proofs.SessionFirings.{fired_start, fired_on, fired_end}
 use Rattle.ghc_console.proofs.SessionLoop.{going_asked, going_on, going_end, going_quit, broken_read, broken_write, kept_then, taken_kept, going_start, given_start, given_then, given_kept}
-use Rattle.ghc_console.proofs.session_loop.session.Goals.{in-Told, in-Asks+in-Ok-written}
+use Rattle.ghc_console.proofs.session_loop.session.Goals.{in-Told, in-Lists, in-Asks+in-Ok-written}
 use Rattle.ghc_console.proofs.session_loop.session.Goals as goal
 
 pub loop-init : goal.loop-init
@@ -71,6 +71,20 @@ loop-preserved g c =
             tt,
             rw serve.earlier (going_on _ _ _ _ _ _ _ _ _ _ _ so_far left (λ bytes says.
                 let s = has_told _ _ bytes _ _ c.serve.result _ c.in-Ok.is w.in-Told.is (serve.served bytes says) in
+                (s.0, s.1, kept_then _ _ _ _ read.written s.2))),
+            search rules,
+            serve.opening ∙ c.loop.invariant.4,
+            fired_on _ _ _ _ _ _ _ c.loop.invariant.5 left serve.fires,
+            rw (serve.earlier, serve.latest) given,
+          )
+      | in-Lists w ↦
+          let given = given_kept _ _ _ _ _ (given_then _ _ _ _ _ _ c.loop.invariant.6 read.given) serve.unread in
+          let left = taken_kept _ c.next_line.new.self _ _ _ taken serve.unread in
+          rw (w.debugger-is, w.device-is) (
+            tt,
+            tt,
+            rw serve.earlier (going_on _ _ _ _ _ _ _ _ _ _ _ so_far left (λ bytes says.
+                let s = has_listed _ _ bytes _ _ c.serve.result _ w.in-Lists.field-0 c.in-Ok.is w.in-Lists.is (serve.served bytes says) in
                 (s.0, s.1, kept_then _ _ _ _ read.written s.2))),
             search rules,
             serve.opening ∙ c.loop.invariant.4,
