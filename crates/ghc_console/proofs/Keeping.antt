@@ -105,10 +105,10 @@ always_err (Ok t) q = tt
 always_err (Err e) q = q
 
 -- what is known of an option, where it is there and where it is not
-pub of_some : {X : Type 0} {A : Type 0} {B : X → Type 0} (o : Option X) (x : X) → o ≡ Some x → MatchOption o A B → B x
-of_some None x e m = cc
-of_some {B = B} (Some y) x e m = let same : y ≡ x = cc in subst B same m
+pub of_some : {X : Type 0} (A : Type 0) (B : X → Type 0) (o : Option X) (x : X) → o ≡ Some x → MatchOption o A B → B x
+of_some A B None x e m = cc
+of_some A B (Some y) x e m = let same : y ≡ x = cc in subst B same m
 
-pub of_none : {X : Type 0} {A : Type 0} {B : X → Type 0} (o : Option X) → o ≡ None → MatchOption o A B → A
-of_none None e m = m
-of_none (Some y) e m = cc
+pub of_none : {X : Type 0} (A : Type 0) (B : X → Type 0) (o : Option X) → o ≡ None → MatchOption o A B → A
+of_none A B None e m = m
+of_none A B (Some y) e m = cc

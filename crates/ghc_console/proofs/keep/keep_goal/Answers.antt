@@ -9,12 +9,12 @@ use Rattle.ghc_console.proofs.keep.keep_goal.Goals as goal
 pub returns-in_default-clause-text : goal.returns-in_default-clause-text
 returns-in_default-clause-text c = if_ok c.refused.result c.refused.ensures.text c.refused.ensures.memory (λ _ told kept.
     let w = c.args.core.now.world in
-    subst (λ t. RepliesToKeepGoal w c.args.name t w) (sym told) (keeps_no_goal (of_none c.in_ok-found.found c.in_default.is c.in_ok-found.ensures)))
+    subst (λ t. RepliesToKeepGoal w c.args.name t w) (sym told) (keeps_no_goal (of_none _ _ c.in_ok-found.found c.in_default.is c.in_ok-found.ensures)))
 
 pub keep_alone-requires-clause-slice : goal.keep_alone-requires-clause-slice
 keep_alone-requires-clause-slice c =
     let w = c.args.core.now.world in
-    let told = (of_some c.in_ok-found.found c.in-Some.slice c.in-Some.is c.in_ok-found.ensures).2 in
+    let told = (of_some _ _ c.in_ok-found.found c.in-Some.slice c.in-Some.is c.in_ok-found.ensures).2 in
     let ns = c.as_slice.result.now in
     let is : numbers told.0 ≡ ns = told.3 ∙ sym c.as_slice.ensures.value in
     subst (λ (l : List ℕ). Picks (λ n. In n l) (numbers w.kept) l) is (slice_numbers w.kept told.0 told.1 c.stands.ensures.orderly.kept_once told.2)
@@ -24,7 +24,7 @@ returns-clause-text c = on_ok c.keep_alone.result c.keep_alone.ensures.told (λ 
     let w = c.args.core.now.world in
     let v = c.keep_alone.new.core.world in
     let text = string_bytes c.keep_alone.new.reply in
-    let found = of_some c.in_ok-found.found c.in-Some.slice c.in-Some.is c.in_ok-found.ensures in
+    let found = of_some _ _ c.in_ok-found.found c.in-Some.slice c.in-Some.is c.in_ok-found.ensures in
     let told = found.2 in
     let is : c.as_slice.result.now ≡ numbers told.0 = c.as_slice.ensures.value ∙ sym told.3 in
     let rest = rest_numbers w.kept told.0 told.1 c.stands.ensures.orderly.kept_once told.2 alone.0 (subst (λ (l : List ℕ). Picks (λ n. ¬ In n l) (numbers w.kept) alone.0) is alone.1) in
