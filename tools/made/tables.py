@@ -41,6 +41,8 @@ REFUSED_BY = {
     "redo": [("ghc_core", "RedoFails")],
     "arrange": [("ghc_core", "Fails", "arrange")],
     "clauses": [("ghc_console", "TellsClausesFor")],
+    "explain": [("ghc_console", "RepliesToExplain"), ("ghc_console", "RepliesToExplainGoal")],
+    "keep": [("ghc_console", "RepliesToKeep"), ("ghc_console", "RepliesToKeepGoal")],
     "save": [("ghc_console", "RepliesToSaveSteps")],
     "leap": [],
 }

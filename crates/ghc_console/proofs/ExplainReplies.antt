@@ -5,13 +5,16 @@ use Rattle.std.specs.FinMap as finite
 use Rattle.ghc_term.specs.declared.fault.Fault.TheVariants as fault
 use Rattle.ghc_term.specs.declared.limit.Limit.TheVariants as limit
 use Rattle.ghc_term.specs.Lists.{In}
+use Rattle.ghc_records.specs.Orders.{Picks}
 use Rattle.ghc_records.specs.Record.{State, numbers}
 use Rattle.ghc_depend.proofs.Picking.{picks_in}
 use Rattle.ghc_depend.specs.Depend.{IsKeptAs}
 use Rattle.ghc_trace.specs.declared.holding.Holder.{Holder}
-use Rattle.ghc_trace.specs.Causes.{IsToldSliceOf}
-use Rattle.ghc_trace.specs.Holding.{AreHolders}
-use Rattle.ghc_console.specs.Explaining.{RepliesToExplain, too_long_to_explain}
+use Rattle.ghc_trace.specs.Holding.{IsReaching}
+use Rattle.ghc_term.specs.Goal.{Goal}
+use Rattle.ghc_term.specs.declared.goal_name.GoalName.{GoalName}
+use Rattle.ghc_trace.specs.GoalLines.{IsTooLong}
+use Rattle.ghc_console.specs.Explaining.{RepliesToExplain, RepliesToExplainGoal, goal_is_too_long, too_long_to_explain}
 
 -- a number that is told is that of a record
 of_number : (rs : List Record) (n : ℕ) → In n (numbers rs) → (r : Record) × In r rs × (r.number ≡ n)
@@ -20,15 +23,14 @@ of_number (r ∷ rs) n (inl e) = (r, inl refl, sym e)
 of_number (r ∷ rs) n (inr i) = let q = of_number rs n i in (q.0, inr q.1, q.2)
 
 -- the steps of a slice are kept
-pub slice_kept : (kept : List Record) (t : State) (x : VarName) (told : List ℕ) → IsToldSliceOf kept t x told → (n : ℕ) → In n told → (r : Record) × IsKeptAs kept n r
-slice_kept kept t x told s n i =
-    let q = of_number s.0 n (subst (λ ns. In n ns) (sym s.3) i) in
-    (q.0, ((picks_in kept s.0 q.0 s.2.0 q.1).0, q.2))
+pub told_kept : (kept : List Record) {D : Record → Type 0} (found : List Record) (told : List ℕ) → Picks D kept found → numbers found ≡ told → (n : ℕ) → In n told → (r : Record) × IsKeptAs kept n r
+told_kept kept found told picked is n i =
+    let q = of_number found n (subst (λ ns. In n ns) (sym is) i) in
+    (q.0, ((picks_in kept found q.0 picked q.1).0, q.2))
 
 -- a holder's goal is there
-pub holder_there : (t : State) (x : VarName) (hs : List Holder) → AreHolders t x hs → (h : Holder) → In h hs → finite.get t.goals h.goal ≢ None
-holder_there t x hs a h i none =
-    let q = ((a.1 h).0 i).1 in
+pub reaching_there : (t : State) (h : Holder) → IsReaching t h → finite.get t.goals h.goal ≢ None
+reaching_there t h q none =
     let never : None ≡ Some q.0 = sym none ∙ q.1 in
     cc
 
@@ -44,3 +46,9 @@ explained_refused w word x f text named (inl m) past told kept = absurd (kept m)
 explained_refused w word x f text named (inr q) past told kept =
     let long = past q in
     subst (RepliesToExplain w word) (sym (told ∙ ap refusal q)) (too_long_to_explain x long.0 named long.1.0 long.1.1)
+
+-- The same of a goal.
+pub goal_refused : (w : World) (g : GoalName) (b : Goal) (f : Fault) (text : List ℕ) → finite.get w.state.goals g ≡ Some b → (f ≡ fault.Memory) ⊎ (f ≡ fault.Limit limit.Print)
+    → (f ≡ fault.Limit limit.Print → IsTooLong w.state.store b) → text ≡ refusal f → f ≢ fault.Memory → RepliesToExplainGoal w g text
+goal_refused w g b f text there (inl m) past told kept = absurd (kept m)
+goal_refused w g b f text there (inr q) past told kept = subst (RepliesToExplainGoal w g) (sym (told ∙ ap refusal q)) (goal_is_too_long b there (past q))

@@ -1,7 +1,9 @@
 -- The steps outside of a slice are rolled back, one after another.
-use Rattle.ghc_console.proofs.CitedWords.{◌≡◌, ◌↔◌, ℕ, List, [], ◌∷◌, ◌++◌, take, drop, refl, sym, ap, subst, ◌∙◌, append-nil, append_assoc, inl, inr, In, AreDistinct, Record, numbers, record_once, World, opening_stays, refusal, Result, Ok, Err, OnOk, OnErr, is_ok, true}
+use Rattle.ghc_console.proofs.CitedWords.{◌≡◌, ◌↔◌, ℕ, List, [], ◌∷◌, ◌++◌, take, drop, refl, sym, ap, subst, ◌∙◌, append-nil, append_assoc, inl, inr, In, AreDistinct, Record, numbers, record_once, World, opening_stays, refusal, Option, Some, None, Result, Ok, Err, OnOk, OnErr, is_ok, true}
+use Rattle.std.specs.Prelude.{MatchOption}
 use Rattle.std.proofs.lemmas.List.{take-append-drop}
 use Rattle.ghc_term.specs.declared.fault.Fault.TheVariants as fault
+use Rattle.ghc_term.specs.declared.goal_name.GoalName.{GoalName}
 use Rattle.ghc_core.specs.declared.change.Change.TheVariants.{Goes as goes}
 use Rattle.ghc_core.specs.declared.change.Going.{Going}
 use Rattle.ghc_records.specs.Orders.{Picks, nothing, take as taken, leave}
@@ -10,7 +12,7 @@ use Rattle.ghc_records.proofs.PickLemmas.{picks_in, picks_has}
 use Rattle.ghc_depend.specs.Deletion.{IsPartedBy}
 use Rattle.ghc_console.specs.Keeping.{RollsBack, not_kept, rolls, RollBack, none_yet, and_next, TellsKept, kept_line, rolled_all, rolled_some}
 use Rattle.ghc_console.specs.inner.KeepingCode.{AddsRollback, AddsRollbacks, AddsSomeRollbacks}
-use Rattle.ghc_console.specs.Replies.{RepliesToKeep, keeps, keeps_nothing}
+use Rattle.ghc_console.specs.Replies.{RepliesToKeep, RepliesToKeepGoal, keeps, keeps_goal, keeps_no_goal, keeps_nothing}
 
 -- records are picked as their numbers are
 numbers_picked : {D : Record → Type 0} {Q : ℕ → Type 0} (xs ys : List Record) → ((r : Record) → In r xs → D r ↔ Q r.number) → Picks D xs ys → Picks Q (numbers xs) (numbers ys)
@@ -53,6 +55,10 @@ kept_opening w v ns text (rolled_some {front = front} {lines = lines} back e don
 pub keep_opening : (w v : World) (word text : List ℕ) → RepliesToKeep w word text v → v.opening ≡ w.opening
 keep_opening w v word text (keeps x slice rest named parts told) = kept_opening w v (numbers rest) text told
 keep_opening w v word text (keeps_nothing none) = refl
+
+pub keep_goal_opening : (w v : World) (g : GoalName) (text : List ℕ) → RepliesToKeepGoal w g text v → v.opening ≡ w.opening
+keep_goal_opening w v g text (keeps_goal b slice rest there parts told) = kept_opening w v (numbers rest) text told
+keep_goal_opening w v g text (keeps_no_goal none) = refl
 
 -- no step is rolled back yet
 pub rolls_none : (w : World) (text : List ℕ) → AddsRollbacks w [] text text w
@@ -97,3 +103,12 @@ opening_kept (Err e) w v p q = ap (λ (z : World). z.opening) q
 pub always_err : {T E : Type 0} (r : Result T E) {Q : Type 0} → Q → OnErr r Q
 always_err (Ok t) q = tt
 always_err (Err e) q = q
+
+-- what is known of an option, where it is there and where it is not
+pub of_some : {X : Type 0} (A : Type 0) (B : X → Type 0) (o : Option X) (x : X) → o ≡ Some x → MatchOption o A B → B x
+of_some A B None x e m = cc
+of_some A B (Some y) x e m = let same : y ≡ x = cc in subst B same m
+
+pub of_none : {X : Type 0} (A : Type 0) (B : X → Type 0) (o : Option X) → o ≡ None → MatchOption o A B → A
+of_none A B None e m = m
+of_none A B (Some y) e m = cc

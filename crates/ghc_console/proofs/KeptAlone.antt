@@ -1,7 +1,7 @@
 -- Where all steps outside of a slice are rolled back, the slice is kept alone.
 use Rattle.ghc_term.proofs.ListsLemmas.{in_more, in_left, in_last}
 use Rattle.ghc_records.specs.Journal.{Opening}
-use Rattle.ghc_console.proofs.CitedWords.{◌≡◌, ◌↔◌, ℕ, List, [], ◌∷◌, ◌++◌, refl, sym, ap, subst, ◌∙◌, inl, inr, arith, In, VarName, value_at, AreDistinct, Record, numbers, record_once, World, IsVariableOf, IsNotKept, opening_stays}
+use Rattle.ghc_console.proofs.CitedWords.{◌≡◌, ◌↔◌, ℕ, List, [], ◌∷◌, ◌++◌, refl, sym, ap, subst, ◌∙◌, inl, inr, arith, Some, In, VarName, value_at, AreDistinct, Record, numbers, record_once, World, IsVariableOf, IsNotKept, opening_stays}
 use Rattle.ghc_core.proofs.Reaching.{reached_good}
 use Rattle.ghc_core.proofs.Replayed.{replayed}
 use Rattle.ghc_core.specs.Core.{IsStanding}
@@ -17,12 +17,14 @@ use Rattle.ghc_records.proofs.PickLemmas.{picks_in, picks_has, picks_order, pick
 use Rattle.ghc_records.proofs.Replaying.{replay_once}
 use Rattle.ghc_depend.specs.Depend.{DependsOn, Follows, directly, further, GoesWith}
 use Rattle.ghc_depend.specs.Deletion.{IsPartedBy}
-use Rattle.ghc_depend.specs.Slices.{IsCauseOf, Gave, SameFrom, IsSliceOf}
+use Rattle.ghc_depend.specs.Slices.{IsCauseOf, Gave, GaveGoal, IsThereAlike, SameFrom, IsSliceOf}
 use Rattle.ghc_depend.proofs.ComingBack.{gone_come_back}
 use Rattle.ghc_depend.proofs.Finding.{ends}
-use Rattle.ghc_depend.proofs.Slicing.{rest_is_closed, slices}
+use Rattle.ghc_depend.proofs.Slicing.{goal_slices, rest_is_closed, slices}
+use Rattle.ghc_hooks.proofs.Statuses.{status_there}
+use Rattle.ghc_hooks.specs.Status.{HasStatus}
 use Rattle.ghc_console.specs.Keeping.{RollsBack, not_kept, rolls, RollBack, none_yet, and_next}
-use Rattle.ghc_console.specs.KeepLaws.{IsKeptAlone, KeepLeavesTheSlice}
+use Rattle.ghc_console.specs.KeepLaws.{IsGoalKeptAlone, IsKeptAlone, KeepLeavesTheGoal, KeepLeavesTheSlice}
 
 module _ {X : Type 0} where
   -- what is picked by one property is picked by another that says the same of each
@@ -171,5 +173,27 @@ keep_leaves w v x slice rest lines standing known parts done =
       kept = is;
       variable = subst (λ (o : Opening). IsVariableOf o.query v.kept x) (sym (same_query w roots slice rest standing parts v l)) (subst (λ rs. IsVariableOf w.opening.query rs x) (sym is) there.2);
       same = subst (λ (s : State). SameFrom x (value_at w.state.store) (value_at s.store)) one there.3;
+      way_back = replays_back w roots slice rest standing parts v l;
+    }
+
+-- the same of a goal, which has its status there
+pub keep_leaves_goal : KeepLeavesTheGoal
+keep_leaves_goal w v g b slice rest lines standing there parts done =
+    let P = w.opening.program in
+    let S = value_at w.state.store in
+    let roots = GaveGoal P S g b in
+    let l = after w roots slice rest standing parts (numbers rest) lines v (λ n i. i) done in
+    let good = reached_good standing in
+    let found = (goal_slices P w.opening.query w.kept w.state g b slice rest good.accepted good.asked (replayed standing).replay there parts).alone in
+    let one : found.0 ≡ v.state = replay_once P w.opening.query slice found.0 v.state found.1 (replays_alone w roots slice rest standing parts v l) in
+    let alike = subst (λ (s : State). IsThereAlike P g b S s) one found.2 in
+    record {
+      kept = alone w roots slice rest standing parts v l;
+      alike = alike;
+      same_status = λ s st.
+          let goals : Some st.0 ≡ Some b = sym st.1 ∙ there in
+          let same : st.0 ≡ b = cc in
+          let has = status_there P S (value_at v.state.store) b s (subst (λ c. HasStatus P S c s) same st.2) (λ x looked. sym (alike.1 x looked)) in
+          (b, alike.0, subst (λ (o : Opening). HasStatus o.program (value_at v.state.store) b s) (sym (same_query w roots slice rest standing parts v l)) has);
       way_back = replays_back w roots slice rest standing parts v l;
     }

@@ -7,7 +7,7 @@ use Rattle.ghc_core.specs.declared.command.Command.TheVariants.{Undo, Redo, Roll
 use Rattle.ghc_console.specs.Words.{behind, goal_name_of, is_printable, is_variable, number_of, numbers_of, words_of}
 use Rattle.ghc_console.specs.PredicateWords.{predicate_of}
 use Rattle.ghc_console.specs.declared.command.LineCommand.{LineCommand}
-use Rattle.ghc_console.specs.declared.command.LineCommand.TheVariants.{Nothing, Step, Obey, Show, Records, Since, Causes, GoalOf, Clauses, Goals, Why, Who, Explain, Keep, Shelf, Save, SaveSteps, Spy, Unspy, Input, Ask, Leap, Skip, Quit, Unknown}
+use Rattle.ghc_console.specs.declared.command.LineCommand.TheVariants.{Nothing, Step, Obey, Show, Records, Since, Causes, GoalOf, Clauses, Goals, Why, Who, Explain, ExplainGoal, Keep, KeepGoal, Shelf, Save, SaveSteps, Spy, Unspy, Input, Ask, Leap, Skip, Quit, Unknown}
 
 -- A step with the goal, by the least clause that accepts, where the word named one.
 abbrev pub step_with : Option GoalName → LineCommand
@@ -71,6 +71,15 @@ command_with_variable name word = if bytes_eq name (codes "show") then Show word
     else (if bytes_eq name (codes "explain") then Explain word
     else (if bytes_eq name (codes "keep") then Keep word else Unknown)))
 
+-- The command of a word with a goal: `explain G` or `keep G`.
+abbrev pub command_with_goal : List ℕ → GoalName → LineCommand
+command_with_goal name goal = if bytes_eq name (codes "explain") then ExplainGoal goal else (if bytes_eq name (codes "keep") then KeepGoal goal else Unknown)
+
+-- The same, where the word behind named a goal; or the command of a number, where it said one.
+abbrev pub named : List ℕ → Option GoalName → Option ℕ → LineCommand
+named name (Some goal) number = command_with_goal name goal
+named name None number = numbered name number
+
 -- The spying of the predicate, where the word named one.
 abbrev pub spy_with : Option (List ℕ × ℕ) → LineCommand
 spy_with (Some named) = Spy named.0 named.1
@@ -85,7 +94,7 @@ unspy_with None = Unknown
 abbrev pub save_of : List ℕ → LineCommand
 save_of word = if bytes_eq word (codes "1") then SaveSteps else Unknown
 
--- The command of a word and one more: `step G`, `skip G` or `clauses G`, `save 1`, one with a predicate, or one with a variable or a number.
+-- The command of a word and one more: `step G`, `skip G` or `clauses G`, `save 1`, one with a predicate, or one with a variable, a goal or a number.
 abbrev pub command_of_two_words : List ℕ → List ℕ → LineCommand
 command_of_two_words name word = if bytes_eq name (codes "step") then step_with (goal_name_of word)
     else (if bytes_eq name (codes "skip") then skip_with (goal_name_of word)
@@ -93,7 +102,7 @@ command_of_two_words name word = if bytes_eq name (codes "step") then step_with 
     else (if bytes_eq name (codes "spy") then spy_with (predicate_of word)
     else (if bytes_eq name (codes "nospy") then unspy_with (predicate_of word)
     else (if bytes_eq name (codes "save") then save_of word
-    else (if is_variable word then command_with_variable name word else numbered name (number_of word)))))))
+    else (if is_variable word then command_with_variable name word else named name (goal_name_of word) (number_of word)))))))
 
 -- The command of a word and two more: `step G C`.
 abbrev pub command_of_three_words : List ℕ → List ℕ → List ℕ → LineCommand

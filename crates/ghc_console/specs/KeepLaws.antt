@@ -1,12 +1,17 @@
 -- Laws of keeping a slice.
-use Rattle.std.specs.Prelude.{◌≡◌, ℕ, List, ◌++◌}
+use Rattle.std.specs.Prelude.{◌≡◌, ℕ, List, Some, ◌++◌}
+use Rattle.std.specs.FinMap as finite
 use Rattle.ghc_term.specs.declared.var_name.VarName.{VarName}
+use Rattle.ghc_term.specs.declared.goal_name.GoalName.{GoalName}
+use Rattle.ghc_term.specs.Goal.{Goal}
 use Rattle.ghc_term.specs.Store.{value_at}
 use Rattle.ghc_records.specs.Record.{Record, numbers}
 use Rattle.ghc_records.specs.Replay.{IsVariableOf}
-use Rattle.ghc_depend.specs.Slices.{IsSliceOf, SameFrom}
+use Rattle.ghc_depend.specs.Slices.{IsGoalSliceOf, IsSliceOf, IsThereAlike, SameFrom}
+use Rattle.ghc_hooks.specs.Status.{Status}
 use Rattle.ghc_core.specs.Core.{IsStanding}
 use Rattle.ghc_core.specs.World.{World, IsReplay}
+use Rattle.ghc_trace.specs.News.{Stands}
 use Rattle.ghc_console.specs.Keeping.{RollBack}
 
 -- In the world v just the slice is kept, in its order, and x stands there for what it stands for in the world w. With the rest after it, in its old order, the record replays to the old state.
@@ -21,3 +26,16 @@ abbrev pub KeepLeavesTheSlice : Type 0
 KeepLeavesTheSlice =
     (w v : World) (x : VarName) (slice rest : List Record) (lines : List ℕ) → IsStanding w → IsVariableOf w.opening.query w.kept x
     → IsSliceOf w.kept w.state x slice rest → RollBack w (numbers rest) lines v → IsKeptAlone w x slice rest v
+
+-- In the world v just the slice is kept, in its order, and the goal b is there alike, under its name g, with the status that it has in the world w. With the rest behind it, in its old order, the record replays to the old state.
+pub record IsGoalKeptAlone (w : World) (g : GoalName) (b : Goal) (slice rest : List Record) (v : World) : Type 0 where
+  pub kept : v.kept ≡ slice
+  pub alike : IsThereAlike w.opening.program g b (value_at w.state.store) v.state
+  pub same_status : (s : Status) → Stands w g s → Stands v g s
+  pub way_back : IsReplay v (v.kept ++ rest) w.state
+
+-- Where the steps outside of the slice of a goal are rolled back, one after another, each that is still kept then, the slice is kept alone, and the rest can come back.
+abbrev pub KeepLeavesTheGoal : Type 0
+KeepLeavesTheGoal =
+    (w v : World) (g : GoalName) (b : Goal) (slice rest : List Record) (lines : List ℕ) → IsStanding w → finite.get w.state.goals g ≡ Some b
+    → IsGoalSliceOf w.opening.program w.kept w.state g b slice rest → RollBack w (numbers rest) lines v → IsGoalKeptAlone w g b slice rest v

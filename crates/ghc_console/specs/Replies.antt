@@ -1,5 +1,5 @@
 -- The replies to lines: what is written for each, and which state it leaves.
-use Rattle.std.specs.Prelude.{◌≡◌, ◌≢◌, ◌⊎◌, ◌<◌, ◌≤◌, ℕ, Bool, true, false, List, [], ◌∷◌, ◌++◌, codes, length, map, Option, None}
+use Rattle.std.specs.Prelude.{◌≡◌, ◌≢◌, ◌⊎◌, ◌<◌, ◌≤◌, ℕ, Bool, true, false, List, [], ◌∷◌, ◌++◌, codes, length, map, Option, Some, None}
 use Rattle.std.specs.Fmt.{decimal}
 use Rattle.std.specs.FinMap as finite
 use Rattle.ghc_term.specs.declared.var_name.VarName.{VarName}
@@ -21,7 +21,7 @@ use Rattle.ghc_records.specs.Journal.{step_of}
 use Rattle.ghc_records.specs.StepText.{record_text, step_text}
 use Rattle.ghc_records.specs.HistoryText.{history_text}
 use Rattle.ghc_depend.specs.Depend.{IsNotKept}
-use Rattle.ghc_depend.specs.Slices.{IsSliceOf}
+use Rattle.ghc_depend.specs.Slices.{IsGoalSliceOf, IsSliceOf}
 use Rattle.ghc_core.specs.World.{World, IsFull, with_step}
 use Rattle.ghc_core.specs.Events.{Command}
 use Rattle.ghc_core.specs.Events as command
@@ -45,7 +45,7 @@ use Rattle.ghc_trace.specs.declared.who_bound.Binder.{Binder}
 use Rattle.ghc_trace.specs.Who.{AreBindersTold, binder_text}
 use Rattle.ghc_trace.specs.Spies.{Spies}
 pub use Rattle.ghc_console.specs.TextLines.{lined, lines_or_none, numbers_text, record_lines, refusal, text_lines, undone_text}
-use Rattle.ghc_console.specs.Explaining.{RepliesToExplain}
+use Rattle.ghc_console.specs.Explaining.{RepliesToExplain, RepliesToExplainGoal}
 use Rattle.ghc_console.specs.Looks.{RepliesToSince, RepliesToCauses, RepliesToGoalOf, RepliesToClauses}
 use Rattle.ghc_console.specs.RunReplies.{TellsRun, RepliesToSkip}
 use Rattle.ghc_console.specs.Keeping.{TellsKept}
@@ -54,7 +54,7 @@ use Rattle.ghc_console.specs.VariableNamed.{IsVariableNamed}
 use Rattle.ghc_console.specs.AskedFor.{IsReadAskFor}
 use Rattle.ghc_console.specs.Commands.{command_of}
 use Rattle.ghc_console.specs.declared.command.LineCommand.{LineCommand}
-use Rattle.ghc_console.specs.declared.command.LineCommand.TheVariants.{Nothing as nothing, Step as step, Obey as obey, Show as show, Records as records, Since as since, Causes as causes, GoalOf as goal_of, Clauses as clauses, Goals as goals, Why as why, Who as who, Explain as explain, Keep as keep, Shelf as shelf, Save as save, SaveSteps as save_steps, Spy as spy, Unspy as unspy, Input as input, Ask as ask, Leap as leap, Skip as skip, Quit as quit, Unknown as unknown}
+use Rattle.ghc_console.specs.declared.command.LineCommand.TheVariants.{Nothing as nothing, Step as step, Obey as obey, Show as show, Records as records, Since as since, Causes as causes, GoalOf as goal_of, Clauses as clauses, Goals as goals, Why as why, Who as who, Explain as explain, ExplainGoal as explain_goal, Keep as keep, KeepGoal as keep_goal, Shelf as shelf, Save as save, SaveSteps as save_steps, Spy as spy, Unspy as unspy, Input as input, Ask as ask, Leap as leap, Skip as skip, Quit as quit, Unknown as unknown}
 use Rattle.ghc_console.specs.Reading.{line_limit}
 use Rattle.ghc_console.specs.SessionState.{SessionState, HasClauseFor, LeavesSpies, predicate_text}
 
@@ -145,6 +145,12 @@ pub data RepliesToKeep (w : World) (word : List ℕ) : List ℕ → World → Ty
       → RepliesToKeep w word text v
   keeps_nothing : ((x : VarName) → ¬ IsVariableNamed w word x) → RepliesToKeep w word (refusal Fault.NoVariable) w
 
+-- RepliesToKeepGoal w g text v: the kept steps outside of the slice of the goal named g are rolled back, which leaves the world v, and it is told how many are kept; or the refusal where there is no such goal.
+pub data RepliesToKeepGoal (w : World) (g : GoalName) : List ℕ → World → Type 0 where
+  keeps_goal : (b : Goal) (slice rest : List Record) {text : List ℕ} {v : World} → finite.get w.state.goals g ≡ Some b → IsGoalSliceOf w.opening.program w.kept w.state g b slice rest
+      → TellsKept w (numbers rest) text v → RepliesToKeepGoal w g text v
+  keeps_no_goal : finite.get w.state.goals g ≡ None → RepliesToKeepGoal w g (refusal Fault.NoGoal) w
+
 -- RepliesToSaveSteps w text: the history of the kept steps; or the refusal where one of them asks for goals, which no text of that version tells.
 pub data RepliesToSaveSteps (w : World) : List ℕ → Type 0 where
   tells_history : ¬ AskForGoals w.kept → RepliesToSaveSteps w (history_text (history_of w))
@@ -170,7 +176,9 @@ Replies workers spies w goals text v = RepliesToGoals w text × (v ≡ w)
 Replies workers spies w (why n) text v = RepliesToWhy w n text × (v ≡ w)
 Replies workers spies w (who word) text v = RepliesToWho w word text × (v ≡ w)
 Replies workers spies w (explain word) text v = RepliesToExplain w word text × (v ≡ w)
+Replies workers spies w (explain_goal g) text v = RepliesToExplainGoal w g text × (v ≡ w)
 Replies workers spies w (keep word) text v = RepliesToKeep w word text v
+Replies workers spies w (keep_goal g) text v = RepliesToKeepGoal w g text v
 Replies workers spies w shelf text v = (text ≡ shelf_text w.shelf) × (v ≡ w)
 Replies workers spies w save text v = TellsListing (session_listed w spies) text × (v ≡ w)
 Replies workers spies w save_steps text v = RepliesToSaveSteps w text × (v ≡ w)

@@ -14,8 +14,9 @@ use crate::clause_lines::clauses;
 use crate::command::{LineCommand, parse};
 use crate::debugger::Debugger;
 use crate::explain::explain;
+use crate::explain_goal::explain_goal;
 use crate::goal_of_step::goal_of;
-use crate::keep::keep;
+use crate::keep::{keep, keep_goal};
 use crate::obey_reply::{ask, input, obey};
 use crate::reading::Line;
 use crate::reply::{goals, refused, show, step};
@@ -57,7 +58,9 @@ fn tell(
         LineCommand::Why(number) => why(alloc, &debugger.core, *number, reply),
         LineCommand::Who(word) => who(alloc, &debugger.core, word.as_str(), reply),
         LineCommand::Explain(word) => explain(alloc, &mut debugger.core, word.as_str(), reply),
+        LineCommand::ExplainGoal(goal) => explain_goal(alloc, &mut debugger.core, *goal, reply),
         LineCommand::Keep(word) => keep(alloc, &mut debugger.core, word.as_str(), reply),
+        LineCommand::KeepGoal(goal) => keep_goal(alloc, &mut debugger.core, *goal, reply),
         LineCommand::Shelf => shelf(alloc, &debugger.core, reply),
         LineCommand::SaveSteps => save_steps(alloc, &debugger.core, reply),
         LineCommand::Spy(name, arity) => {

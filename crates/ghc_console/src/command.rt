@@ -1,10 +1,10 @@
 // The command of a line.
 ghost use Rattle.std.specs.Prelude.{◌≡◌, true, IfOk, IfSome, None, OnErr};
 ghost use Rattle.std.specs.List.{list_all};
-ghost use Rattle.ghc_console.specs.Words.{behind, goal_name_of, is_printable, is_variable, numbers_of, words_of};
+ghost use Rattle.ghc_console.specs.Words.{behind, goal_name_of, is_printable, is_variable, number_of, numbers_of, words_of};
 ghost use Rattle.ghc_console.specs.LineMemory.{BeginsWithNumber, KeepsText, TakesMemory};
 ghost use Rattle.ghc_console.specs.declared.command.LineCommand.TheVariants.{Step};
-ghost use Rattle.ghc_console.specs.Commands.{arrange_with, clauses_with, command_by_count, command_of, command_of_one_word, command_of_three_words, command_of_two_words, command_of_words, command_with_number, command_with_variable, input_to, save_of, leap_of, run_limit};
+ghost use Rattle.ghc_console.specs.Commands.{arrange_with, clauses_with, command_by_count, command_of, command_of_one_word, command_of_three_words, command_of_two_words, command_of_words, command_with_goal, command_with_number, command_with_variable, input_to, save_of, leap_of, named, run_limit};
 
 use crate::asked_for::ask_command;
 use crate::input_text::InputText;
@@ -47,8 +47,12 @@ pub enum LineCommand {
     Who(Word),
     /// Where the value of the variable that is written so comes from.
     Explain(Word),
+    /// Why the goal is there, and stands as it does.
+    ExplainGoal(GoalName),
     /// The rolling back of all steps on which the value of the variable that is written so does not rest.
     Keep(Word),
+    /// The rolling back of all steps on which the goal, with all at which it looks, does not rest.
+    KeepGoal(GoalName),
     /// The steps that were taken back.
     Shelf,
     /// The history of the whole session.
@@ -178,6 +182,30 @@ fn variable_command(
     Ok(LineCommand::Unknown)
 }
 
+// The command of a word with a goal.
+fn goal_command(first_word: &[u8], goal: GoalName) -> LineCommand
+    ensures { result ≡ command_with_goal first_word.now goal }
+{
+    if first_word == b"explain".as_slice() {
+        return LineCommand::ExplainGoal(goal);
+    }
+    if first_word == b"keep".as_slice() {
+        return LineCommand::KeepGoal(goal);
+    }
+    LineCommand::Unknown
+}
+
+// The command of a word with a goal or a number.
+fn named_command(first_word: &[u8], word: &[u8]) -> LineCommand
+    ensures { result ≡ named first_word.now (goal_name_of word.now) (number_of word.now) }
+{
+    match (goal_name(word), number(word)) {
+        (Some(goal), _) => goal_command(first_word, goal),
+        (None, Some(step)) => number_command(first_word, step),
+        (None, None) => LineCommand::Unknown,
+    }
+}
+
 // What the clauses say to the goal that the word names.
 fn clauses_command(word: &[u8]) -> LineCommand
     ensures { result ≡ clauses_with (goal_name_of word.now) }
@@ -234,10 +262,7 @@ fn two_word_command(
     if is_variable_word(word) {
         return variable_command(alloc, first_word, word);
     }
-    match number(word) {
-        Some(step) => Ok(number_command(first_word, step)),
-        None => Ok(LineCommand::Unknown),
-    }
+    Ok(named_command(first_word, word))
 }
 
 // The command of a word and two more.

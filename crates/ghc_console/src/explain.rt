@@ -19,7 +19,11 @@ use ghc_trace::{holders, push_holders, push_steps, slice_of};
 use std::alloc::{AllocError, Global};
 
 // The line that says how many of the kept steps the slice has.
-fn push_steps_line(core: &Core, slice: &[u32], reply: &mut String) -> Result<(), AllocError>
+pub(crate) fn push_steps_line(
+    core: &Core,
+    slice: &[u32],
+    reply: &mut String,
+) -> Result<(), AllocError>
     ensures { OnOk result (string_bytes reply.new ≡ string_bytes reply.old ++ steps_line slice.now core.now.world.kept) }
 {
     reply.push_str("steps ")?;

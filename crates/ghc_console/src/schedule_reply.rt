@@ -57,7 +57,9 @@ fn carry_out(alloc: Global, world: &mut World, command: LineCommand) -> Option<R
         | LineCommand::Why(_)
         | LineCommand::Who(_)
         | LineCommand::Explain(_)
+        | LineCommand::ExplainGoal(_)
         | LineCommand::Keep(_)
+        | LineCommand::KeepGoal(_)
         | LineCommand::Shelf
         | LineCommand::Save
         | LineCommand::SaveSteps

@@ -41,11 +41,11 @@ use Rattle.ghc_core.proofs.Resuming.{entered_by, enters_own}
 use Rattle.ghc_hooks.specs.Notes.{NotesByGoal}
 use Rattle.ghc_pool.specs.Runs.{Takes as Took}
 use Rattle.ghc_console.specs.Keeping.{RollBack, RollsBack, TellsKept}
-use Rattle.ghc_console.specs.Replies.{Takes, RepliesToKeep, RepliesToStep, IsObeyed, RepliesToInput, RepliesToAsk, RepliesToSpy, Replies, IsReply}
+use Rattle.ghc_console.specs.Replies.{Takes, RepliesToKeep, RepliesToKeepGoal, RepliesToStep, IsObeyed, RepliesToInput, RepliesToAsk, RepliesToSpy, Replies, IsReply}
 use Rattle.ghc_console.specs.RunReplies.{TellsRun, RepliesToSkip}
 use Rattle.ghc_console.specs.SessionState.{LeavesSpies}
 use Rattle.ghc_console.specs.declared.command.LineCommand.{LineCommand}
-use Rattle.ghc_console.specs.declared.command.LineCommand.TheVariants.{Nothing, Step as step, Obey, Show, Records, Since, Causes, GoalOf, Clauses, Goals, Why, Who, Explain, Keep, Shelf, Save, SaveSteps, Spy, Unspy, Input, Ask, Leap, Skip, Quit, Unknown}
+use Rattle.ghc_console.specs.declared.command.LineCommand.TheVariants.{Nothing, Step as step, Obey, Show, Records, Since, Causes, GoalOf, Clauses, Goals, Why, Who, Explain, ExplainGoal, Keep, KeepGoal, Shelf, Save, SaveSteps, Spy, Unspy, Input, Ask, Leap, Skip, Quit, Unknown}
 use Rattle.ghcdb.proofs.GoalNumbers.{HasShortBodies, goals_small}
 use Rattle.ghcdb.proofs.SaidEntries.{CanBeGiven, ChangeCanBeGiven, entry_said}
 use Rattle.ghcdb.proofs.SessionsStay.{both, either, same_predicate}
@@ -188,6 +188,10 @@ module _ (w : World) (told : IsTold w) where
   keep_tells word text v (RepliesToKeep.keeps x slice rest named is tells) = kept_tells _ text v tells
   keep_tells word text v (RepliesToKeep.keeps_nothing none) = told
 
+  keep_goal_tells : (g : GoalName) (text : List ℕ) (v : World) → RepliesToKeepGoal w g text v → IsTold v
+  keep_goal_tells g text v (RepliesToKeepGoal.keeps_goal b slice rest there is tells) = kept_tells _ text v tells
+  keep_goal_tells g text v (RepliesToKeepGoal.keeps_no_goal none) = told
+
   reply_tells : (workers : ℕ) (spies : Spies) (c : LineCommand) (text : List ℕ) (v : World) → IsSaidByLine c → Replies workers spies w c text v → IsTold v
   reply_tells workers spies Nothing text v said is = stays w v told is.1
   reply_tells workers spies (step g choice) text v said is = step_tells g choice text v is
@@ -202,7 +206,9 @@ module _ (w : World) (told : IsTold w) where
   reply_tells workers spies (Why n) text v said is = stays w v told is.1
   reply_tells workers spies (Who word) text v said is = stays w v told is.1
   reply_tells workers spies (Explain word) text v said is = stays w v told is.1
+  reply_tells workers spies (ExplainGoal g) text v said is = stays w v told is.1
   reply_tells workers spies (Keep word) text v said is = keep_tells word text v is
+  reply_tells workers spies (KeepGoal g) text v said is = keep_goal_tells g text v is
   reply_tells workers spies Shelf text v said is = stays w v told is.1
   reply_tells workers spies Save text v said is = stays w v told is.1
   reply_tells workers spies SaveSteps text v said is = stays w v told is.1
@@ -249,7 +255,9 @@ leaves_named workers spies w Goals text v left named said told leaves = subst Ha
 leaves_named workers spies w (Why n) text v left named said told leaves = subst HaveNames (sym leaves) named
 leaves_named workers spies w (Who word) text v left named said told leaves = subst HaveNames (sym leaves) named
 leaves_named workers spies w (Explain word) text v left named said told leaves = subst HaveNames (sym leaves) named
+leaves_named workers spies w (ExplainGoal g) text v left named said told leaves = subst HaveNames (sym leaves) named
 leaves_named workers spies w (Keep word) text v left named said told leaves = subst HaveNames (sym leaves) named
+leaves_named workers spies w (KeepGoal g) text v left named said told leaves = subst HaveNames (sym leaves) named
 leaves_named workers spies w Shelf text v left named said told leaves = subst HaveNames (sym leaves) named
 leaves_named workers spies w Save text v left named said told leaves = subst HaveNames (sym leaves) named
 leaves_named workers spies w SaveSteps text v left named said told leaves = subst HaveNames (sym leaves) named

@@ -16,11 +16,11 @@ use Rattle.ghc_core.specs.Reached.{Reaches, by_change}
 use Rattle.ghc_hooks.specs.Notes.{NotesByGoal}
 use Rattle.ghc_pool.specs.Runs.{Takes as Took}
 use Rattle.ghc_console.specs.Keeping.{RollBack, RollsBack, TellsKept}
-use Rattle.ghc_console.specs.Replies.{Takes, RepliesToKeep, RepliesToStep, IsObeyed, RepliesToInput, RepliesToAsk, RepliesToSpy, Replies, IsReply}
+use Rattle.ghc_console.specs.Replies.{Takes, RepliesToKeep, RepliesToKeepGoal, RepliesToStep, IsObeyed, RepliesToInput, RepliesToAsk, RepliesToSpy, Replies, IsReply}
 use Rattle.ghc_console.specs.RunReplies.{TellsRun, RepliesToSkip}
 use Rattle.ghc_console.specs.SessionState.{LeavesSpies}
 use Rattle.ghc_console.specs.declared.command.LineCommand.{LineCommand}
-use Rattle.ghc_console.specs.declared.command.LineCommand.TheVariants.{Nothing, Step, Obey, Show, Records, Since, Causes, GoalOf, Clauses, Goals, Why, Who, Explain, Keep, Shelf, Save, SaveSteps, Spy, Unspy, Input, Ask, Leap, Skip, Quit, Unknown}
+use Rattle.ghc_console.specs.declared.command.LineCommand.TheVariants.{Nothing, Step, Obey, Show, Records, Since, Causes, GoalOf, Clauses, Goals, Why, Who, Explain, ExplainGoal, Keep, KeepGoal, Shelf, Save, SaveSteps, Spy, Unspy, Input, Ask, Leap, Skip, Quit, Unknown}
 use Rattle.ghcdb.specs.Sessions.{IsStateOf, SessionsStaySessions}
 
 -- changes lead to the world v, and it has the opening of the world w
@@ -89,6 +89,10 @@ module _ (w : World) (at : Reaches w) where
   keep_goes word text v (RepliesToKeep.keeps x slice rest named is told) = kept_goes _ text v told
   keep_goes word text v (RepliesToKeep.keeps_nothing none) = (at, refl)
 
+  keep_goal_goes : (g : GoalName) (text : List ℕ) (v : World) → RepliesToKeepGoal w g text v → Goes w v
+  keep_goal_goes g text v (RepliesToKeepGoal.keeps_goal b slice rest there is told) = kept_goes _ text v told
+  keep_goal_goes g text v (RepliesToKeepGoal.keeps_no_goal none) = (at, refl)
+
   reply_goes : (workers : ℕ) (spies : Spies) (c : LineCommand) (text : List ℕ) (v : World) → Replies workers spies w c text v → Goes w v
   reply_goes workers spies Nothing text v is = stays w v at is.1
   reply_goes workers spies (Step g choice) text v is = step_goes g choice text v is
@@ -103,7 +107,9 @@ module _ (w : World) (at : Reaches w) where
   reply_goes workers spies (Why n) text v is = stays w v at is.1
   reply_goes workers spies (Who word) text v is = stays w v at is.1
   reply_goes workers spies (Explain word) text v is = stays w v at is.1
+  reply_goes workers spies (ExplainGoal g) text v is = stays w v at is.1
   reply_goes workers spies (Keep word) text v is = keep_goes word text v is
+  reply_goes workers spies (KeepGoal g) text v is = keep_goal_goes g text v is
   reply_goes workers spies Shelf text v is = stays w v at is.1
   reply_goes workers spies Save text v is = stays w v at is.1
   reply_goes workers spies SaveSteps text v is = stays w v at is.1
@@ -162,7 +168,9 @@ leaves_known workers spies w Goals text v left known told leaves = subst (Known 
 leaves_known workers spies w (Why n) text v left known told leaves = subst (Known w.opening.program) (sym leaves) known
 leaves_known workers spies w (Who word) text v left known told leaves = subst (Known w.opening.program) (sym leaves) known
 leaves_known workers spies w (Explain word) text v left known told leaves = subst (Known w.opening.program) (sym leaves) known
+leaves_known workers spies w (ExplainGoal g) text v left known told leaves = subst (Known w.opening.program) (sym leaves) known
 leaves_known workers spies w (Keep word) text v left known told leaves = subst (Known w.opening.program) (sym leaves) known
+leaves_known workers spies w (KeepGoal g) text v left known told leaves = subst (Known w.opening.program) (sym leaves) known
 leaves_known workers spies w Shelf text v left known told leaves = subst (Known w.opening.program) (sym leaves) known
 leaves_known workers spies w Save text v left known told leaves = subst (Known w.opening.program) (sym leaves) known
 leaves_known workers spies w SaveSteps text v left known told leaves = subst (Known w.opening.program) (sym leaves) known

@@ -13,7 +13,7 @@ use Rattle.ghc_console.specs.Commands as commands
 use Rattle.ghc_console.specs.PredicateWords.{is_name, predicate_named, predicate_of, predicate_of_parts}
 use Rattle.ghc_console.specs.Words.{behind, goal_name_of, is_number, is_printable, is_variable, number_of, numbers_of, words_of}
 use Rattle.ghc_console.specs.declared.command.LineCommand.{LineCommand}
-use Rattle.ghc_console.specs.declared.command.LineCommand.TheVariants.{Nothing, Step, Obey, Show, Records, Since, Causes, GoalOf, Clauses, Goals, Why, Who, Explain, Keep, Shelf, Save, SaveSteps, Spy, Unspy, Input, Ask, Leap, Skip, Quit, Unknown}
+use Rattle.ghc_console.specs.declared.command.LineCommand.TheVariants.{Nothing, Step, Obey, Show, Records, Since, Causes, GoalOf, Clauses, Goals, Why, Who, Explain, ExplainGoal, Keep, KeepGoal, Shelf, Save, SaveSteps, Spy, Unspy, Input, Ask, Leap, Skip, Quit, Unknown}
 
 -- what a line says: a spied predicate has a name and an arity that fit, and what is obeyed is no input and no ask
 abbrev pub IsSaidByLine : LineCommand → Type 0
@@ -37,7 +37,9 @@ IsSaidByLine Goals = Unit {0}
 IsSaidByLine (Why number) = Unit {0}
 IsSaidByLine (Who word) = Unit {0}
 IsSaidByLine (Explain word) = Unit {0}
+IsSaidByLine (ExplainGoal goal) = Unit {0}
 IsSaidByLine (Keep word) = Unit {0}
+IsSaidByLine (KeepGoal goal) = Unit {0}
 IsSaidByLine Shelf = Unit {0}
 IsSaidByLine Save = Unit {0}
 IsSaidByLine SaveSteps = Unit {0}
@@ -158,6 +160,13 @@ with_variable name word =
     (choose (bytes_eq name (codes "who")) _ _ tt
     (choose (bytes_eq name (codes "explain")) _ _ tt (choose (bytes_eq name (codes "keep")) _ _ tt tt)))
 
+with_goal : (name : List ℕ) (goal : GoalName) → IsSaidByLine (commands.command_with_goal name goal)
+with_goal name goal = choose (bytes_eq name (codes "explain")) _ _ tt (choose (bytes_eq name (codes "keep")) _ _ tt tt)
+
+named : (name : List ℕ) (o : Option GoalName) (number : Option ℕ) → IsSaidByLine (commands.named name o number)
+named name (Some goal) number = with_goal name goal
+named name None number = numbered name number
+
 two_words : (name word : List ℕ) → IsSaidByLine (commands.command_of_two_words name word)
 two_words name word =
     choose (bytes_eq name (codes "step")) _ _ (step_said (goal_name_of word))
@@ -166,7 +175,7 @@ two_words name word =
     (choose (bytes_eq name (codes "spy")) _ _ (spy_said (predicate_of word) (of_parts (slice_split (λ byte. byte == 47) word)))
     (choose (bytes_eq name (codes "nospy")) _ _ (unspy_said (predicate_of word))
     (choose (bytes_eq name (codes "save")) _ _ (save_said word)
-    (choose (is_variable word) _ _ (with_variable name word) (numbered name (number_of word))))))))
+    (choose (is_variable word) _ _ (with_variable name word) (named name (goal_name_of word) (number_of word))))))))
 
 three_words : (name goal number : List ℕ) → IsSaidByLine (commands.command_of_three_words name goal number)
 three_words name goal number = choose (bytes_eq name (codes "step")) _ _ (step_by_said (goal_name_of goal) (number_of number)) tt

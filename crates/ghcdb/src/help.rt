@@ -13,10 +13,10 @@ pub const AFTER_HELP: &str = "Commands of the session, a line each:
   why N             tell on which steps step N depends
   causes            tell so of all kept steps
   who X             tell which steps bound variable X
-  explain X         tell on which steps the value of X rests
+  explain X or G    tell on which steps the value of X, or goal G, rests
   undo N            take back step N, on which no other depends
   roll N            take back step N with all that depends on it
-  keep X            take back all steps on which X does not rest
+  keep X or G       take back all steps on which X, or G, does not rest
   shelf             list what was taken back
   redo N            put step N there again
   arrange N ..      put the kept steps into another lawful order

@@ -4,17 +4,17 @@ use Rattle.ghc_term.specs.Lists.{In}
 use Rattle.ghc_trace.specs.declared.holding.Holder.{Holder}
 use Rattle.ghc_trace.specs.Explaining.{AreHolderLines, AreStepLines}
 use Rattle.ghc_console.specs.Explaining.{RepliesToExplain, explains, steps_line}
-use Rattle.ghc_console.proofs.ExplainReplies.{holder_there, joined, slice_kept}
+use Rattle.ghc_console.proofs.ExplainReplies.{joined, reaching_there, told_kept}
 use Rattle.ghc_console.proofs.explain.told.Goals as goal
 
 pub push_holders-requires-clause-there : goal.push_holders-requires-clause-there
 push_holders-requires-clause-there c h i =
-    holder_there c.args.core.now.world.state c.args.x c.in_ok-held.held.items c.in_ok-held.ensures h (subst (λ (l : List Holder). In h l) c.as_slice.ensures.value i)
+    reaching_there c.args.core.now.world.state h ((c.in_ok-held.ensures.1 h).0 (subst (λ (l : List Holder). In h l) c.as_slice.ensures.value i)).1
 
 pub push_steps-requires : goal.push_steps-requires
 push_steps-requires c n i =
-    let w = c.args.core.now.world in
-    slice_kept w.kept w.state c.args.x c.in_ok-slice.slice.items c.in_ok-slice.ensures n (subst (λ (l : List ℕ). In n l) c.as_slice-2.ensures.value i)
+    let told = c.in_ok-slice.ensures in
+    told_kept c.args.core.now.world.kept told.0 c.in_ok-slice.slice.items told.2.0 told.3 n (subst (λ (l : List ℕ). In n l) c.as_slice-2.ensures.value i)
 
 pub returns : goal.returns
 returns c =
