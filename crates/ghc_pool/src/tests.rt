@@ -21,6 +21,7 @@ use std::test::*;
 use std::thread::Threads;
 
 // A goal of an even place waits; the step of one of step 100 or more makes a goal.
+#[derive(Drop)]
 struct Trial {
     alloc: Global,
 }

@@ -163,9 +163,9 @@ with_variable name word =
 with_goal : (name : List ℕ) (goal : GoalName) → IsSaidByLine (commands.command_with_goal name goal)
 with_goal name goal = choose (bytes_eq name (codes "explain")) _ _ tt (choose (bytes_eq name (codes "keep")) _ _ tt tt)
 
-named : (name : List ℕ) (o : Option GoalName) (number : Option ℕ) → IsSaidByLine (commands.named name o number)
-named name (Some goal) number = with_goal name goal
-named name None number = numbered name number
+with_goal_or_number : (name : List ℕ) (o : Option GoalName) (number : Option ℕ) → IsSaidByLine (commands.named name o number)
+with_goal_or_number name (Some goal) number = with_goal name goal
+with_goal_or_number name None number = numbered name number
 
 two_words : (name word : List ℕ) → IsSaidByLine (commands.command_of_two_words name word)
 two_words name word =
@@ -175,7 +175,7 @@ two_words name word =
     (choose (bytes_eq name (codes "spy")) _ _ (spy_said (predicate_of word) (of_parts (slice_split (λ byte. byte == 47) word)))
     (choose (bytes_eq name (codes "nospy")) _ _ (unspy_said (predicate_of word))
     (choose (bytes_eq name (codes "save")) _ _ (save_said word)
-    (choose (is_variable word) _ _ (with_variable name word) (named name (goal_name_of word) (number_of word))))))))
+    (choose (is_variable word) _ _ (with_variable name word) (with_goal_or_number name (goal_name_of word) (number_of word))))))))
 
 three_words : (name goal number : List ℕ) → IsSaidByLine (commands.command_of_three_words name goal number)
 three_words name goal number = choose (bytes_eq name (codes "step")) _ _ (step_by_said (goal_name_of goal) (number_of number)) tt
