@@ -130,7 +130,7 @@ not_a_call _ f ts h e = cc
 pub passed : {T : Type 0} (F : Fault → Type 0) (r : Result T Fault) (d e : Fault) → r ≡ Err d → d ≡ e → F e → IfErr r F
 passed F r d e p q f = subst (λ x. IfErr x F) (sym (p ∙ ap Err q)) f
 
--- the fault of the clause behind the ones that were checked
+-- the fault of the clause after the ones that were checked
 pub fault_behind : (D : List ℕ → ℕ → Type 0) (ws : List WrittenClause) (yielded : List WrittenClause) (P : Program) (w : WrittenClause) (m : ℕ) (e : Fault) → yielded ≡ take (length yielded) ws → length yielded < length ws → w ≡ get_or ws (length yielded) w
     → AreMadeOf yielded P → ((c : Clause) → In c P → IsWellMade c × AllCalls D c.body) → m ≡ length yielded + 1 → IsClauseFault D m w e → IsFirstFault D ws e
 fault_behind D ws yielded P w m e same h at made sound place f = record {

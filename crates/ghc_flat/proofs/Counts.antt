@@ -8,7 +8,7 @@ counts_none k = (tt, omega arith)
 pub counts_other : (x : VarName) (k : ℕ) → x ≢ asked (k + 1) → CountsTo (x ∷ []) k (Err x)
 counts_other x k n = let same : k + 0 + 1 ≡ k + 1 = omega arith in ([], [], refl, tt, λ e. n (e ∙ ap asked same))
 
--- one list counted behind another
+-- one list counted after another
 pub counts_append : (xs ys : List VarName) (k m : ℕ) (r : Result ℕ VarName) → CountsTo xs k (Ok m) → CountsTo ys m r → CountsTo (xs ++ ys) k r
 counts_append xs ys k m (Ok n) p q =
     let ends : m ≡ k + length xs = p.1 in
@@ -48,7 +48,7 @@ node_variables f whole front last e = sym (all_list whole ∙ ap variables_of_li
 pub list_next : (ts : List Tree) (i : ℕ) (t : Tree) → i < length ts → t ≡ get_or ts i t → variables_of_list (take i ts) ++ variables t ≡ variables_of_list (take (i + 1) ts)
 list_next ts i t h e = sym (ap variables_of_list (take_more ts i t h ∙ ap (λ u. take i ts ++ u ∷ []) (sym e)) ∙ list_push (take i ts) t)
 
--- and of the terms behind it
+-- and of the terms after it
 pub list_rest : (ts : List Tree) (i : ℕ) (t : Tree) → i < length ts → t ≡ get_or ts i t → (rest : List VarName) × ((variables_of_list (take i ts) ++ variables t) ++ rest ≡ variables_of_list ts)
 list_rest ts i t h e =
     let parts : take (i + 1) ts ++ drop (i + 1) ts ≡ ts = take-append-drop (i + 1) ts in

@@ -1,4 +1,4 @@
--- The fresh variables of a clause have the numbers behind those of its head.
+-- The fresh variables of a clause have the numbers after those of its head.
 use Rattle.ghc_flat.proofs.Words.{◌-◌, length-append, ◌≡◌, ℕ, suc, ◌+◌, Bool, ◌||◌, cond, List, [], ◌∷◌, ◌++◌, length, append_assoc, inl, inr, refl, sym, ap, ◌∙◌, arith, Some, slice_get, reverse, list_any, eq_by_cmp, IsPermutation-reverse, list_any-IsPermutation, VarName, name_cmp, In, in_any, AreNumbered, Test, Clause, IsFlat, asked, firsts, variables_of_list, variables_of_test, variables_of_tests, variables_of_goals, variables_of_clause, fresh_variables, Rises, in_either}
 use mathlib.Core.List.{reverse_aux}
 use Rattle.ghc_flat.proofs.Rising.{ArePlacedUpTo, not_in_any, above_absent, placed_more}

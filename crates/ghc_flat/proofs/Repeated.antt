@@ -3,7 +3,7 @@ use Rattle.ghc_flat.proofs.Words.{◌≡◌, ℕ, ◌+◌, ◌<◌, List, [], �
 use Rattle.ghc_term.specs.Variables.{firsts, variables_of_goals}
 use Rattle.ghc_flat.proofs.Rising.{again, place_of_in, rises_distinct, firsts_long}
 
--- the variables behind the front of a head
+-- the variables after the front of a head
 behind : WrittenClause → List VarName → VarName → List VarName → List VarName
 behind w front x back = back ++ (variables_of_guards w.guards ++ variables_of_goals w.body)
 

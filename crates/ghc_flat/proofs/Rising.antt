@@ -74,7 +74,7 @@ placed_more k seen y e b z (inl s) =
     omega (arith, place)
 placed_more k seen y e b z (inr i) = let low : z.place ≤ k = b z i in omega (arith, low)
 
--- behind variables that go up, a new one is the next by first occurrence
+-- after variables that go up, a new one is the next by first occurrence
 pub next_first : (front : List VarName) (k : ℕ) (seen : List VarName) (x : VarName) (rest : List VarName) → Rises k front → ArePlacedUpTo k seen → (¬ In x front) → (¬ In x seen)
     → slice_get (firsts seen (front ++ x ∷ rest)) (length front) ≡ Some x
 next_first [] k seen x rest r b n m = ap (λ t. slice_get (cond t (firsts seen rest) (x ∷ firsts (x ∷ seen) rest)) 0) (not_in_any x seen m)
@@ -89,7 +89,7 @@ firsts_long (y ∷ ys) k seen rest r b =
     let same = ap (λ t. length (cond t (firsts seen (ys ++ rest)) (y ∷ firsts (y ∷ seen) (ys ++ rest)))) (not_in_any y seen (above_absent k seen y r.0 b)) in
     omega (arith, same, firsts_long ys (k + 1) (y ∷ seen) rest r.1 (placed_more k seen y r.0 b))
 
--- in a numbered list, behind variables that go up, one that does not go on is one of them
+-- in a numbered list, after variables that go up, one that does not go on is one of them
 pub again : (front : List VarName) (x : VarName) (rest : List VarName) → AreNumbered (front ++ x ∷ rest) → Rises 0 front → x ≢ asked (0 + length front + 1) → In x front
 again front x rest numbered r other =
     elim (in_decided name_decided x front) [

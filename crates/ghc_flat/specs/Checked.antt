@@ -59,7 +59,7 @@ IsRepeated w v = (x : VarName) × IsFirstTwice (variables_of_list w.head) x × I
 abbrev pub IsLinearWritten : WrittenClause → Type 0
 IsLinearWritten w = AreDistinct (variables_of_list w.head)
 
--- The guard is flat behind a head of these variables: it makes tests, and each variable of the tests is one of them.
+-- The guard is flat after a head of these variables: it makes tests, and each variable of the tests is one of them.
 abbrev pub IsFlatGuard : List VarName → Guard → Type 0
 IsFlatGuard xs g = (ts : List Test) × MakesTests g ts × ((t : Test) (x : VarName) → In t ts → In x (variables_of_test t) → In x xs)
 

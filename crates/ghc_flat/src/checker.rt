@@ -21,10 +21,10 @@ use ghc_reader::{Query, Source, WrittenClause};
 use ghc_term::{Fault, Goal, GoalView, Name};
 use std::alloc::Global;
 
-/// The program that is written, where it and the query are accepted, or else the first fault, by clauses in order: a
-/// variable that stands twice in the head, a guard that is not flat, the first undefined call of the body; then the
-/// first undefined call of the query. `Memory` comes for want of memory alone. Time and memory grow with the number of
-/// symbols.
+/// The program that is written, where it and the query are accepted, or else the first fault, by clauses in order.
+/// Faults of a clause, in order: a variable twice in the head, a guard that is not flat, the first undefined call of
+/// the body. Last comes the first undefined call of the query. `Memory` comes only where memory is refused. Time and
+/// memory grow with the number of symbols.
 pub fn check(alloc: Global, source: Source, query: &Query) -> Result<Program, Fault>
     ensures answer { Answered (IsAcceptedAs source query.now.goals) (IsFault source query.now.goals) result }
 {

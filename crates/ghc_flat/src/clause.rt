@@ -87,8 +87,8 @@ impl Clause {
         &self.body
     }
 
-    /// How many variables stand in its head: one step. They are `_0_1` up to this number, and the i-th fresh variable of
-    /// the body, one that does not stand in the head, has the i-th number behind it.
+    /// How many variables stand in its head: one step. They are `_0_1` up to this number. The i-th fresh variable of the
+    /// body, one that does not stand in the head, has the i-th number after this.
     pub fn head_variables(&self) -> u32
         ensures count { result ≡ length (variables_of_list self.now.head) }
         ensures fresh { (i : ℕ) (x : VarName) → slice_get (fresh_variables self.now) i ≡ Some x → x ≡ asked (result + i + 1) }

@@ -44,7 +44,7 @@ impl Arities {
         }
     }
 
-    // Adds a number at the arity, behind those that are there.
+    // Adds a number at the arity, after those that are there.
     fn add(&mut self, alloc: Global, arity: usize, number: u32) -> Result<(), AllocError>
         ensures { OnOk result ((n : ℕ) → numbers_of_arity self.new n ≡ numbers_of_arity self.old n ++ (if nat_eq arity n then number ∷ [] else [])) }
     {
@@ -124,7 +124,7 @@ impl Index {
         }
     }
 
-    // Adds a number at the name and the arity, behind those that are there.
+    // Adds a number at the name and the arity, after those that are there.
     fn add(
         &mut self,
         alloc: Global,

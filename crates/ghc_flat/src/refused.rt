@@ -7,14 +7,14 @@ use ghc_term::Fault;
 /// The text at fault, with its fault.
 #[derive(Debug, Drop)]
 pub enum Refused {
-    /// The program. Want of memory is told as its fault.
+    /// The program, also where memory is refused.
     Program(Fault),
     /// The query.
     Query(Fault),
 }
 
 impl Refused {
-    // The refusal for what the query came to: want of memory is told as the program's.
+    // The refusal for what the query came to; refused memory counts as the program's.
     pub(crate) fn of_query(fault: Fault) -> Refused
         ensures { result ≡ refused_of_query fault }
     {

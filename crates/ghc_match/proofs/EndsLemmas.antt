@@ -4,7 +4,7 @@ use Rattle.std.specs.FinSet as set
 use Rattle.ghc_match.proofs.Values.{ends_once, variable_is}
 use Rattle.ghc_match.proofs.Positions.{value_not}
 
--- what is told of one tree is told of another that ends as it does
+-- an answer about one tree holds of another that ends as it does
 told_as : (P Q : Tree → Type 0) (end : End) → ((e : Tree) → P e → Q e) → ((e : Tree) → Q e → P e) → TellsEnd P end → TellsEnd Q end
 told_as P Q Nowhere f g h = λ e q. h e (g e q)
 told_as P Q (Unbound x) f g h = f (variable x) h
@@ -60,7 +60,7 @@ shown_no_integer _ n k e = cc
 pub leaf_number : (E : VarName → Tree → Type 0) (x : VarName) (t : Tree) (k : ℤ) → variable x ≡ t → Number E (leaf t) k → E x (integer k)
 leaf_number E x t k e n = variable_is (subst (λ z. Number E (leaf z) k) (sym e) n)
 
--- what is told at an end that is not unbound: that it ends at no variable
+-- where the answer is no unbound variable, it ends at no variable
 pub not_unbound : (P : Tree → Type 0) (end : End) → ((e f : Tree) → P e → P f → e ≡ f) → ((x : VarName) → end ≢ Unbound x) → TellsEnd P end → (x : VarName) → ¬ P (variable x)
 not_unbound P Nowhere once n h x p = h (variable x) p
 not_unbound P (Unbound y) once n h x p = n y refl
@@ -93,7 +93,7 @@ module _ (stands : StoreValue) (S : VarName → Option Tree) (x : VarName) (t e 
   pub none_added : (s : Variables) → IsValue e → Gains s s (λ z. StandsAndEnds stands S x (variable z))
   none_added s v = after_other (StandsAndEnds stands S x) s s (not_ended v) refl
 
--- what ends in no value that was told ends in no value
+-- where the answer is no value, it ends in no value
 pub no_value_told : (P : Tree → Type 0) (end : End) → ((e f : Tree) → P e → P f → e ≡ f) → ((t : _) → end ≢ Value t) → TellsEnd P end → (e : Tree) → P e → ¬ IsValue e
 no_value_told P Nowhere once n h e p = absurd (h e p)
 no_value_told P (Unbound x) once n h e p = value_not (once e (variable x) p h)

@@ -42,7 +42,7 @@ fn apply_to_last(operator: Operator, values: &mut Vec<i64>) -> Option<i64>
     apply(operator, left, right)
 }
 
-// Puts the value of a leaf behind the others, or the tasks of an operation; false where a leaf has no value.
+// Puts the value of a leaf after the others, or the tasks of an operation; false where a leaf has no value.
 fn find<'a>(
     store: &Store,
     scope: Scope<'_>,

@@ -94,8 +94,8 @@ impl<'a> Stands<'a> {
         self.many.get(x)
     }
 
-    /// The same map with handles of its own for the terms: one step for each. Fails for want of memory, or where a count of handles
-    /// is full.
+    /// The same map with handles of its own for the terms: one step for each. It fails where memory is refused, or where a
+    /// count of handles is full.
     pub fn share(&self) -> Result<Bindings, AllocError>
         ensures { IfOk result (λ b. b ≡ self.now) }
     {

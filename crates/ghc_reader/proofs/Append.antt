@@ -1,4 +1,4 @@
--- The tokens that follow a derivation stay behind it.
+-- The tokens that follow a derivation stay after it.
 use Rattle.ghc_reader.proofs.Words.{◌≡◌, ℕ, List, [], ◌∷◌, ◌++◌, refl, ap, ◌∙◌, Open, Close, OpenList, CloseList, Comma, Bar, Equals, Assign, Define, Stop, Token, Term, call, list, Arguments, without, within, Rest, closed, whole, partial, Terms, one, more, Operand, nested, Factors, factor, factors, Expression, summand, summands, Item, goal, unify, assign, Test, plain_test, compare, Tests, last_test, next_test, Body, last, next, Right, unguarded, guarded, Clause, fact, rule, term, arguments, rest, terms, operand, expression, item, test, tests, body, right, clause}
 use Rattle.ghc_reader.specs.declared.token.Token.TheVariants as token
 use Rattle.ghc_reader.specs.Grammar.{product}

@@ -18,14 +18,14 @@ tests_in_right ts left f =
     (λ c. (guarded c (last (goal some_name without)), token.Mark Bar ∷ token.Name some_name ∷ token.Mark Stop ∷ [], refl))
     (λ us same d r p e. tests_of_right d us r e)
 
--- behind the tests stands a bar, or a full stop where they are a body
+-- after the tests stands a bar, or a full stop where they are a body
 behind_tests : (t : Tests) (d : Right) (us r : List Token) → EndsTests t (first us) → tests t us ≡ right d r → ((b : Body) × (t ≡ as_tests b) × (us ≡ token.Mark Stop ∷ r)) ⊎ ((b : Body) × (us ≡ token.Mark Bar ∷ body b (token.Mark Stop ∷ r)))
 behind_tests t (unguarded x) us r p e =
     let s = one_tests t (as_tests x) us (token.Mark Stop ∷ r) p (stop_ends_tests (as_tests x)) (e ∙ sym (tests_body x (token.Mark Stop ∷ r))) in inl (x, s.derivation, s.behind)
 behind_tests t (guarded u x) us r p e =
     let s = one_tests t u us (token.Mark Bar ∷ body x (token.Mark Stop ∷ r)) p (bar_ends_tests u) e in inr (x, s.behind)
 
--- neither a bar stands there, nor a full stop behind tests that are a body
+-- neither a bar stands there, nor a full stop after tests that are a body
 pub bar_missing : (t : Tests) (ts : List Token) → EndsTests t (first ts) → ¬ Begins Bar ts → ((b : Body) → t ≡ as_tests b → ¬ Begins Stop ts) → Fault Right right EndsRight (tests t ts) (length ts)
 bar_missing t ts p n m =
     here Right right EndsRight (λ l. tests t l) ts (λ a b. tests_append t a b) (guarded t (last (goal some_name without))) (token.Mark Bar ∷ token.Name some_name ∷ token.Mark Stop ∷ []) refl
@@ -113,7 +113,7 @@ pub program_and : (p : Program) (d : Clause) (ts : List Token) → program (and_
 program_and done d ts = refl
 program_and (clauses c p) d ts = ap (clause c) (program_and p d ts)
 
--- what stands behind these clauses, where it isn't the end, is a clause
+-- what stands after these clauses, where it isn't the end, is a clause
 clause_of_program : (x d : Program) (us r : List Token) → EndsProgram d (first r) → first us ≢ None → program x us ≡ program d r → (c : Clause) × (r' : List Token) × (us ≡ clause c r')
 clause_of_program done done us r p n e = absurd (n (ap first e ∙ p))
 clause_of_program done (clauses c q) us r p n e = (c, program q r, e)

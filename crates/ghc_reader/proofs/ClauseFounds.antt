@@ -1,4 +1,4 @@
--- The derivation of clauses, from those of their parts, and the faults behind them.
+-- The derivation of clauses, from those of their parts, and the faults after them.
 use Rattle.ghc_reader.proofs.Words.{◌≡◌, ◌≢◌, ℕ, List, [], ◌∷◌, ◌++◌, length, refl, sym, ap, ◌∙◌, subst, Comparison, Comma, Bar, Define, Stop, Token, first, Begins, plain_test, compare, Tests, last_test, next_test, Body, last, next, Right, unguarded, guarded, Clause, fact, rule, Program, arguments, rest, tests, body, right, clause, program, EndsTests, EndsRight, EndsClause, EndsProgram, FoundAt, Fault, call_of, item_of, tests_of, goals_of, right_of, clause_of, Trees, Goal, Value}
 use Rattle.ghc_reader.specs.declared.token.Token.TheVariants as token
 use Rattle.ghc_reader.specs.Source as tree
@@ -77,7 +77,7 @@ found_guarded ts behind inside rest after a gs x e y f =
       stops = tt;
     }
 
--- a full stop behind tests of which one is a comparison
+-- a full stop after tests of which one is a comparison
 pub at_stop : (ts behind after : List Token) (a : List tree.Test) → TestsFound ts a behind → behind ≡ token.Mark Stop ∷ after → ((gs : List Goal) → a ≢ tree.plains gs) → RightFault ts (length behind)
 at_stop ts behind after a x e n =
     subst (λ l. RightFault l (length behind)) (sym x.spelled)

@@ -132,7 +132,7 @@ filled_same (t ∷ ts) n = ap (λ l. t ∷ l) (filled_same ts n)
 pub filled_append : (a b : List Token) → filled (a ++ b) ≡ filled a ++ filled b
 filled_append a b = map-append filled_token a b
 
--- a variable stays among the tokens behind others
+-- a variable stays among the tokens after others
 pub variable_among : (a : List Token) (v : List ℕ) (b : List Token) → NoVariable (a ++ token.Variable v ∷ b) → ⊥
 variable_among [] v b n = n
 variable_among (token.Variable w ∷ a) v b n = n

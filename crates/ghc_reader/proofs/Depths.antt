@@ -1,4 +1,4 @@
--- The open brackets behind the first tokens of a list.
+-- The open brackets after the first tokens of a list.
 use Rattle.ghc_reader.proofs.Words.{◌≡◌, ℕ, ◌+◌, ◌<◌, ◌≤◌, List, [], ◌∷◌, ◌++◌, length, get_or, take, drop, refl, sym, ap, subst, ◌∙◌, arith, length-append, inl, inr, cases_lt, take_more, take-append-drop, take-append_seam, open_behind, open_after, IsDeeperThan, Token}
 
 open_after-append : (n : ℕ) (front rest : List Token) → open_after n (front ++ rest) ≡ open_after (open_after n front) rest
@@ -8,7 +8,7 @@ open_after-append n (t ∷ front) rest = open_after-append (open_behind n t) fro
 pub open_after-more : (n : ℕ) (ts : List Token) (i : ℕ) (d : Token) → i < length ts → open_after n (take (i + 1) ts) ≡ open_behind (open_after n (take i ts)) (get_or ts i d)
 open_after-more n ts i d within = ap (open_after n) (take_more ts i d within) ∙ open_after-append n (take i ts) (get_or ts i d ∷ [])
 
--- it is too deep behind the first tokens
+-- it is too deep after the first tokens
 pub deep_at : (most : ℕ) (ts : List Token) (n : ℕ) → most < open_after 0 (take n ts) → IsDeeperThan most ts
 deep_at most ts n deep = (take n ts, drop n ts, sym (take-append-drop n ts), deep)
 

@@ -36,7 +36,7 @@ abbrev mutual
   derive_terms d tree.none = one d
   derive_terms d (tree.some t ts) = more d (derive_terms (derive t) ts)
 
-  -- the list of which d is the first element, and that has the tree behind it
+  -- the list of which d is the first element, with the tree after it
   pub derive_list : Term → Tree → Rest
   derive_list d (tree.variable v) = partial (one d) (variable v)
   derive_list d (tree.integer k) = partial (one d) (integer k)

@@ -55,7 +55,7 @@ pub product_also : (x : Factors) (o : Product) (v : Operand) (ts : List Token) �
 product_also (factor u) o v ts = refl
 product_also (factors u k x) o v ts = ap (λ l. operand u (token.Product k ∷ l)) (product_also x o v ts)
 
--- the factors behind a first one
+-- the factors after a first one
 others_of_product : (u : Operand) (o : Product) (d : Factors) (us r : List Token) → EndsProduct d (first r)
     → operand u (token.Product o ∷ us) ≡ product d r → (y : Factors) × (r' : List Token) × EndsProduct y (first r') × (us ≡ product y r')
 others_of_product u o (factor v) us r p e = let s = one_operand u v (token.Product o ∷ us) r e in absurd (p o (sym (ap first s.behind)))
@@ -89,7 +89,7 @@ pub expression_also : (x : Expression) (o : Sum) (v : Factors) (ts : List Token)
 expression_also (summand u) o v ts = refl
 expression_also (summands u k x) o v ts = ap (λ l. product u (token.Sum k ∷ l)) (expression_also x o v ts)
 
--- the summands behind a first one
+-- the summands after a first one
 others_of_expression : (u : Factors) (o : Sum) (d : Expression) (us r : List Token) → EndsExpression d (first r)
     → product u (token.Sum o ∷ us) ≡ expression d r → (y : Expression) × (r' : List Token) × EndsExpression y (first r') × (us ≡ expression y r')
 others_of_expression u o (summand v) us r p e =

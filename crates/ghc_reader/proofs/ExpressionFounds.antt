@@ -1,4 +1,4 @@
--- The derivation of an expression, from those of its parts, and the faults behind them.
+-- The derivation of an expression, from those of its parts, and the faults after them.
 use Rattle.ghc_reader.proofs.Words.{◌≡◌, ◌≢◌, ℕ, ℤ, List, ◌∷◌, length, Some, sym, ap, ◌∙◌, subst, Sum, Product, Mark, Open, Close, Token, first, Begins, Operand, nested, Factors, Expression, operand, expression, EndsOperand, EndsProduct, EndsExpression, Found, Fault, operand_of, product_of, value_of, Value, value_view}
 use Rattle.ghc_reader.specs.declared.token.Token.TheVariants as token
 use Rattle.ghc_reader.specs.Grammar.{number, named, product}

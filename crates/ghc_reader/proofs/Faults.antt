@@ -6,7 +6,7 @@ first_append [] a b e = e
 first_append (t ∷ ts) a b e = refl
 
 module _ {C D : Type 0} {spell : C → List Token → List Token} {spell' : D → List Token → List Token} {Ends : C → Option Token → Type 0} {Ends' : D → Option Token → Type 0} where
-  -- a derivation C stands behind the tokens of pre in D
+  -- a derivation C stands after the tokens of pre in D
   pub inside : {ts : List Token} {left : ℕ} (pre : List Token → List Token) → Fault C spell Ends ts left
       → ((a b : List Token) → pre (a ++ b) ≡ pre a ++ b)
       → ((c : C) (a b : List Token) → spell c (a ++ b) ≡ spell c a ++ b)
@@ -44,7 +44,7 @@ module _ {C D : Type 0} {spell : C → List Token → List Token} {spell' : D �
   in_front f append completes inverts = inside (λ l. l) f (λ a b. refl) append completes (λ us same d r p e. inverts d us r p e)
 
 module _ (D : Type 0) (spell : D → List Token → List Token) (Ends : D → Option Token → Type 0) where
-  -- the first of ts doesn't go on behind the tokens of pre
+  -- the first of ts doesn't go on after the tokens of pre
   pub here : (pre : List Token → List Token) (ts : List Token) → ((a b : List Token) → pre (a ++ b) ≡ pre a ++ b) → (d : D) (tail : List Token) → pre tail ≡ spell d [] → ((us : List Token) → first us ≡ first ts → (e : D) (r : List Token) → Ends e (first r) → pre us ≡ spell e r → ⊥) → Fault D spell Ends (pre ts) (length ts)
   here pre ts append d tail e stuck = record {
     front = pre [];

@@ -4,7 +4,7 @@ use Rattle.ghc_reader.specs.Bytes.{Begins}
 use Rattle.ghc_reader.specs.declared.lexer.symbol.Symbol.TheVariants as symbol
 use Rattle.ghc_reader.specs.declared.lexer.front.Kind.TheVariants as kind
 
--- a run with nothing behind it that goes on with it is as long as any run there
+-- a run with nothing after it that goes on with it is as long as any run there
 pub run_is_longest : (test : ℕ → Bool) (v less w rest : List ℕ) → list_all test v ≡ true → Lacks test rest → w ++ rest ≡ v ++ less → length v ≤ length w
 run_is_longest test [] less w rest all stops e = omega arith
 run_is_longest test (b ∷ v) less [] rest all stops e =
@@ -13,7 +13,7 @@ run_is_longest test (b ∷ v) less [] rest all stops e =
 run_is_longest test (b ∷ v) less (c ∷ w) rest all stops e =
     let shorter = run_is_longest test v less w rest (grind (arith, all)) stops (cc) in omega arith
 
--- the bytes behind the first byte of any piece that begins with b pass the test
+-- the bytes after the first byte of any piece that begins with b pass the test
 abbrev pub LeavesOnly : Bool → ℕ → (ℕ → Bool) → Type 0
 LeavesOnly signs b test = (k : Kind) (v : List ℕ) → HasForm signs k (b ∷ v) → list_all test v ≡ true
 
@@ -122,7 +122,7 @@ pub integer_stands : (signs : Bool) (text bytes rest : List ℕ) → text ≡ by
 integer_stands signs text bytes rest split all stops begins =
     split_stands signs kind.Integer is_ascii_digit is_ascii_digit text bytes rest split all stops begins (λ b h. h) (λ b h. digit_leaves signs b h) (λ run. inl run)
 
--- what a minus and the digits behind it are cut into
+-- what a minus and the digits after it are cut into
 pub record CutNegative (text bytes rest : List ℕ) : Type 0 where
   pub split : text ≡ bytes ++ rest
   pub stands : Stands true (record { kind = kind.Integer; bytes = bytes }) rest

@@ -35,7 +35,7 @@ first_of_term : (s : Term) (a b : List Token) → first (term s a) ≡ first (te
 first_of_term (list x) a b = refl
 first_of_term s a b = refl
 
--- what stands behind the term in front of an item
+-- what stands after the term in front of an item
 behind_term : (s : Term) (d : Item) (us r : List Token) → EndsItem d (first r) → IsNotNamed (term s us) → EndsTerm s (first us) → ¬ Begins Equals us → term s us ≡ item d r → (v : List ℕ) × (s ≡ variable v) × Begins Assign us
 behind_term s (goal g x) us r q n p m e = absurd (n g (ap first e))
 behind_term s (unify u t) us r q n p m e =
@@ -94,7 +94,7 @@ pub body_and_then : (x : Body) (j : Item) (ts : List Token) → body (and_then x
 body_and_then (last i) j ts = refl
 body_and_then (next i x) j ts = ap (λ l. item i (token.Mark Comma ∷ l)) (body_and_then x j ts)
 
--- the goals behind a first one
+-- the goals after a first one
 others_of_body : (i : Item) (d : Body) (us r : List Token) → EndsBody d (first r) → item i (token.Mark Comma ∷ us) ≡ body d r
     → (y : Body) × (r' : List Token) × EndsBody y (first r') × (us ≡ body y r')
 others_of_body i (last j) us r p e =

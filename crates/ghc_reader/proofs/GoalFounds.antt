@@ -1,4 +1,4 @@
--- The derivation of goals and tests, from those of their parts, and the faults behind them.
+-- The derivation of goals and tests, from those of their parts, and the faults after them.
 use Rattle.ghc_reader.proofs.Words.{◌≡◌, ◌≢◌, ℕ, List, [], ◌∷◌, length, Some, None, false, sym, ap, ◌∙◌, subst, Comparison, Comma, Equals, Assign, Stop, Token, first, item_like, Begins, IsNotNamed, IsNotAssigned, Term, Item, goal, unify, assign, Test, plain_test, compare, Body, Query, plain, stopped, term, expression, item, test, body, query, EndsTerm, EndsItem, EndsTest, EndsBody, EndsQuery, FoundAt, Fault, tree_of, arguments_of, value_of, call_of, item_of, test_of, goals_of, query_of, Tree, Trees, Goal, Value, arith}
 use Rattle.ghc_reader.specs.declared.token.Token.TheVariants as token
 use Rattle.ghc_reader.specs.Source as tree

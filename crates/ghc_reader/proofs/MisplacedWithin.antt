@@ -23,7 +23,7 @@ placed m true c less n e =
     let same : c.left ≡ n = cc in omega (arith, same)
 placed m false c less n e = cc
 
--- ---- the tokens behind a part are no more than those with it
+-- ---- the tokens after a part are no more than those with it
 
 item_longer : (i : Item) (ts : List Token) → length ts ≤ length (item i ts)
 item_longer i ts = omega (arith, ap length (item_append i [] ts), length-append (item i []) ts)

@@ -10,11 +10,11 @@ use Rattle.ghc_reader.proofs.TermsLowered.{variables_of_trees}
 use Rattle.ghc_reader.proofs.ClausesLowered.{leaves_are_all}
 use Rattle.ghc_reader.proofs.Streams.{no_stream}
 
--- The things are one, and the variables behind them too.
+-- The things are one, and the variables after them too.
 abbrev Same : {A : Type 0} → A → A → List VarName → List VarName → Type 0
 Same u w xs ys = (u ≡ w) × (xs ≡ ys)
 
--- the variables in front of others, where they are those of two lists, one behind the other
+-- the variables in front of others, where they are those of two lists, one after the other
 apart : (ks ls ms ns xs ys : List VarName) → ks ++ ls ++ xs ≡ ms ++ ns ++ ys → ks ++ (ls ++ xs) ≡ ms ++ (ns ++ ys)
 apart ks ls ms ns xs ys e = sym (append_assoc ks ls xs) ∙ e ∙ append_assoc ms ns ys
 
@@ -131,11 +131,11 @@ module _ (a b : Names) where
 
   -- ---- the goals of a query
 
-  -- Behind n streams, the k-th stream of the goals is stream n + k.
+  -- After n streams, the k-th stream of the goals is stream n + k.
   abbrev CountFrom : ℕ → List goal.Goal → Type 0
   CountFrom n gs = (i k : ℕ) (x : VarName) → slice_get (filter is_stream gs) i ≡ Some (goal.stream k x) → k ≡ n + (i + 1)
 
-  -- The goals are one and the variables behind them too, and the goals behind them are counted from one number on.
+  -- The goals are one and the variables after them too, and the goals after them are counted from one number on.
   record AskedAlike (n : ℕ) (u w : goal.Goal) (us ws : List goal.Goal) (xs ys : List VarName) : Type 0 where
     same : Same u w xs ys
     count : ℕ

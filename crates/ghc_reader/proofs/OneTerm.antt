@@ -3,7 +3,7 @@ use Rattle.ghc_reader.proofs.Words.{◌≡◌, ◌≢◌, List, ◌∷◌, Some,
 use Rattle.ghc_reader.specs.declared.token.Token.TheVariants as token
 use Rattle.ghc_reader.proofs.Ends.{ends_term, ends_terms}
 
--- the two derivations are one, and so are the tokens behind them
+-- the two derivations are one, and so are the tokens after them
 pub record Same {C : Type 0} (c d : C) (a b : List Token) : Type 0 where
   pub derivation : c ≡ d
   pub behind : a ≡ b

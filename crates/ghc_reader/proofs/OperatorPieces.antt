@@ -1,4 +1,4 @@
--- A space stands at the front of any text that begins with it, and so does an operator with a space behind it.
+-- A space stands at the front of any text that begins with it, and so does an operator with a space after it.
 use Rattle.ghc_reader.proofs.Words.{ℕ, Bool, true, false, List, [], ◌∷◌, ◌++◌, get_or, refl, ap, arith, IsTrue, codes, spelling, Piece, Stands, Equals, Assign, Plus, Minus, Times, Divide, Modulo, Symbol, false≢true}
 use Rattle.ghc_reader.specs.declared.lexer.symbol.Symbol.TheVariants as symbol
 use Rattle.ghc_reader.specs.declared.lexer.front.Kind.TheVariants as kind

@@ -1,4 +1,4 @@
--- Where the text goes on behind a piece.
+-- Where the text goes on after a piece.
 use Rattle.ghc_reader.proofs.Words.{◌≡◌, ◌⊎◌, ℕ, ◌+◌, ◌≤◌, Bool, true, false, List, [], ◌∷◌, ◌++◌, length, refl, sym, ap, subst, ◌∙◌, inl, inr, arith, ◌==◌, not, add-zero, nat_tests, eqb_tells, is_ascii_digit, list_all, is_word, behind_byte, place_behind, HasForm, Place, Kind}
 use Rattle.ghc_reader.specs.declared.lexer.front.Kind.TheVariants as kind
 
@@ -13,7 +13,7 @@ all_weaker p q weaker (b ∷ bs) all =
     let those = all_weaker p q weaker bs (grind (arith, all)) in
     grind (arith, this, those)
 
--- behind bytes of one line
+-- after bytes of one line
 pub behind_line : (place : Place) (bs : List ℕ) → list_all no_feed bs ≡ true → place_behind place bs ≡ record { line = place.line; column = place.column + length bs }
 behind_line place [] all = ap (λ c. record { line = place.line; column = c }) (sym (add-zero place.column))
 behind_line place (b ∷ bs) all =
@@ -48,7 +48,7 @@ feed_or_line signs kind.Integer (b ∷ d ∷ ds) (inr negative) =
     inr (grind (arith, nat_tests, h, i, r))
 feed_or_line signs (kind.Symbol s) (b ∷ bs) form = inr (subst (λ l. list_all no_feed l ≡ true) (sym form) (grind arith))
 
--- behind a piece that is no line feed
+-- after a piece that is no line feed
 pub behind_other : (place : Place) (signs : Bool) (k : Kind) (bs : List ℕ) → HasForm signs k bs → ¬ (bs ≡ 10 ∷ []) → place_behind place bs ≡ record { line = place.line; column = place.column + length bs }
 behind_other place signs k bs form other =
     elim (feed_or_line signs k bs form) [ inl feed ↦ absurd (other feed) | inr line ↦ behind_line place bs line ]

@@ -12,7 +12,7 @@ use Rattle.ghc_reader.proofs.PrintedTokens.{printed, printed_arguments}
 use Rattle.ghc_reader.proofs.GrammarTrees.{AreMeant, meant, all_meant}
 use Rattle.ghc_reader.proofs.PrintedValues.{derive_value, value_back, spaced_value, value_printed, value_meant}
 
--- A derivation of a goal, whatever tokens stand behind it: it says the goal, its tokens are spaced, and their text is what is printed.
+-- A derivation of a goal, whatever tokens stand after it: it says the goal, its tokens are spaced, and their text is what is printed.
 pub record IsMeantGoal (C : List ℕ → VarName → Type 0) (W : List ℕ → Type 0) (g : Goal) : Type 0 where
   pub item : Item
   pub says : (ts : List Token) → SaysGoalBy C (item_of item ts) g

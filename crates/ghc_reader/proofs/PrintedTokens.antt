@@ -17,7 +17,7 @@ rest_of_name f ts name =
 
 -- where each variable is called as it is printed
 module _ (C : List ℕ → VarName → Type 0) (W : List ℕ → Type 0) (called : (v : List ℕ) (x : VarName) → C v x → v ≡ variable_text x) (ps : List Piece) where
-  -- the text of tokens, and of the pieces behind them
+  -- the text of tokens, and of the pieces after them
   abbrev text : List Token → List ℕ
   text ts = text_of ts ps
 

@@ -24,7 +24,7 @@ pub body_in_query : (ts : List Token) (left : ℕ) → Fault Body body EndsBody 
 body_in_query ts left f =
     in_front f body_append (λ c. (plain c, [], refl)) body_of_query
 
--- behind the body stands nothing, or a stop and nothing
+-- after the body stands nothing, or a stop and nothing
 pub tail_of_query : (x : Body) (d : Query) (us r : List Token) → EndsBody x (first us) → EndsQuery d (first r) → first us ≢ None → body x us ≡ query d r → us ≡ token.Mark Stop ∷ r
 tail_of_query x (plain y) us r p q n e =
     let s = one_body x y us r p (subst (EndsBody y) (sym q) (none_ends_body y)) e in absurd (n (ap first s.behind ∙ q))

@@ -23,7 +23,7 @@ pub terms_also : (x : Terms) (u : Term) (ts : List Token) → terms (also x u) t
 terms_also (one t) u ts = refl
 terms_also (more t x) u ts = ap (λ l. term t (token.Mark Comma ∷ l)) (terms_also x u ts)
 
--- the terms behind a first one
+-- the terms after a first one
 others_of_terms : (t : Term) (d : Terms) (us r : List Token) → EndsTerms d (first r) → term t (token.Mark Comma ∷ us) ≡ terms d r
     → (y : Terms) × (r' : List Token) × EndsTerms y (first r') × (us ≡ terms y r')
 others_of_terms t (one u) us r p e =
@@ -112,7 +112,7 @@ terms_in_rest ts left n f =
 terms_begin : (m : Mark) (x : Terms) (a r : List Token) → m ≢ OpenList → terms x a ≡ token.Mark m ∷ r → ⊥
 terms_begin m x a r h e = no_terms m r h x a (sym e)
 
--- behind the terms of a list stands a bar, or the bracket that closes it
+-- after the terms of a list stands a bar, or the bracket that closes it
 tail_of_rest : (x : Terms) (d : Rest) (us r : List Token) → EndsTerms x (first us) → ¬ Begins CloseList us → terms x us ≡ rest d r → (t : Term) × (us ≡ token.Mark Bar ∷ term t (token.Mark CloseList ∷ r))
 tail_of_rest x closed us r p n e = absurd (terms_begin CloseList x us r (λ h. cc) e)
 tail_of_rest x (whole y) us r p n e =

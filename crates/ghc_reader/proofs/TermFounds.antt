@@ -1,4 +1,4 @@
--- The derivation of a term, from those of its parts, and the faults behind them.
+-- The derivation of a term, from those of its parts, and the faults after them.
 use Rattle.ghc_reader.proofs.Words.{◌≡◌, ℕ, ℤ, List, [], ◌∷◌, length, Some, Result, Ok, Err, IfErr, IsErrAnd, refl, sym, ap, ◌∙◌, subst, Box, Global, Vec, Mark, Open, Close, OpenList, CloseList, Comma, Bar, Token, first, Begins, Term, variable, integer, call, list, Arguments, without, within, Rest, closed, whole, partial, Terms, one, more, term, arguments, rest, terms, EndsArguments, EndsTerm, EndsTerms, EndsRest, Found, Fault, tree_of, arguments_of, trees_of, cells_of, SourceTerm, ParseError, IfSyntax, Tree, Trees, cells, view, views, arith}
 use Rattle.ghc_reader.specs.declared.token.Token.TheVariants as token
 use Rattle.ghc_reader.specs.Derived.{list_of}

@@ -8,7 +8,7 @@ use Rattle.ghc_reader.proofs.OneExpression.{one_expression}
 use Rattle.ghc_reader.proofs.OneGoal.{comma_ends_test, no_comparison, one_test}
 use Rattle.ghc_reader.proofs.Faults.{first_append, in_front, inside, here}
 
--- an item and a comparison are told apart by the first two tokens
+-- the first two tokens tell an item from a comparison
 item_likes : (i : Item) (r : List Token) → item_like (item i r) ≡ true
 item_likes (unify (variable v) t) r = refl
 item_likes i r = refl
@@ -20,7 +20,7 @@ comparison_likes (summands (factor (number n)) j c) o r = refl
 comparison_likes (summands (factors (number n) k x) j c) o r = refl
 comparison_likes c o r = refl
 
--- behind tokens that are not none, the first two are those that were there
+-- with one or more tokens in front, the second one depends on the first of the rest alone
 second_append : (front a b : List Token) → front ≢ [] → first a ≡ first b → second (front ++ a) ≡ second (front ++ b)
 second_append [] a b n e = absurd (n refl)
 second_append (t ∷ ts) a b n e = first_append ts a b e
@@ -29,7 +29,7 @@ likes_append : (front a b : List Token) → front ≢ [] → first a ≡ first b
 likes_append front a b n e =
     ap (λ o. like o (second (front ++ a))) (first_append front a b e) ∙ ap (λ o. like (first (front ++ b)) o) (second_append front a b n e)
 
--- a fault in an item stands behind the first token, where a comparison can begin with that token
+-- a fault in an item stands after the first token, where a comparison can begin with that token
 abbrev BeginsBoth : Option Token → Type 0
 BeginsBoth None = ⊥
 BeginsBoth (Some (token.Variable v)) = Unit {0}
@@ -99,7 +99,7 @@ left_in_test ts left l f = record {
         let like_both : false ≡ true = sym (same_likes ts f.front f.rest us f.split same (expression_front ts left f) ∙ l) ∙ (ap item_like e ∙ item_likes i r) in cc
     by_test us same (compare x o y) r p e = f.stuck us same x (token.Comparison o ∷ expression y r) (comparison_ends o x) e
 
--- the first two tokens, where those behind an expression change but for the first
+-- the first two tokens, where those after an expression change but for the first
 expression_likes : (c : Expression) (a b : List Token) → first a ≡ first b → item_like (expression c a) ≡ item_like (expression c b)
 expression_likes (summand (factor (number n))) a b e = ap like_equation e
 expression_likes (summand (factor (named v))) a b e = ap like_assignment e
@@ -151,7 +151,7 @@ pub tests_and_also : (x : Tests) (j : Test) (ts : List Token) → tests (and_als
 tests_and_also (last_test i) j ts = refl
 tests_and_also (next_test i x) j ts = ap (λ l. test i (token.Mark Comma ∷ l)) (tests_and_also x j ts)
 
--- the tests behind a first one
+-- the tests after a first one
 others_of_tests : (i : Test) (d : Tests) (us r : List Token) → EndsTests d (first r) → test i (token.Mark Comma ∷ us) ≡ tests d r
     → (y : Tests) × (r' : List Token) × EndsTests y (first r') × (us ≡ tests y r')
 others_of_tests i (last_test j) us r p e =

@@ -37,7 +37,7 @@ pieces_of (t ∷ ts) ps = put t (pieces_of ts ps)
 abbrev pub text_of : List Token → List Piece → List ℕ
 text_of ts ps = spelled (pieces_of ts ps) []
 
--- a name, a variable or an integer may stand directly behind this token
+-- a name, a variable or an integer may stand directly after this token
 abbrev frees : Token → Bool
 frees (token.Name f) = false
 frees (token.Variable v) = false
@@ -46,7 +46,7 @@ frees (token.Mark Close) = false
 frees (token.Mark CloseList) = false
 frees t = true
 
--- a text that may stand behind a token, where free says whether any may
+-- a text that may stand after a token, where free says whether any may
 abbrev EndsWord : Bool → List ℕ → Type 0
 EndsWord true text = Unit {0}
 EndsWord false text = Lacks is_word text × Lacks is_ascii_digit text
@@ -62,7 +62,7 @@ module _ (W : List ℕ → Type 0) where
   MayStand free (token.Comparison c) = ⊥
   MayStand free _ = Unit {0}
 
-  -- The tokens can be printed, and no two names, variables or integers are neighbours, and none is behind a bracket that closes.
+  -- The tokens can be printed, and no two names, variables or integers are neighbours, and none follows a bracket that closes.
   abbrev pub AreSpaced : Bool → List Token → Type 0
   AreSpaced free [] = Unit {0}
   AreSpaced free (t ∷ ts) = MayStand free t × AreSpaced (frees t) ts

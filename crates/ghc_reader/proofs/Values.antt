@@ -7,7 +7,7 @@ pub all_of_run : (bs : List ℕ) → IsRun is_ascii_digit is_ascii_digit bs → 
 all_of_run [] run = absurd run
 all_of_run (b ∷ bs) run = let first = run.0 in let others = run.1 in grind (arith, first, others)
 
--- the longest run and what is behind it, in one way
+-- the longest run and what follows it, in one way
 pub record SameSplit (a b c d : List ℕ) : Type 0 where
   pub front : a ≡ c
   pub back : b ≡ d

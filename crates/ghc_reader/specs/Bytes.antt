@@ -28,7 +28,7 @@ abbrev pub Begins : (ℕ → Bool) → List ℕ → Type 0
 Begins test [] = ⊥
 Begins test (b ∷ bs) = IsTrue (test b)
 
--- a minus first, and a digit directly behind it
+-- a minus first, and a digit directly after it
 abbrev pub BeginsNegative : List ℕ → Type 0
 BeginsNegative [] = ⊥
 BeginsNegative (b ∷ bs) = (b ≡ 45) × Begins is_ascii_digit bs

@@ -4,7 +4,7 @@ use Rattle.ghc_reader.specs.declared.token.Mark.TheVariants.{Open, Close, OpenLi
 use Rattle.ghc_reader.specs.declared.token.Token.{Token}
 use Rattle.ghc_reader.specs.declared.token.Token.TheVariants as token
 
--- the brackets that are open behind a token: `(` and `[` open one, `)` and `]` close one where one is open
+-- the brackets that are open after a token: `(` and `[` open one, `)` and `]` close one where one is open
 abbrev pub open_behind : ℕ → Token → ℕ
 open_behind n (token.Mark Open) = n + 1
 open_behind n (token.Mark OpenList) = n + 1
@@ -12,7 +12,7 @@ open_behind n (token.Mark Close) = n - 1
 open_behind n (token.Mark CloseList) = n - 1
 open_behind n t = n
 
--- the brackets that are open behind these tokens
+-- the brackets that are open after these tokens
 abbrev pub open_after : ℕ → List Token → ℕ
 open_after n [] = n
 open_after n (t ∷ ts) = open_after (open_behind n t) ts

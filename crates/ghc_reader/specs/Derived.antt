@@ -1,5 +1,5 @@
--- The tree of a derivation. The functions that take tokens as well are given those behind the derivation, and
--- count with them how many tokens the text has left at each call.
+-- The tree of a derivation. Functions that take tokens as well get those after the derivation, and count with
+-- them how many the text has left at each call.
 use Rattle.std.specs.Prelude.{ℕ, List, [], ◌∷◌, length}
 use Rattle.ghc_reader.specs.declared.token.Mark.TheVariants.{Comma, Bar, Define, Stop}
 use Rattle.ghc_reader.specs.declared.token.Sum.{Sum}

@@ -101,8 +101,8 @@ abbrev pub token_places : Place → List Piece → List Place
 token_places place [] = []
 token_places place (p ∷ ps) = place_of_token (token_of p) place (token_places (place_behind place p.bytes) ps)
 
--- The text is cut into pieces, none of them refused; these are their tokens, with the place of each, and behind the last
--- the place of the end.
+-- The text is cut into pieces, none of them refused. These are their tokens, with the place of each and, after the
+-- last, that of the end.
 pub record IsLexed (reserved : Reserved) (text : List ℕ) (tokens : List Token) (places : List Place) : Type 0 where
   pub pieces : List Piece
   pub cut : IsCutInto reserved text pieces []

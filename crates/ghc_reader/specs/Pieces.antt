@@ -42,8 +42,8 @@ pub record Stands (signs : Bool) (p : Piece) (rest : List ℕ) : Type 0 where
 abbrev pub HasNoPiece : Bool → List ℕ → Type 0
 HasNoPiece signs text = (p : Piece) (rest : List ℕ) → text ≡ p.bytes ++ rest → ¬ (HasForm signs p.kind p.bytes)
 
--- Whether a minus directly before a digit is a sign behind this kind of piece: not where the token before is a variable,
--- an integer or a closing bracket `)`. A blank or a comment leaves it as it was.
+-- Whether a minus directly before a digit is a sign after this kind of piece. It is none after a variable, an integer or
+-- a closing bracket `)`; a blank or a comment leaves it as it was.
 abbrev pub signs_behind : Bool → Kind → Bool
 signs_behind signs Blank = signs
 signs_behind signs Comment = signs
@@ -57,17 +57,17 @@ signs_behind signs (Symbol s) = true
 abbrev pub IsFront : Bool → List ℕ → Front → Type 0
 IsFront signs text front = (text ≡ front.bytes.now ++ front.rest.now) × Stands signs (record { kind = front.kind; bytes = front.bytes.now }) front.rest.now
 
--- the bytes of the pieces, one behind the other, and then more
+-- the bytes of the pieces, one after the other, and then more
 abbrev pub spelled : List Piece → List ℕ → List ℕ
 spelled [] more = more
 spelled (p ∷ ps) more = p.bytes ++ spelled ps more
 
--- each of the pieces stands where it is, in front of those behind it and of the rest
+-- each of the pieces stands where it is, in front of those after it and of the rest
 abbrev pub Cuts : Bool → List Piece → List ℕ → Type 0
 Cuts signs [] rest = Unit {0}
 Cuts signs (p ∷ ps) rest = Stands signs p (spelled ps rest) × Cuts (signs_behind signs p.kind) ps rest
 
--- whether a minus directly before a digit is a sign behind these pieces
+-- whether a minus directly before a digit is a sign after these pieces
 abbrev pub signs_after : Bool → List Piece → Bool
 signs_after signs [] = signs
 signs_after signs (p ∷ ps) = signs_after (signs_behind signs p.kind) ps

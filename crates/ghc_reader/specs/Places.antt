@@ -8,13 +8,13 @@ use Rattle.ghc_reader.specs.declared.place.Place.{Place}
 abbrev pub start : Place
 start = record { line = 1; column = 1 }
 
--- the place behind one byte: a line starts behind each line feed
+-- the place after one byte: a line starts after each line feed
 abbrev pub behind_byte : Place → ℕ → Place
 behind_byte place b =
     if b == 10 then record { line = place.line + 1; column = 1 }
     else record { line = place.line; column = place.column + 1 }
 
--- the place behind these bytes
+-- the place after these bytes
 abbrev pub place_behind : Place → List ℕ → Place
 place_behind place [] = place
 place_behind place (b ∷ bs) = place_behind (behind_byte place b) bs

@@ -25,12 +25,12 @@ use Rattle.ghc_reader.specs.Lowered.{Names, IsCalled, SaysGoalBy, Each, doing}
 
 -- ---- the text of goals
 
--- further goals, each behind a comma and a space
+-- further goals, each after a comma and a space
 abbrev pub further_goals : List Goal → List ℕ
 further_goals [] = []
 further_goals (g ∷ gs) = codes ", " ++ (goal_text g ++ further_goals gs)
 
--- goals one behind the other, `G, G`, and `true` where there are none
+-- goals one after the other, `G, G`, and `true` where there are none
 abbrev pub goals_text : List Goal → List ℕ
 goals_text [] = codes "true"
 goals_text (g ∷ gs) = goal_text g ++ further_goals gs

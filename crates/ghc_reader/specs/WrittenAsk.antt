@@ -42,7 +42,8 @@ pub record SaysAsk (query : Names) (gs : List source.Goal) (a : WrittenAsk) : Ty
   pub variables : AreNamed names (variables_of_goals a.goals)
   pub named : Each (IsNaming query) names a.named
 
--- What holds of what is asked for, in whatever text: its variables are numbered and each is told of, no stream stands in it, and goals and variables are within the limits.
+-- What holds of what is asked for, in whatever text: its variables are numbered, and `named` has an entry for each.
+-- No stream stands in it, and goals and variables are within the limits.
 pub record IsWellPut (a : WrittenAsk) : Type 0 where
   pub numbered : AreNumbered (variables_of_goals a.goals)
   pub told : length a.named ≡ length (firsts [] (variables_of_goals a.goals))

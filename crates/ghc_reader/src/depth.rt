@@ -10,7 +10,7 @@ pub(crate) const MOST_OPEN: usize = 64;
 /// The most brackets that may be open at one place of a body in a history: the parser calls itself for each of them.
 pub(crate) const MOST_OPEN_IN_BODY: usize = 1_000;
 
-/// How many brackets are open behind the token.
+/// How many brackets are open after the token.
 fn open_behind(depth: usize, token: &Token) -> usize
     requires { depth ≤ MOST_OPEN_IN_BODY }
     ensures { result ≡ open_behind depth token.now }

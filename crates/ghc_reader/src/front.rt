@@ -38,7 +38,7 @@ pub fn name(tokens: &[Token]) -> Option<(&Name, &[Token])>
     }
 }
 
-/// The variable that the tokens begin with an assignment to, and those behind its mark.
+/// The variable that the tokens begin with an assignment to, and those after its mark.
 pub fn assigned(tokens: &[Token]) -> Option<(&Name, &[Token])>
     ensures { MatchOption result (IsNotAssigned tokens.now) (λ found. tokens.now ≡ Token.Variable found.0.now ∷ Token.Mark Mark.Assign ∷ found.1.now) }
 {

@@ -27,7 +27,7 @@ pub(crate) const MOST_BYTES: usize = 1_048_576;
 /// So many bytes, and more, may have places past 32 bits.
 const TOO_MANY_BYTES: usize = 4_294_967_294;
 
-/// The tokens of a text, and their places. The last place, behind those of the tokens, is that of the end of the text.
+/// The tokens of a text, and their places. The last place, after those of the tokens, is that of the end of the text.
 pub(crate) struct Lexed {
     pub(crate) tokens: Vec<Token>,
     pub(crate) places: Vec<Place>,
@@ -56,7 +56,7 @@ impl Lexed {
     }
 }
 
-/// Whether a minus directly before a digit is a sign behind this kind of piece.
+/// Whether a minus directly before a digit is a sign after this kind of piece.
 fn signs_behind(signs: bool, kind: Kind) -> bool
     ensures { result ≡ signs_behind signs kind }
 {

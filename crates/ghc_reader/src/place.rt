@@ -6,7 +6,7 @@ use crate::lexer::front::Front;
 use ghc_term::Fault;
 
 /// The place of a byte in a text, or of the end: line and column, both from 1, the column in bytes. A line starts
-/// behind each line feed.
+/// after each line feed.
 #[derive(Clone, Copy)]
 pub(crate) struct Place {
     pub(crate) line: u32,
@@ -33,7 +33,7 @@ impl Place {
         }
     }
 
-    /// The place behind a piece that stands at this place.
+    /// The place after a piece that stands at this place.
     pub(crate) fn behind(self, front: &Front<'_>) -> Place
         requires form { HasForm true front.now.kind front.now.bytes.now }
         requires line_fits { self.line + 1 < 2 ^ 32 }

@@ -23,9 +23,9 @@ pub enum SourceExpression {
     Integer(i64),
     /// A variable, `_` among them.
     Variable(Name),
-    /// The first operand, and each further one behind its operator.
+    /// The first operand, and each further one after its operator.
     Products(Box<SourceExpression>, Vec<(Product, SourceExpression)>),
-    /// The first operand, and each further one behind its operator.
+    /// The first operand, and each further one after its operator.
     Sums(Box<SourceExpression>, Vec<(Sum, SourceExpression)>),
 }
 

@@ -115,7 +115,7 @@ first_room ts us d r h = record {
   nested = omega (arith, deepest-append ts us, h.nested);
 }
 
--- a mark and a term behind others
+-- a mark and a term after others
 module _ (ts : List Tree) (i : ℕ) (t : Tree) (d : ℕ) (r left : Room) (lt : i < length ts) (is : t ≡ get_or ts i t) (l : LeavesAll (take i ts) d r left) where
   next : take (i + 1) ts ≡ take i ts ++ t ∷ []
   next = take_more ts i t lt ∙ ap (λ u. take i ts ++ u ∷ []) (sym is)

@@ -27,7 +27,7 @@ module _ {V : Type 0} (ns : List GoalName) (vs : List V) (places : finite.FinMap
   abbrev held : finite.FinMap goal_cmp V
   held = values_by ns vs
 
-  -- a new name and its value, behind the others
+  -- a new name and its value, after the others
   module _ (v : V) (absent : finite.get places x ≡ None) (ms : List GoalName) (ws : List V) (placed : finite.FinMap goal_cmp ℕ) (ms_are : ms ≡ ns ++ x ∷ []) (values_are : ws ≡ vs ++ v ∷ [])
       (places_are : placed ≡ finite.insert places x (length ns)) where
     got : (q : GoalName) → finite.get placed q ≡ cond (eq_by_cmp goal_cmp q x) (Some (length ns)) (finite.get places q)

@@ -1,4 +1,4 @@
--- A call whose answer is one gives it, but for want of memory.
+-- A call whose answer is one gives it, unless memory was refused.
 use Rattle.ghc_term.proofs.Words.{◌≡◌, inl, inr, Result, Ok, Err, AnsweredUnless, IsExactUnless}
 
 pub exact : {A E : Type 0} {SaysMemory : E → Type 0} {Gives : A → Type 0} {Refuses : E → Type 0} → ((a b : A) → Gives a → Gives b → a ≡ b) → ((d e : E) → Refuses d → Refuses e → d ≡ e)

@@ -70,7 +70,7 @@ module _ {X : Type 0} where
   in_splits (y ∷ xs) x (inl e) = ([], xs, ap (λ z. z ∷ xs) (sym e))
   in_splits (y ∷ xs) x (inr i) = let r = in_splits xs x i in (y ∷ r.0, r.1, ap (λ l. y ∷ l) r.2)
 
-  -- what stands in front of a place, there, and behind it
+  -- what stands in front of a place, there, and after it
   pub splits_at : (xs : List X) (i : ℕ) (x : X) → i < length xs → x ≡ get_or xs i x → xs ≡ take i xs ++ x ∷ drop (i + 1) xs
   splits_at xs i x h e =
       let more : take (i + 1) xs ≡ take i xs ++ x ∷ [] = take_more xs i x h ∙ ap (λ u. take i xs ++ u ∷ []) (sym e) in

@@ -95,11 +95,11 @@ module _ (r : Tree → Tree) (w : Tree → ℕ) where
 pub through : (old mid new : List ℕ) → StartsWith mid old → StartsWith new mid → StartsWith new old
 through old mid new p q = grind (arith, common_steps)
 
--- a front was written, and the text comes behind it
+-- a front was written, and the text comes after it
 pub joined : (before front text rest mid after : List ℕ) → mid ≡ before ++ front → after ≡ mid ++ (text ++ rest) → after ≡ before ++ (front ++ (text ++ rest))
 joined before front text rest mid after p q = q ∙ ap (λ l. l ++ (text ++ rest)) p ∙ append_assoc before front (text ++ rest)
 
--- a text behind a space
+-- a text after a space
 pub spaced : (word text rest : List ℕ) → (word ++ codes " ") ++ (text ++ rest) ≡ (word ++ (codes " " ++ text)) ++ rest
 spaced word text rest = append_assoc word (codes " ") (text ++ rest) ∙ sym (append_assoc word (codes " " ++ text) rest)
 

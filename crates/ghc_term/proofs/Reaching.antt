@@ -26,7 +26,7 @@ module _ {S : VarName → Option Tree} where
   pub without : (xs : List VarName) (x : VarName) → AreKnownBut S x xs → ¬ In x xs → AreKnown S xs
   without xs x k n z i = k z i (λ e. n (subst (λ w. In w xs) e i))
 
--- what is told where no place is found
+-- what holds where no place is found
 pub not_there : {P : Type 0} (o : Option ℕ) → is_some o ≡ false → IfNone o P → P
 not_there None e p = p
 not_there (Some i) e p = cc

@@ -1,4 +1,4 @@
--- Maps of which some values stand in a list, each under the name of its place, and others in the entries behind it.
+-- Maps of which some values stand in a list, each under the name of its place, and others in the entries after it.
 use Rattle.ghc_term.proofs.Words.{◌≡◌, ◌≢◌, ◌<◌, ◌≤◌, ◌+◌, ◌⊎◌, inl, inr, ℕ, zero, suc, cond, Bool, true, false, List, [], ◌∷◌, ◌++◌, length, refl, sym}
 use Rattle.ghc_term.proofs.Words.{ap, ◌∙◌, subst, arith, Option, Some, None, get_or, slice_set, option_or, Ordering, eq_by_cmp, IsTotalOrder, IsAntisymmetric}
 use Rattle.ghc_term.proofs.Words.{eq_by_cmp_equiv, tells_apart, false_from_ne_true, get_or_past, get_or-set_same, get_or-set_other}

@@ -16,7 +16,7 @@ no_nil f (more t us) n = refl
 pub structure_text : (f : List ℕ) (us : Trees) → IsNoCell (node f us) → term_text (node f us) ≡ f ++ arguments_text us
 structure_text f us n = rw (no_cell f us n) refl
 
--- what is no list stands behind a bar
+-- what is no list stands after a bar
 pub rest_barred : (u : Tree) → u ≢ nil → IsNoCell u → rest_text u ≡ barred (term_text u)
 rest_barred (node f us) n m = rw (no_nil f us n, no_cell f us m) refl
 rest_barred u n m = refl

@@ -24,7 +24,7 @@ names_of m = set.from_list (finite.keys m)
 abbrev pub values_by : {V : Type 0} → List GoalName → List V → finite.FinMap goal_cmp V
 values_by names values = finite.from_entries (zip names values)
 
--- As many values as names, fewer than 2^32: and of each name it is told where it stands, so none stands twice.
+-- As many values as names, fewer than 2^32; the map says of each name where it stands, so none stands twice.
 abbrev pub ArePlaces : List GoalName → ℕ → finite.FinMap goal_cmp ℕ → Type 0
 ArePlaces names count places = (count ≡ length names) × (length names < 2 ^ 32) × ((g : GoalName) (i : ℕ) → (finite.get places g ≡ Some i) ↔ (slice_get names i ≡ Some g))
 

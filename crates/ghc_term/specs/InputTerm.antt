@@ -77,7 +77,7 @@ pub record IsInputTerm (t : Tree) : Type 0 where
   pub nested : nesting t ≤ 64
   pub text : length (term_text t) ≤ 1048576
 
--- how many brackets are open behind a byte; a closing one takes one off, never below zero
+-- how many brackets are open after a byte; a closing one takes one off, never below zero
 abbrev pub open_behind : ℕ → ℕ → ℕ
 open_behind k b = if b == 40 || b == 91 then k + 1 else if b == 41 || b == 93 then k - 1 else k
 

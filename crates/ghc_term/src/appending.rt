@@ -9,7 +9,7 @@ use crate::var_name::VarName;
 use itoa::{Buffer, write_digits};
 use std::alloc::AllocError;
 
-/// How long a text is, in bytes. What is written behind it can be cut back to there.
+/// How long a text is, in bytes. What is written after it can be cut back to there.
 pub fn end_of(out: &String) -> usize
     ensures length { result ≡ length (string_bytes out.now) }
     ensures text { IsTrue (is_utf8 (string_bytes out.now)) }
@@ -17,7 +17,7 @@ pub fn end_of(out: &String) -> usize
     out.len()
 }
 
-/// The answer of what wrote behind the first `length` bytes of `out`. Where it was refused, `out` is cut back to those.
+/// The answer of what wrote after the first `length` bytes of `out`. Where it was refused, `out` is cut back to those.
 pub fn or_cut_back(
     out: &mut String,
     length: usize,

@@ -235,7 +235,7 @@ impl Bindings {
     }
 
     /// The bindings once more, with handles of their own: one step for each, and a look-up where they are many. One that stands here
-    /// without a list takes no memory. Fails for want of memory, or where a count of handles is full.
+    /// without a list takes no memory. It fails where memory is refused, or where a count of handles is full.
     pub fn share(&self) -> Result<Bindings, AllocError>
         ensures { IfOk result (λ again. again ≡ self.now) }
     {

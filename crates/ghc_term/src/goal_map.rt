@@ -81,7 +81,7 @@ impl<V: Drop> GoalMap<V> {
         }
     }
 
-    /// The names under which a value stands, each once, in no order that is told: one step.
+    /// The names under which a value stands, each once, in any order: one step.
     #[inline(always)]
     pub fn names(&self) -> &[GoalName]
         ensures all { set.from_list result.now ≡ names_of self.now.held }

@@ -42,8 +42,7 @@ fn is_near(map: &VariableMap<Term>, term: &Term) -> bool {
     true
 }
 
-// Puts what a search goes on with behind a term into the list: the arguments of an open structure, or the value of a variable that is
-// not known.
+// Puts into the list what a search goes on with after a term: the arguments of an open structure, or an unknown variable's value.
 fn push_next<'a>(
     map: &'a VariableMap<Term>,
     known: &VariableList,

@@ -152,7 +152,7 @@ fn enter(name: &Name, arguments: &[Term], place: Place, depth: usize, room: Room
     })
 }
 
-// What is left after the terms, each behind a mark.
+// What is left after the terms, a mark before each.
 #[cycle(measure)]
 fn measure_all(terms: &[Term], depth: usize, room: Room) -> Option<Room>
     ensures { MeasuredAll (trees terms.now) depth room result }

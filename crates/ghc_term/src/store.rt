@@ -192,7 +192,7 @@ impl Store {
     }
 
     /// Binds an unbound variable, at the cost of `reaches`, after which no variable is known. `Fault::Cycle` exactly where the value reaches the
-    /// variable; otherwise it fails for want of memory alone.
+    /// variable; otherwise it fails only where memory is refused.
     pub fn bind(&mut self, x: VarName, value: Term) -> Result<(), Fault>
         requires { value_at self.old.held x ≡ None }
         ensures ok { OnOk result (self.new.held ≡ finite.insert self.old.held x value) }

@@ -140,7 +140,7 @@ impl VariableList {
         }
     }
 
-    // Puts a variable behind the others.
+    // Puts a variable after the others.
     pub fn push(&mut self, x: VarName) -> Result<(), AllocError>
         requires { ¬ In x self.old }
         ensures ok { OnOk result (self.new ≡ self.old ++ x ∷ []) }
@@ -177,7 +177,7 @@ impl VariableList {
     }
 }
 
-// A table of the variables, with one more behind them.
+// A table of the variables, with one more after them.
 fn tabled(list: &Vec<VarName>, x: VarName) -> Result<Box<IndexSet<VarName>>, AllocError>
     requires different { AreDifferent list.now.items }
     requires new { ¬ In x list.now.items }

@@ -4,7 +4,7 @@ use Rattle.ghc_unify.proofs.Words.{◌≡◌, ℕ, ◌-◌, ◌<◌, ◌≤◌, 
 pub reverse_push : {X : Type 0} (xs : List X) (x : X) → reverse (xs ++ x ∷ []) ≡ x ∷ reverse xs
 reverse_push xs x = reverse-append xs (x ∷ [])
 
--- behind the last arguments there is nothing
+-- after the last arguments there is nothing
 pub pairs_end : (ls rs : List Tree) → length ls ≡ length rs → Pairs (trees (drop (length ls) ls)) (trees (drop (length ls) rs)) []
 pairs_end ls rs e = rw (drop_all (length ls) ls (omega arith), drop_all (length ls) rs (omega arith)) no_more
 

@@ -106,8 +106,8 @@ fn solve(
 }
 
 /// Unifies two terms: gives what is bound beside the store, and which bound variables were read. `Fault::Clash` exactly
-/// where the moves come to a clash, `Fault::Cycle` exactly where a variable would come to reach itself; otherwise it
-/// fails for want of memory alone. Nothing is bound in the store.
+/// where the moves come to a clash, `Fault::Cycle` exactly where a variable would come to reach itself. Otherwise it
+/// fails only where memory is refused. Nothing is bound in the store.
 ///
 /// It goes by loops along chains and through the terms, once through each pair of parts that is met, so that lists of
 /// any length take no stack. Each binding costs a search of the bound term, and that of the first one goes past what the

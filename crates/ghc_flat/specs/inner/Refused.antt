@@ -13,7 +13,7 @@ abbrev pub fault_of : Refused → Fault
 fault_of (program e) = e
 fault_of (query e) = e
 
--- the refusal for what the query came to: want of memory is told as the program's
+-- the refusal for what the query came to; refused memory counts as the program's
 abbrev pub refused_of_query : Fault → Refused
 refused_of_query Memory = program Memory
 refused_of_query e = query e

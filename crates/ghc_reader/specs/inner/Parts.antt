@@ -1,4 +1,4 @@
--- What a part of the parser answers: a derivation and the tokens behind it, or the first token with which no derivation goes on.
+-- What a part of the parser answers: a derivation and the tokens after it, or the first token with which no derivation goes on.
 use Rattle.std.specs.Prelude.{◌≡◌, ◌≢◌, ℕ, List, [], ◌++◌, length, Option, Some, None, ⊤}
 use Rattle.ghc_reader.specs.declared.token.Mark.TheVariants.{Open, Comma, Equals}
 use Rattle.ghc_reader.specs.declared.token.Sum.{Sum}
@@ -8,7 +8,7 @@ use Rattle.ghc_reader.specs.declared.token.Token.TheVariants as token
 use Rattle.ghc_reader.specs.inner.Front.{first, NoVariable, StartsWithVariable}
 use Rattle.ghc_reader.specs.Grammar.{Term, variable, integer, call, list, Arguments, without, within, Rest, Terms, one, more, Operand, Factors, Expression, Item, goal, unify, assign, Test, plain_test, compare, Tests, last_test, next_test, Body, last, next, Right, Clause, Program, Query}
 
--- The first token behind a derivation doesn't go on with it.
+-- The first token after a derivation doesn't go on with it.
 abbrev pub EndsArguments : Arguments → Option Token → Type 0
 EndsArguments without o = o ≢ Some (token.Mark Open)
 EndsArguments (within a) o = ⊤
@@ -90,7 +90,7 @@ pub record ClosedFront (ts front : List Token) : Type 0 where
   pub closed : NoVariable front
   pub stops : StartsWithVariable rest
 
--- ts are the tokens of a derivation with this tree in front of behind, and then behind
+-- ts are the tokens of a derivation with this tree in front of `behind`, and then `behind`
 pub record FoundAt (C : Type 0) (T : Type 0) (spell : C → List Token → List Token) (tree : C → List Token → T) (Ends : C → Option Token → Type 0) (ts : List Token) (seen : T) (behind : List Token) : Type 0 where
   pub derivation : C
   pub spelled : ts ≡ spell derivation behind

@@ -42,11 +42,11 @@ value_step (SourceExpression-F.Sums a others) = sums a.value others.items
 abbrev pub value_view : SourceExpression → Value
 value_view = fold-SourceExpression Value value_step
 
--- the operands of a product, each behind its operator
+-- the operands of a product, each after its operator
 abbrev pub factor_views : List (Product × SourceExpression) → List (Product × Value)
 factor_views xs = map (λ x. (x.0, value_view x.1)) xs
 
--- the operands of a sum, each behind its operator
+-- the operands of a sum, each after its operator
 abbrev pub summand_views : List (Sum × SourceExpression) → List (Sum × Value)
 summand_views xs = map (λ x. (x.0, value_view x.1)) xs
 

@@ -22,7 +22,7 @@ pub(crate) enum Kind {
     Symbol(Symbol),
 }
 
-/// The piece at the front of a text, and the text behind it.
+/// The piece at the front of a text, and the text after it.
 #[derive(Clone, Copy)]
 pub(crate) struct Front<'a> {
     pub(crate) kind: Kind,
@@ -108,7 +108,7 @@ fn integer(text: &[u8]) -> Front<'_>
     }
 }
 
-/// Whether the text begins with a minus and a digit directly behind it.
+/// Whether the text begins with a minus and a digit directly after it.
 fn begins_negative(text: &[u8]) -> bool
     ensures { IsTrue result ↔ BeginsNegative text.now }
 {

@@ -30,7 +30,7 @@ fn goes_on(run: Run, byte: u8) -> bool
     }
 }
 
-/// The longest run at the front of the text, and what is behind it.
+/// The longest run at the front of the text, and what follows it.
 pub(crate) fn split_run(run: Run, text: &[u8]) -> (&[u8], &[u8])
     ensures split { text.now ≡ result.0.now ++ result.1.now }
     ensures each { IsTrue (list_all (goes_on run) result.0.now) }

@@ -27,7 +27,7 @@ pub(crate) fn symbol_token(symbol: Symbol) -> Token
     }
 }
 
-/// The symbol that a colon begins, and the bytes behind it.
+/// The symbol that a colon begins, and the bytes after it.
 fn after_colon(rest: &[u8]) -> Option<(Symbol, &[u8])>
     ensures { MatchOption result
         ((s : Symbol) (more : List ℕ) → 58 ∷ rest.now ≢ spelling s ++ more)
@@ -40,7 +40,7 @@ fn after_colon(rest: &[u8]) -> Option<(Symbol, &[u8])>
     }
 }
 
-/// The symbol that an equals sign begins, and the bytes behind it.
+/// The symbol that an equals sign begins, and the bytes after it.
 fn after_equals(rest: &[u8]) -> (Symbol, &[u8])
     ensures spelled { 61 ∷ rest.now ≡ spelling result.0 ++ result.1.now }
     ensures longest { IsLongest result.0 result.1.now }
@@ -53,7 +53,7 @@ fn after_equals(rest: &[u8]) -> (Symbol, &[u8])
     }
 }
 
-/// The symbol that a greater-than sign begins, and the bytes behind it.
+/// The symbol that a greater-than sign begins, and the bytes after it.
 fn after_greater(rest: &[u8]) -> (Symbol, &[u8])
     ensures spelled { 62 ∷ rest.now ≡ spelling result.0 ++ result.1.now }
     ensures longest { IsLongest result.0 result.1.now }
@@ -64,7 +64,7 @@ fn after_greater(rest: &[u8]) -> (Symbol, &[u8])
     }
 }
 
-/// The longest symbol at the front of a text that no word begins, and the bytes behind it.
+/// The longest symbol at the front of a text that no word begins, and the bytes after it.
 pub(crate) fn longest_symbol(text: &[u8]) -> Option<(Symbol, &[u8])>
     requires { Lacks is_word text.now }
     ensures { MatchOption result

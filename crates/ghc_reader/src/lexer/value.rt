@@ -29,7 +29,7 @@ pub(crate) enum Reserved {
     Allowed,
 }
 
-/// The digits behind a `_` at the front of the text, one or more, as many as there are; and what is behind them.
+/// The digits after a `_` at the front of the text, one or more, as many as there are; and what follows them.
 fn split_number(text: &[u8]) -> Option<(&[u8], &[u8])>
     ensures { MatchOption result
         ((digits more : List ℕ) → AreDigits digits → text.now ≢ 95 ∷ (digits ++ more))

@@ -113,7 +113,7 @@ impl Scope {
     }
 }
 
-// The number behind so many, if it has 32 bits.
+// The number after this count, if it has 32 bits.
 fn number_behind(count: usize) -> Option<u32>
     ensures { IfSome result (λ n. n ≡ count + 1) }
 {

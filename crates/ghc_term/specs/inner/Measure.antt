@@ -40,7 +40,7 @@ nesting_at Rest t = rest_nesting t
 abbrev pub MeasuredAt : Place → Tree → ℕ → Room → Option Room → Type 0
 MeasuredAt place t depth room left = Measured (IsInGrammar t) (nodes t) (bytes_at place t) (nesting_at place t) depth room left
 
--- the bytes of terms, each behind a mark
+-- the bytes of terms, each after a mark
 abbrev pub bytes_of_all : Trees → ℕ
 bytes_of_all none = 0
 bytes_of_all (more t ts) = 1 + length (term_text t) + bytes_of_all ts

@@ -23,7 +23,7 @@ multiplier = 0x9e37_79b9_7f4a_7c15
 abbrev pub mixed : ℕ → ℕ
 mixed n = bit_xor ((n * multiplier) % 2 ^ 64) ((n * multiplier) % 2 ^ 64 / 4294967296)
 
--- the hash of the name of this step and place: the two behind one another as one number, mixed and multiplied again
+-- the hash of the name of this step and place: the two, one after the other, as one number, mixed and multiplied again
 abbrev pub hash_of : ℕ → ℕ → ℕ
 hash_of step place = (mixed (step * 4294967296 + place) * multiplier) % 2 ^ 64 / 4294967296
 

@@ -40,7 +40,7 @@ fn push_stream<'a>(
     }
 }
 
-// Writes the left side of a goal and the mark behind it, or leaves them where it is a structure. The right side is left.
+// Writes the left side of a goal and the mark after it, or leaves them where it is a structure. The right side is left.
 fn push_equation<'a>(
     left: &'a Term,
     mark: &'a str,

@@ -3,7 +3,7 @@ use Rattle.ghc_reader.proofs.Depths.{open_after-more, deep_at, nowhere_deep, up_
 use Rattle.ghc_reader.proofs.depth.is_deeper_than.Goals as goal
 use Rattle.ghc_reader.proofs.depth.is_deeper_than.Goals.{After-open_behind-depth}
 
--- the depth behind the next token
+-- the depth after the next token
 next_depth : (c : After-open_behind-depth) → c.open_behind-depth.result ≡ open_after 0 (take (c.loop-token.token-index + 1) c.args.tokens.now)
 next_depth c =
     let tokens = c.args.tokens.now in
