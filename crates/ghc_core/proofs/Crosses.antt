@@ -10,7 +10,7 @@ use Rattle.ghc_term.specs.contracts.term.Term as term
 use Rattle.ghc_term.specs.contracts.expr.Expr as expression
 use Rattle.ghc_term.specs.contracts.goal.Goal as goal
 use Rattle.ghc_term.specs.contracts.bindings.Bindings as bindings
-use Rattle.ghc_term.specs.contracts.variables.Variables as variables
+use Rattle.ghc_term.specs.contracts.table.variables.Variables as variables
 use Rattle.ghc_fire.specs.contracts.act.Act as act
 use Rattle.ghc_fire.specs.contracts.made.MadeGoal as made_goal
 use Rattle.ghc_fire.specs.contracts.effect.Effect as effect

@@ -4,11 +4,11 @@ ghost use Rattle.std.specs.FinMap as finite;
 ghost use Rattle.ghc_term.specs.inner.BindingTable.{AreOnce, map_of};
 ghost use Rattle.ghc_term.specs.Store.{value_at, with_binds};
 
-use crate::binding_table::{BindingTable, tabled};
-use crate::entry_list::{place_in, put_each, share_entries, value_in};
+use crate::table::binding_table::{BindingTable, tabled};
+use crate::table::entry_list::{place_in, put_each, share_entries, value_in};
+use crate::table::variable_map::VariableMap;
 use crate::term::Term;
 use crate::var_name::VarName;
-use crate::variable_map::VariableMap;
 use std::alloc::{AllocError, Global};
 use std::marker::Model;
 use std::{mem, slice};

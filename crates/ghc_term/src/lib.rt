@@ -3,36 +3,26 @@
 
 mod appending;
 mod arguments;
-mod binding_table;
 mod bindings;
 mod comparison;
-mod entry_list;
 mod equality;
 mod expr;
 mod expr_view;
 mod fault;
-mod first_values;
 mod goal;
-mod goal_map;
 mod goal_name;
-mod goal_places;
 mod goal_view;
 mod ground;
-mod known;
 mod limit;
 mod measure;
 mod name;
-mod name_hasher;
-mod near_numbers;
 mod operator;
 mod overlay;
 mod printing;
 mod store;
+mod table;
 mod term;
 mod var_name;
-mod variable_list;
-mod variable_map;
-mod variables;
 mod view;
 
 pub use appending::{end_of, or_cut_back, push_number, push_variable};
@@ -42,13 +32,11 @@ pub use expr::Expr;
 pub use expr_view::ExprView;
 pub use fault::Fault;
 pub use goal::Goal;
-pub use goal_map::GoalMap;
 pub use goal_name::GoalName;
 pub use goal_view::GoalView;
 pub use ground::Ground;
 pub use limit::Limit;
 pub use name::Name;
-pub use name_hasher::{NameMap, NameSet};
 pub use operator::Operator;
 pub use overlay::{Chain, Overlay};
 pub use printing::{
@@ -56,8 +44,10 @@ pub use printing::{
     push_written,
 };
 pub use store::Store;
+pub use table::goal_map::GoalMap;
+pub use table::name_hasher::{NameMap, NameSet};
+pub use table::variable_map::VariableMap;
+pub use table::variables::Variables;
 pub use term::Term;
 pub use var_name::VarName;
-pub use variable_map::VariableMap;
-pub use variables::Variables;
 pub use view::TermView;

@@ -6,9 +6,9 @@ ghost use Rattle.ghc_term.specs.Store.{value_at, with_bindings};
 
 use crate::bindings::Bindings;
 use crate::store::Store;
+use crate::table::variable_list::VariableList;
 use crate::term::Term;
 use crate::var_name::VarName;
-use crate::variable_list::VariableList;
 use crate::view::TermView;
 use std::alloc::{AllocError, Global};
 

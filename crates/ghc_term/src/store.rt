@@ -5,12 +5,12 @@ ghost use Rattle.ghc_term.specs.Store.{with_binds};
 
 use crate::bindings::Bindings;
 use crate::fault::Fault;
-use crate::known::{goes_far, has_no_other, has_none};
 use crate::overlay::Overlay;
+use crate::table::known::{goes_far, has_no_other, has_none};
+use crate::table::variable_list::VariableList;
+use crate::table::variable_map::VariableMap;
 use crate::term::Term;
 use crate::var_name::VarName;
-use crate::variable_list::VariableList;
-use crate::variable_map::VariableMap;
 use crate::view::TermView;
 use std::alloc::{AllocError, Global};
 use std::marker::Model;

@@ -1,6 +1,6 @@
 -- The hashes of names and of numbers.
 use Rattle.std.specs.Prelude.{ℕ, ◌+◌, ◌*◌, ◌/◌, ◌%◌, ◌^◌, List, [], ◌∷◌, bit_xor}
-use Rattle.ghc_term.specs.declared.name_hasher.NameHasher.{NameHasher}
+use Rattle.ghc_term.specs.declared.table.name_hasher.NameHasher.{NameHasher}
 
 -- a hasher to which nothing was written
 abbrev pub unwritten : NameHasher

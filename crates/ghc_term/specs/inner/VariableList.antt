@@ -3,8 +3,8 @@ use Rattle.std.specs.Prelude.{Bool, ◌&&◌, ◌==◌, List, [], ◌∷◌}
 use Rattle.std.specs.Coded.{Coded, coded_list}
 use Rattle.std.specs.List.{IsDistinct}
 use Rattle.ghc_term.specs.declared.var_name.VarName.{VarName}
-use Rattle.ghc_term.specs.declared.variable_list.Held.{Held}
-use Rattle.ghc_term.specs.declared.variable_list.Held.TheVariants.{Nothing, One, Two, Three, Listed, Tabled}
+use Rattle.ghc_term.specs.declared.table.variable_list.Held.{Held}
+use Rattle.ghc_term.specs.declared.table.variable_list.Held.TheVariants.{Nothing, One, Two, Three, Listed, Tabled}
 use Rattle.ghc_term.specs.inner.Code.{name_code}
 
 -- whether the two are one variable

@@ -1,6 +1,0 @@
-use Rattle.std.specs.List.{IsDistinct}
-use Rattle.ghc_term.proofs.variable_list.VariableList.new.Goals as goal
-
-pub invariant_of-result : goal.invariant_of-result
-unfolding IsDistinct
-invariant_of-result c = tt
