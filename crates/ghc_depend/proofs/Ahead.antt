@@ -16,7 +16,7 @@ in_inserted (x ∷ xs) k p = by_order (nat_cmp k x) (ranks k x) (insert_key nat_
     by_order Equal h rest more = grind arith
     by_order Greater h rest more = grind (arith, more.0, more.1)
 
--- the places behind a place
+-- the places after a place
 pub all_behind : (place : ℕ) (rest : List ℕ) → All (IsLtBy nat_cmp place) rest → (p : ℕ) → In p rest → place < p
 all_behind place rest all p i =
     subst (λ o. MatchOrdering o (place < p) (place ≡ p) (p < place)) (All-contains (IsLtBy nat_cmp place) rest p all (in_contains rest p i)) (ranks place p)
@@ -84,7 +84,7 @@ in_taken (y ∷ xs) i zero x e h = absurd (omega (arith, h))
 in_taken (y ∷ xs) zero (suc q) x e h = let same : y ≡ x = cc in inl (sym same)
 in_taken (y ∷ xs) (suc i) (suc q) x e h = inr (in_taken xs i q x e (omega (arith, h)))
 
--- Of the first `far` kept records, found are the consequences of a, with these numbers; ahead are the places behind, where steps stand that depend directly on a or on one of them.
+-- Found, with these numbers, are a's consequences in the first `far` kept records; ahead, later places of direct dependents of a or these.
 pub record IsGathered (kept : List Record) (a : Record) (ahead items : List ℕ) : Type 0 where
   pub far : ℕ
   pub found : List Record

@@ -6,7 +6,7 @@ use Rattle.ghc_depend.proofs.Placing.{results_of}
 use Rattle.ghc_depend.proofs.Working.{StandBehind, works}
 use Rattle.ghc_depend.proofs.Comparing.{same_state}
 
--- in a lawful order each step stands behind all on which it depends
+-- in a lawful order each step stands after all on which it depends
 lawful_behind : (kept : List Record) (order : List ℕ) (new : List Record) → AreDistinct kept → IsLawful kept order → IsInOrder kept order new → StandBehind kept new
 lawful_behind kept order new distinct lawful o front back r a e d =
     let before = is_before kept a r d.0 in

@@ -18,7 +18,7 @@ module _ {X : Type 0} where
   pub before_places : (xs : List X) → AreDistinct xs → (i j : ℕ) (a b : X) → slice_get xs i ≡ Some a → slice_get xs j ≡ Some b → Before xs a b → i < j
   before_places xs distinct i j a b p q h = grind (arith, cases_order, same_value, before_once, places_before)
 
--- an element of a list, and the lists in front of it and behind it
+-- an element of a list, and the lists in front of it and after it
 pub at_split : {X : Type 0} (xs : List X) (i : ℕ) (b : X) → slice_get xs i ≡ Some b → (rest : List X) × (xs ≡ take i xs ++ b ∷ rest) × (take (i + 1) xs ≡ take i xs ++ b ∷ [])
 at_split xs i b e =
     let within = slice_get_within xs i b e in
@@ -125,7 +125,7 @@ module _ (rs : List Record) (distinct : AreDistinct (numbers rs)) (b : Record) w
         pub place_there : WasThereBefore rs b a → made < place
         place_there h = place_before rs made place maker a at there distinct (h maker (in_at rs made maker at) (name, e, makes))
 
--- P holds of none of the steps behind this place and in front of the other
+-- P holds of none of the steps after this place and in front of the other
 abbrev pub NoneBetween : (Record → Type 0) → List Record → ℕ → ℕ → Type 0
 NoneBetween P rs place end_place = (k : ℕ) (c : Record) → place < k → k < end_place → slice_get rs k ≡ Some c → ¬ P c
 
@@ -167,7 +167,7 @@ module _ (rs : List Record) (ss : SlotList) (is : rs ≡ held_in ss) (later earl
   there_behind : StandsAt rs later (rank ss behind)
   there_behind = ranked rs ss is behind later second
 
-  -- a step that does not stand behind does not depend
+  -- a step that does not stand after another does not depend on it
   pub not_behind : AreDistinct (numbers rs) → behind ≤ place → IsDirect rs later earlier None
   not_behind distinct high b a kb ka d =
       let low = place_before rs (rank ss place) (rank ss behind) a b (placed rs earlier (rank ss place) a distinct there ka) (placed rs later (rank ss behind) b distinct there_behind kb) distinct d.0 in

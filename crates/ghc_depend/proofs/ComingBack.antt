@@ -39,7 +39,7 @@ module _ (P : Program) (query : Query) (rs : List Record) (t : State) (replay : 
     behind : StandBehind rs (left ++ gone)
     behind front back r a e d = stands_in_front (left ++ gone) front back r a (records_distinct (left ++ gone) both_distinct) e (order r a d)
 
-    -- behind the rest they replay to the old state
+    -- after the rest they replay to the old state
     pub come_back : IsAcyclic (value_at t.store) → Replays P query (left ++ gone) t
     come_back acyclic =
         let w = works P query rs t replay acyclic (left ++ gone) among both_distinct behind in

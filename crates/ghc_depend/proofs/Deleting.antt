@@ -20,7 +20,7 @@ module _ (P : Program) (query : Query) (rs : List Record) (t : State) (replay : 
   pub parted : (r : Record) → In r rs → In r gone ⊎ In r left
   parted r i = grind (arith, picks_has rs gone r parts.0 i, picks_has rs left r parts.1 i)
 
-  -- where the set is closed, each step left stands behind all on which it depends
+  -- where the set is closed, each step left stands after all on which it depends
   behind : IsClosedUnder rs D → StandBehind rs left
   behind shut front back r a e d =
       let r_left : In r left = subst (In r) (sym e) (in_right front (r ∷ back) r (inl refl)) in

@@ -51,7 +51,7 @@ module _ (ss : SlotList) (distinct : AreDistinct (numbers (held_in ss))) (ns : L
 
 module _ (rs : List Record) (distinct : AreDistinct (numbers rs)) where
   module _ (ns : List ℕ) (number : ℕ) (users : (n : ℕ) → In n ns ↔ StepDependsOn rs n number) where
-    -- a step that uses this one, behind it, is among its users
+    -- a later step that uses this one is among its users
     among : (a c : Record) (i j : ℕ) → a.number ≡ number → slice_get rs i ≡ Some a → slice_get rs j ≡ Some c → i < j → Uses c a → In c.number ns
     among a c i j e p q l used = (users c.number).1 (a, c, e, refl, (stands_before rs i j a c p q l, used))
 

@@ -22,7 +22,7 @@ all_in_time kept order count long h a b t =
     let within = slice_get_within order p.0 b.number p.1 in
     h p.0 b.number (omega arith) p.1 a b refl t
 
--- of the records in front of this one, none was used by b and stands behind it in the order
+-- of the records in front of this one, none was used by b and stands after it in the order
 abbrev pub NoneNeeded : List Record → List ℕ → ℕ → Record → ℕ → Type 0
 NoneNeeded kept order place b i = (k : ℕ) (c : Record) → k < i → slice_get kept k ≡ Some c → ¬ (StandsBehind order place c.number × Uses b c)
 
@@ -38,7 +38,7 @@ pub none_ranked : (ss : SlotList) (order : List ℕ) (place : ℕ) (b : Record) 
 none_ranked ss order place b i none k c low there = grind (arith, rank_back, cases_lt, rank_least)
 
 module _ (kept : List Record) (distinct : AreDistinct (numbers kept)) (order : List ℕ) (once : AreDistinct order) (place : ℕ) (b : Record) (at : slice_get order place ≡ Some b.number) where
-  -- a step before which b stands too early stands behind it
+  -- a step before which b stands too early stands after b
   pub stands_later : (c : Record) → IsTooEarly kept order c b → StandsBehind order place c.number
   stands_later c t =
       let before = is_before order b.number c.number t.1 in

@@ -180,7 +180,7 @@ module _ (P : Program) (query : Query) (accepted : IsProgram P) (asked : IsQuery
       ) in
       (split.0, replay, split.2.0, (replay_well P query kept split.0 accepted asked replay).acyclic)
 
-  -- the same step behind the same steps has one record
+  -- the same step after the same steps has one record
   pub step_once : (kept : List Record) (r q : Record) (t u : State) → Replays P query (kept ++ r ∷ []) t → Replays P query (kept ++ q ∷ []) u → step_of r ≡ step_of q → r ≡ q
   step_once kept r q t u run walk e =
       let f = front kept r t run in

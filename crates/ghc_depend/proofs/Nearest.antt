@@ -5,7 +5,7 @@ use Rattle.ghc_depend.proofs.Following.{follows_in}
 use Rattle.ghc_depend.proofs.Causes.{NoneBetween, StandsAt, placed, place_at, stands_before, place_before}
 
 module _ (rs : List Record) (distinct : AreDistinct (numbers rs)) (a : Record) (place : ℕ) (there : slice_get rs place ≡ Some a) where
-  -- a step stands behind each on which it depends
+  -- a step stands after each on which it depends
   low : (i j : ℕ) (c b : Record) → slice_get rs i ≡ Some c → slice_get rs j ≡ Some b → DependsOn rs b c → i < j
   low i j c b at behind d = place_before rs i j c b at behind distinct d.0
 

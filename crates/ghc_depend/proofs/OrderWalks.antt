@@ -16,7 +16,7 @@ module _ (kept : List Record) (order : List ℕ) (i : ℕ) (n : ℕ) (at : slice
   pub is_wrong : IsOfKept kept (take i order) → (¬ In n (numbers kept)) ⊎ In n (take i order) → IsFirstWrong kept order n
   is_wrong k wrong = let s = at_split order i n at in record { front = take i order; behind = s.0; splits = s.1; before = k; not_new = wrong }
 
--- a number that is not kept is not behind kept ones
+-- where the first number is not kept, a number with only kept ones before it is the first
 pub first_unkept : (kept : List Record) (order rest : List ℕ) (i n s : ℕ) → slice_get order i ≡ Some n → IsOfKept kept (take i order) → order ≡ s ∷ rest → ¬ In s (numbers kept) → n ≡ s
 first_unkept kept order rest zero n s at k e none = let same : Some n ≡ Some s = sym at ∙ ap (λ l. slice_get l 0) e in cc
 first_unkept kept order rest (suc i) n s at k e none = absurd (none (k.0 s (rw e (inl refl))))

@@ -6,7 +6,7 @@ use Rattle.ghc_depend.proofs.Once.{same_records}
 use Rattle.ghc_depend.proofs.Picking.{before_front, distinct_right, picks_in, picks_has, picks_order, picks_keep, picks_distinct, pick}
 
 module _ {X : Type 0} where
-  -- what stands behind an element, stands in the part behind it
+  -- what stands after an element stands in the part after it
   pub stands_behind : (xs front back : List X) (r a : X) → AreDistinct xs → xs ≡ front ++ r ∷ back → Before xs r a → In a back
   stands_behind xs front back r a distinct e before =
       let either = in_either front (r ∷ back) a in
@@ -32,7 +32,7 @@ module _ {X : Type 0} where
   picks_all [] f = nothing
   picks_all (x ∷ xs) f = take (f x) (picks_all xs f)
 
-  -- an element and those picked, all of which stand behind it
+  -- an element and those picked, all of which stand after it
   pub picks_with : {F : X → Type 0} (xs found : List X) (r : X) → AreDistinct xs → In r xs → ((s : X) → F s → Before xs r s) → Picks F xs found → Picks (λ s. (s ≡ r) ⊎ F s) xs (r ∷ found)
   picks_with [] found r d i behind k = absurd i
   picks_with (x ∷ xs) found r d (inl e) behind (take p k) = absurd (elim (behind x p) [
@@ -50,7 +50,7 @@ module _ {X : Type 0} where
       leave (λ g. elim g [ inl same ↦ d.0 (subst (λ z. In z xs) (sym same) i) | inr f ↦ p f ])
       (picks_with xs found r d.1 i (λ s f. elim (behind s f) [ inl h ↦ absurd (d.0 (subst (λ z. In z xs) h.0 i)) | inr h ↦ h ]) k)
 
--- a consequence stands behind
+-- a consequence stands after its step
 pub before_on : {X : Type 0} (xs : List X) (a b c : X) → AreDistinct xs → Before xs a b → Before xs b c → Before xs a c
 before_on [] a b c d h k = absurd h
 before_on (x ∷ xs) a b c d h k = grind (arith, d.0, before_in xs a b, before_in xs b c, before_on xs a b c d.1)
@@ -101,7 +101,7 @@ module _ (kept : List Record) (distinct : AreDistinct (numbers kept)) (a : Recor
   pub gone_kept : (r : Record) → In r gone → In r kept
   gone_kept r i = (picks_in kept gone r split.0 i).0
 
-  -- Where what stands behind a step among the gone was taken away, nothing depends on that step.
+  -- Where what stands after a step among the gone was taken away, nothing depends on that step.
   pub alone_left : (front back some : List Record) (r : Record) → gone ≡ front ++ r ∷ back → Picks (λ s. ¬ In s back) kept some → (b : Record) → ¬ Follows some r b
   alone_left front back some r e k b (directly d) =
       let here : In r gone = subst (In r) (sym e) (in_right front (r ∷ back) r (inl refl)) in

@@ -1,4 +1,4 @@
--- Steps of a replay can be taken again in every order in which each stands behind all on which it depends, and with every others left out on which none of them depends.
+-- A replay's steps, but for any on which none of the rest depends, can be taken again in any order with each after all that it depends on.
 use Rattle.ghc_depend.proofs.Words.{◌≡◌, List, [], ◌∷◌, ◌++◌, refl, sym, ap, ◌∙◌, subst, inl, inr, Some, append_assoc, append-nil, Option, is_some, option_or, VarName, Tree, In, IsAcyclic, value_at, reaches_more, in_left, in_right, Program, Query, with_bindings, AreDistinct, State, Record, numbers, after, Fires, query_state, Runs, Replays, AreKnownIn, before_is, Uses, DependsOn}
 use Rattle.std.specs.FinMap as finite
 use Rattle.ghc_depend.proofs.Finding.{by_option, own_made}
@@ -6,7 +6,7 @@ use Rattle.ghc_depend.proofs.Extending.{effect_elsewhere}
 use Rattle.ghc_depend.proofs.Results.{Taken, firing, asking_fires, step_binds, fires, IsUntaken, Results, query_unmade, at_first, bound_by, goal_by, with_step}
 use Rattle.ghc_depend.proofs.Placing.{apart_at, Place, results_of, place_of, in_front, front_in, consumed_once, bound_once}
 
--- in the list, each step stands behind all on which it depends
+-- in the list, each step stands after all on which it depends
 abbrev pub StandBehind : List Record → List Record → Type 0
 StandBehind rs new = (front back : List Record) (r a : Record) → new ≡ front ++ r ∷ back → DependsOn rs r a → In a front
 

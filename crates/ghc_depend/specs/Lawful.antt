@@ -21,7 +21,7 @@ IsTooEarly kept order a b = DependsOn kept b a × Precedes order b.number a.numb
 abbrev pub IsLawful : List Record → List ℕ → Type 0
 IsLawful kept order = IsOrderOf kept order × ((a b : Record) → ¬ IsTooEarly kept order a b)
 
--- In the order, the number stands behind this place.
+-- In the order, the number stands after this place.
 abbrev pub StandsBehind : List ℕ → ℕ → ℕ → Type 0
 StandsBehind order place n = (own : ℕ) × (slice_get order own ≡ Some n) × (place < own)
 

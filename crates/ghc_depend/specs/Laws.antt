@@ -72,7 +72,7 @@ RollKeepsReplay =
     (P : Program) (query : Query) (kept : List Record) (t : State) (r : Record) → IsProgram P → IsQuery P query → Replays P query kept t → In r kept
     → (gone left : List Record) × (u : State) × IsSplitAt kept r gone left × Replays P query left u × IsWithoutSteps gone t u
 
--- Steps that are closed under consequences can be taken again behind the rest, in their old order, and that replays to the old state.
+-- Steps that are closed under consequences can be taken again after the rest, in their old order, and that replays to the old state.
 abbrev pub GoneComeBack : Type 0
 GoneComeBack =
     (P : Program) (query : Query) (kept : List Record) (t : State) (gone left : List Record) → IsProgram P → IsQuery P query

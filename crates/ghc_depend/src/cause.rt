@@ -145,7 +145,7 @@ fn was_there_before(records: &Records, later: &Record, place: usize) -> bool
     made < place
 }
 
-// Whether the step that bound the variable, if one did, stands behind this place: two look-ups.
+// Says whether the step that bound the variable, if one did, stands after this place: two look-ups.
 fn is_bound_behind(records: &Records, x: VarName, place: usize) -> bool
     ensures { (a : Record) → StandsIn records.now.slots place a → (IsTrue result ↔ IsBoundBehind records.now.held a x) }
 {
@@ -159,7 +159,7 @@ fn is_bound_behind(records: &Records, x: VarName, place: usize) -> bool
     }
 }
 
-// Whether the later step read a variable that a step behind this place bound: two look-ups for each that it read.
+// Says whether the later step read a variable that a step after this place bound: two look-ups for each that it read.
 fn reads_behind(records: &Records, later: &Record, place: usize) -> bool
     ensures { (a : Record) → StandsIn records.now.slots place a → (IsTrue result ↔ ReadsBehind records.now.held later.now a) }
 {
@@ -207,8 +207,8 @@ pub fn direct(records: &Records, later: u32, earlier: u32) -> Option<Cause>
     Some(Cause::Named { variable })
 }
 
-// Whether the step at this place woke the goal of the later one, by what that read: some look-ups. It goes once over what the later
-// step read where no step behind this one bound any of it, so for one of the places at most.
+// Says whether the step at this place woke the goal of the later one, by what that read: some look-ups. Where no step after this one
+// bound anything that the later step read, it goes once over all of that, so for one of the places at most.
 fn woke(records: &Records, sources: &Sources, later: &Record, place: usize) -> bool
     requires { AreLeastReads records.now.slots later.now sources.now.reads }
     ensures { (a : Record) → StandsIn records.now.slots place a → (IsTrue result ↔ IsWokenBy records.now.held later.now a) }

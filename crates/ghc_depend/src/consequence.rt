@@ -52,12 +52,12 @@ fn add_users(ahead: &mut BTreeSet<usize>, records: &Records, number: u32) -> Res
 }
 
 /// The numbers of the consequences of the step of this number, in recorded order: none where it is not kept. It costs a look-up for
-/// each direct dependence on the step or on a consequence, and puts the places of those in order. It fails for want of memory
-/// alone, and never where the step is not kept.
+/// each direct dependence on the step or on a consequence, and puts the places of those in order. It fails only
+/// where memory is refused, and never where the step is not kept.
 pub fn consequences(alloc: Global, records: &Records, number: u32) -> Result<Vec<u32>, AllocError>
     ensures found { IfOk result (λ ns. (found : List Record) × AreConsequencesOf records.now.held number found × (numbers found ≡ ns.items)) }
 
-    // No want of memory hides that the step is not kept.
+    // It fails only where the step is kept.
     ensures kept { OnErr result ((r : Record) × IsKeptAs records.now.held number r) }
 {
     let _count = records.len();

@@ -50,8 +50,8 @@ fn count_in_time(records: &Records, places: &IndexSet<u32>, order: &[u32]) -> us
     in_time
 }
 
-// The number of the record in this slot, if it has one that stands behind this place in the order, and the later step used what
-// it gave: two look-ups, and one for each variable that the later step read.
+// The number of this slot's record, if there is one that stands after this place in the order and gave something the later step
+// used. It costs two look-ups, and one for each variable that the later step read.
 fn needed_at(
     records: &Records,
     places: &IndexSet<u32>,
@@ -72,9 +72,9 @@ fn needed_at(
     None
 }
 
-// The number of the first step, in recorded order, on which the step of this number and this place in the order depends directly
-// and which stands behind it in the order. It goes over the records in front of that step, with a look-up at each, and one for each
-// variable that it read where the record stands behind.
+// The number of the first step, in recorded order, that stands after this step in the order and on which this step depends directly.
+// This step has the number and the place given. It goes over the records in front of this step, with a look-up at each, and one for
+// each variable that this step read where the record stands after it.
 fn first_needed(records: &Records, places: &IndexSet<u32>, number: u32, place: usize) -> Option<u32>
     requires distinct { AreDistinct places.now.keys }
     requires there { slice_get places.now.keys place ≡ Some number }
@@ -115,8 +115,8 @@ fn first_too_early(
 
 /// Whether the order is lawful: it has each kept number once and nothing else, and no step stands before one on which it depends
 /// directly. Else `NotLawful`, with the pair that tells why: twice the first number that is not kept or stood before; or else the
-/// first that is missing, and 0; or else the two first steps of which the earlier in the order depends on the later. Beside these
-/// it fails for want of memory alone, and never so for an order that is empty or begins with a number that is not kept. It goes
+/// first that is missing, and 0; or else the two first steps of which the earlier in the order depends on the later. Else it
+/// fails only where memory is refused, never for an order that is empty or begins with a number that is not kept. It goes
 /// once over order and record, with some look-ups for each step, and one for each direct dependence; where a step stands too early,
 /// it goes once more over the record.
 pub fn lawful(alloc: Global, records: &Records, order: &[u32]) -> Result<(), Fault>

@@ -12,7 +12,7 @@ use ghc_term::Fault;
 use indexmap::IndexSet;
 use std::alloc::{AllocError, Global};
 
-// Adds the number behind the others, where it is kept and not yet there; else it says no: two look-ups.
+// Adds the number at the end, where it is kept and not yet there; else it says no: two look-ups.
 fn is_added(places: &mut IndexSet<u32>, records: &Records, number: u32) -> Result<bool, AllocError>
     ensures kept { IfOk result (λ added. added ≡ true → In number (numbers records.now.held)) }
     ensures new { IfOk result (λ added. added ≡ true → ¬ In number places.old.keys) }
@@ -29,9 +29,9 @@ fn is_added(places: &mut IndexSet<u32>, records: &Records, number: u32) -> Resul
     }
 }
 
-/// The numbers of the order with their places. `NotLawful`, with its number twice, for the first that is not kept or stood before;
-/// else it fails for want of memory alone, and takes none for an order that is empty or begins with a number that is not kept. Two
-/// look-ups for each number.
+/// The numbers of the order with their places. `NotLawful`, with its number twice, for the first that is not kept or stood before.
+/// Else it fails only where memory is refused, and takes none for an order that is empty or begins with a number that is not kept.
+/// It costs two look-ups for each number.
 pub(crate) fn places_of(
     alloc: Global,
     records: &Records,
@@ -88,7 +88,7 @@ pub(crate) fn first_missing(records: &Records, places: &IndexSet<u32>) -> Option
     None
 }
 
-/// Whether the number has a place behind this one: one look-up.
+/// Whether the number has a place after this one: one look-up.
 pub(crate) fn stands_behind(places: &IndexSet<u32>, number: u32, place: usize) -> bool
     requires { AreDistinct places.now.keys }
     ensures { IsTrue result ↔ StandsBehind places.now.keys place number }

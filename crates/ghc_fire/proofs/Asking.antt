@@ -104,7 +104,7 @@ called_length i (Some x ∷ os) = ap suc (called_length i os)
 abbrev pub name_in : List VarName → VarName → VarName
 name_in ys y = unwrap_or (slice_get ys (y.place - 1)) y
 
--- The i-th of the variables becomes the i-th of as many others, where those stand behind k others in a list.
+-- The i-th of the variables becomes the i-th of as many others, which follow k more in a list.
 names_in : (zs : List VarName) (k : ℕ) (xs ys : List VarName) → length xs ≡ length ys → ((i : ℕ) → slice_get zs (k + i) ≡ slice_get ys i)
     → ((i : ℕ) (x : VarName) → slice_get xs i ≡ Some x → x ≡ made 0 (k + i + 1)) → map (name_in zs) xs ≡ ys
 names_in zs k [] [] e same h = refl

@@ -9,7 +9,7 @@ not_solved S l r f (inr (clashes c)) = inr (λ P. UnificationAnswers.clashes c)
 not_solved S l r f (inr (cycles c)) = inr (λ P. UnificationAnswers.cycles c)
 
 module _ (S : VarName → Option Tree) (t : Tree) (b : Expression) where
-  -- the fault is want of memory, or the answer to the assignment
+  -- the fault is `Memory`, or the answer to the assignment
   abbrev pub IsAnswer : Fault → Type 0
   IsAnswer f = (f ≡ Memory) ⊎ ((P : Program) → AssignmentAnswers P t b S (refused f))
 

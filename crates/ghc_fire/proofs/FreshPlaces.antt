@@ -7,7 +7,7 @@ use Rattle.ghc_fire.proofs.Origins.{firsts_have, place_got}
 abbrev pub StandAll : Clause → StoreValue → Type 0
 StandAll c theta = (y : VarName) → In y (variables_of_list c.head) → (t : Tree) × (value_at theta y ≡ Some t)
 
--- the fresh variables have the places behind those of the head.
+-- the fresh variables have the places after those of the head.
 abbrev pub AreNumberedBehind : ℕ → Clause → Type 0
 AreNumberedBehind h c = (i : ℕ) (x : VarName) → slice_get (fresh_variables c) i ≡ Some x → x ≡ asked (h + i + 1)
 
@@ -18,7 +18,7 @@ module _ (h : ℕ) (c : Clause) (behind : AreNumberedBehind h c) where
       let place : y.place ≡ h + p.0 + 1 = ap (λ (z : VarName). z.place) (behind p.0 y p.2) in
       omega (arith, place, p.1)
 
-  -- where each variable of the head stands for something, the others are behind them
+  -- where each variable of the head stands for something, the others come after them
   pub behind_head : (theta : StoreValue) → StandAll c theta → AreBehindHead h c theta
   behind_head theta stand y i none =
       elim (firsts_have (variables_of_list c.head) (variables_of_goals c.body) y i) [

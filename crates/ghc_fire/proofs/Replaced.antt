@@ -7,7 +7,7 @@ use Rattle.ghc_fire.proofs.Rebuilding.{replace_kept}
 joined : (f : VarName → VarName) {us vs : List VarName} (xs ys : List VarName) → us ≡ map f xs → vs ≡ map f ys → us ++ vs ≡ map f (xs ++ ys)
 joined f {us} {vs} xs ys p q = rw (map-append f xs ys) (λ i. p i ++ q i)
 
--- none of the goals is a stream, and so neither the first is one, nor one behind it
+-- where none of the goals is a stream, neither the first nor any after it is one
 pub no_stream : (g : Goal) (gs : List Goal) → filter is_stream (g ∷ gs) ≡ [] → (is_stream g ≡ false) × (filter is_stream gs ≡ [])
 no_stream (stream k x) gs p = cc
 no_stream _ gs p = (refl, p)

@@ -16,7 +16,7 @@ same_variable n x o =
       | false ↦ λ _. refl
     ] refl
 
--- one replacement behind another is a third
+-- one replacement after another is a third
 module _ (s u w : VarName → Tree) (both : (y : VarName) → replace s (u y) ≡ w y) where
   mutual
     tree_twice : (t : Tree) → replace s (replace u t) ≡ replace w t

@@ -51,8 +51,8 @@ impl Ask {
     ghost use Rattle.ghc_fire.specs.Effect.{no_step};
     ghost use Rattle.ghc_fire.specs.Asked.{AreAskable, IsAsk, own_variables, made_from, asked_of};
 
-    /// What is written so. It fails for want of memory alone, goes once through the goals, and shares each part of their terms
-    /// that has no variable.
+    /// What is written so. It fails only where memory is refused, goes once through the goals, and shares each part of their
+    /// terms that has no variable.
     pub fn of_written(alloc: Global, written: WrittenAsk) -> Result<Ask, AllocError>
         ensures { IfOk result (λ ask. ask ≡ asked_of written) }
     {

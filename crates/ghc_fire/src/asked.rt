@@ -48,7 +48,7 @@ impl Model for Asked {
 
 impl Asked {
     /// These goals, no more than a body may have, with their variables, each once, in the order in which they stand first. It
-    /// fails for want of memory alone.
+    /// fails only where memory is refused.
     pub fn of(alloc: Global, goals: Vec<Goal>, variables: Vec<VarName>) -> Result<Asked, AllocError>
         requires few { length goals.items ≤ most_goals }
         requires variables { variables.items ≡ firsts [] (variables_of_goals goals.items) }

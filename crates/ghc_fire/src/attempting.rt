@@ -20,11 +20,11 @@ use ghc_flat::Program;
 use ghc_term::{Expr, Fault, Goal, GoalName, GoalView, Store, Term};
 use std::alloc::{AllocError, Global};
 
-/// Proposes a step of the goal of this name, with a clause chosen or not, and counts a firing. The refusals, in this
-/// order: `NoGoal` where there is no such goal or it is a stream; `NoClause` where no clause of the number chosen is for
-/// the goal; for a call `Waits` or `NoMatch` by what its clauses say, without a choice only where none accepts, and then the
-/// least that accepts is taken; for a unification `Clash` or `Cycle`; for an assignment `Waits`, `Arithmetic` or `Clash`. Else
-/// it fails for want of memory alone. It costs what the goal's clauses look at and what the step would bind and make.
+/// Proposes a step of the goal of this name, with a clause chosen or not, and counts a firing. Without a choice it takes the
+/// least clause that accepts a call. The refusals, in this order: `NoGoal` where there is no such goal or it is a stream;
+/// `NoClause` where no clause of the number chosen is for the goal. A call gets `Waits` or `NoMatch` by what its clauses say,
+/// without a choice only where none accepts; a unification `Clash` or `Cycle`; an assignment `Waits`, `Arithmetic` or `Clash`.
+/// Else it fails only where memory is refused. It costs what the goal's clauses look at and what the step would bind and make.
 pub fn attempt(
     alloc: Global,
     meter: &mut Meter,
@@ -36,7 +36,7 @@ pub fn attempt(
 ) -> Result<Proposal, Fault>
     ensures answer { Answered (IsProposed program.now goals.now.held store.now.held goal choice) (λ f. AttemptsAt program.now goals.now.held store.now.held goal choice (refused f)) result }
 
-    // What look-ups refuse, no want of memory hides.
+    // F1 never hides what look-ups refuse.
     ensures no_goal { AttemptsAt program.now goals.now.held store.now.held goal choice (refused Fault.NoGoal) → result ≡ Err Fault.NoGoal }
     ensures no_clause { AttemptsAt program.now goals.now.held store.now.held goal choice (refused Fault.NoClause) → result ≡ Err Fault.NoClause }
     ensures counted { meter.new ≡ fired meter.old }
@@ -58,7 +58,7 @@ pub fn attempt_as(
 ) -> Result<Proposal, Fault>
     ensures answer { Answered (IsProposedAs step program.now goals.now.held store.now.held goal choice) (λ f. AttemptsAt program.now goals.now.held store.now.held goal choice (refused f)) result }
 
-    // What look-ups refuse, no want of memory hides.
+    // F1 never hides what look-ups refuse.
     ensures no_goal { AttemptsAt program.now goals.now.held store.now.held goal choice (refused Fault.NoGoal) → result ≡ Err Fault.NoGoal }
     ensures no_clause { AttemptsAt program.now goals.now.held store.now.held goal choice (refused Fault.NoClause) → result ≡ Err Fault.NoClause }
     ensures counted { meter.new ≡ fired meter.old }

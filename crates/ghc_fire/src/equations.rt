@@ -14,7 +14,7 @@ use ghc_unify::{Solved, unify};
 use std::alloc::Global;
 
 /// The effect of a step that unifies the two sides. `Clash` or `Cycle` where they cannot be made equal; otherwise it
-/// fails for want of memory alone. It costs what `unify` does.
+/// fails only where memory is refused. It costs what `unify` does.
 pub fn attempt_unification(
     alloc: Global,
     store: &Store,
@@ -30,8 +30,8 @@ pub fn attempt_unification(
 }
 
 /// The effect of a step that assigns the value of the expression. `Waits` or `Arithmetic` where it has none, and `Clash`
-/// where the left side cannot be made equal to it; otherwise it fails for want of memory alone. It costs what `evaluate`
-/// and `unify` do, and goes once more along the chains of the expression's variables.
+/// where the left side cannot be made equal to it; otherwise it fails only where memory is refused. It costs what
+/// `evaluate` and `unify` do, and goes once more along the chains of the expression's variables.
 pub fn attempt_assignment(
     alloc: Global,
     store: &Store,

@@ -69,7 +69,7 @@ impl Made {
         }
     }
 
-    /// One goal. It fails for want of memory alone.
+    /// One goal. It fails only where memory is refused.
     pub fn one(alloc: Global, goal: Goal) -> Result<Made, AllocError>
         ensures { IfOk result (λ made. made ≡ goal ∷ []) }
     {
@@ -81,7 +81,7 @@ impl Made {
         }
     }
 
-    /// Two goals. It fails for want of memory alone.
+    /// Two goals. It fails only where memory is refused.
     pub fn two(alloc: Global, first: Goal, second: Goal) -> Result<Made, AllocError>
         ensures { IfOk result (λ made. made ≡ first ∷ second ∷ []) }
     {
@@ -93,7 +93,7 @@ impl Made {
         }
     }
 
-    /// Three goals. It fails for want of memory alone.
+    /// Three goals. It fails only where memory is refused.
     pub fn three(alloc: Global, first: Goal, second: Goal, third: Goal) -> Result<Made, AllocError>
         ensures { IfOk result (λ made. made ≡ first ∷ second ∷ third ∷ []) }
     {
@@ -105,7 +105,7 @@ impl Made {
         }
     }
 
-    /// The goals of the list. It fails for want of memory alone.
+    /// The goals of the list. It fails only where memory is refused.
     pub fn of(alloc: Global, goals: Vec<Goal>) -> Result<Made, AllocError>
         ensures { IfOk result (λ made. made ≡ goals.items) }
     {
@@ -163,7 +163,7 @@ impl Made {
 }
 
 impl MadeGoal {
-    /// A handle of a goal in a piece of its own. It fails for want of memory alone.
+    /// A handle of a goal in a piece of its own. It fails only where memory is refused.
     pub fn alone(alloc: Global, goal: Goal) -> Result<MadeGoal, AllocError>
         ensures { IfOk result (λ made. made ≡ goal) }
     {

@@ -14,7 +14,7 @@ use ghc_flat::Program;
 use ghc_term::{Expr, Fault, Goal, GoalView, Name, Store, Term};
 use std::alloc::{AllocError, Global};
 
-// What a refusal says of an effect: there is none, but for want of memory.
+// What a refusal says of an effect: there is none, unless memory was refused.
 fn none_but_memory(fault: Fault) -> Result<Option<Effect>, AllocError>
     ensures some { IfOk result (λ found. IfSome found (λ e. ⊥)) }
     ensures none { IfOk result (λ found. fault ≢ Fault.Memory) }
@@ -107,8 +107,8 @@ fn effect_of(
 }
 
 /// The effect of the act on the goal as the step of this number, if it has one, and counts a firing; an act of another kind
-/// than the goal has none. It fails for want of memory alone. It costs what an attempt at the goal with this act costs, or for a
-/// stream a look-up for each variable of its tail's chain.
+/// than the goal has none. It fails only where memory is refused. It costs what an attempt at the goal with this act costs, or for
+/// a stream a look-up for each variable of its tail's chain.
 pub fn effect_as(
     alloc: Global,
     meter: &mut Meter,
@@ -126,9 +126,9 @@ pub fn effect_as(
     effect_of(alloc, program, store, goal, act, number)
 }
 
-/// Whether the act on the goal has this effect as the step of this number, and counts a firing. It fails for want of memory
-/// alone. It costs what an attempt at the goal with this act costs, or for a stream a look-up for each variable of its tail's
-/// chain, and a comparison with the effect as written.
+/// Whether the act on the goal has this effect as the step of this number, and counts a firing. It fails only where
+/// memory is refused. It costs what an attempt at the goal with this act costs, or for a stream a look-up for each variable of its
+/// tail's chain, and a comparison with the effect as written.
 pub fn has_effect(
     alloc: Global,
     meter: &mut Meter,

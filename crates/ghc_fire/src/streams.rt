@@ -36,7 +36,7 @@ fn open_end(
 
 /// The effect of an input of the stream of this number as this step: the end of the stream's tail is bound to a list cell of
 /// the input and a fresh tail, with which the stream goes on. None exactly where the chain of the tail ends in a value; it
-/// fails for want of memory alone. It costs a look-up for each variable of the chain.
+/// fails only where memory is refused. It costs a look-up for each variable of the chain.
 pub fn feed(
     alloc: Global,
     store: &Store,
@@ -62,7 +62,7 @@ pub fn feed(
 }
 
 /// The effect of the close of a stream: the end of its tail is bound to `[]`. None exactly where the chain of the tail ends
-/// in a value; it fails for want of memory alone. It costs a look-up for each variable of the chain.
+/// in a value; it fails only where memory is refused. It costs a look-up for each variable of the chain.
 pub fn close(alloc: Global, store: &Store, tail: VarName) -> Result<Option<Effect>, AllocError>
     ensures closed { IfOk result (λ found. IfSome found (Closes tail (value_at store.now.held))) }
     ensures bound { IfOk result (λ found. IfNone found (IsTailBound tail (value_at store.now.held))) }

@@ -1,10 +1,10 @@
--- What is told of some goals, and of one more.
+-- What holds of some goals, and of one more.
 use Rattle.ghc_hooks.proofs.Words.{◌≡◌, ℕ, ◌+◌, ◌<◌, true, false, cond, List, length, get_or, take, refl, sym, ap, ◌∙◌, inl, inr, ◌⊎◌, ◌↔◌, Some, Ordering, eq_by_cmp, IsTotalOrder, eq_by_cmp_equiv, IsAntisymmetric, tells_apart, GoalName, In, arith}
 use Rattle.std.specs.FinMap as finite
 use Rattle.ghc_hooks.proofs.LookingAll.{so_far, earlier, latest}
 
 module _ {T : Type 0} (Q : Type 0) (gs : List GoalName) (i : ℕ) (d : GoalName) (within : i < length gs) (g : GoalName) (before : T ↔ (In g (take i gs) × Q)) where
-  -- the next goal is told of
+  -- with the next goal, where Q holds
   pub told_next : {T' : Type 0} → T' ↔ (T ⊎ ((g ≡ get_or gs i d) × Q)) → T' ↔ (In g (take (i + 1) gs) × Q)
   told_next step = grind (arith, so_far gs i d within g, earlier gs i d within g, latest gs i d within g)
 

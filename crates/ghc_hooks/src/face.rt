@@ -63,7 +63,7 @@ impl<'a> Face<'a> {
 
     /// The face of the state, found from scratch: each goal is tried, and each clause for a call once more, and what that
     /// finds takes some look-ups for each goal, each clause and each variable for which a goal waits. Nothing is bound, made or
-    /// counted, and it fails for want of memory alone.
+    /// counted, and it fails only where memory is refused.
     pub fn new(
         alloc: Global,
         program: &Program,

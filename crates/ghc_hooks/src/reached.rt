@@ -62,7 +62,7 @@ fn take_up<'a>(
 }
 
 /// All variables that the terms reach in the store. It goes by a loop, once through each term and through the value of each variable,
-/// and past what is closed as written. It fails for want of memory alone.
+/// and past what is closed as written. It fails only where memory is refused.
 pub fn reached_from<'a>(
     alloc: Global,
     store: &'a Store,

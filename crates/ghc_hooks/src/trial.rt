@@ -96,7 +96,7 @@ fn try_assignment(
 }
 
 /// Tries the goal from scratch: what it can do, and all that it looks at to find that. Nothing is bound, made or counted, and it
-/// fails for want of memory alone. A call costs what its clauses cost, each of which is tried once. A unification or an assignment
+/// fails only where memory is refused. A call costs what its clauses cost, each of which is tried once. A unification or an assignment
 /// costs what `unify` and `evaluate` do, and goes once through all that its terms reach, by loops and past what is closed as written.
 pub fn try_goal(
     alloc: Global,

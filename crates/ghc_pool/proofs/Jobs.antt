@@ -1,4 +1,4 @@
--- What is known of workers and their jobs at the start and behind the threads.
+-- What is known of workers and their jobs at the start and after the threads.
 use Rattle.ghc_pool.proofs.Words.{◌≡◌, ◌⊎◌, ℕ, zero, suc, ◌+◌, ◌<◌, ◌++◌, List, [], ◌∷◌, Some, None, inl, inr, length, set, drop, take, refl, sym, ap, ◌∙◌, subst, arith, append-nil, Global, RowsId, worker_deque, worker_flavor, worker_view, GoalName, RoundStop, Worker, Job, Taken, IsReason, weigh, AreVictims, deques, stolen, work_of, works, names, submits, over, total_work, put_of, got_of, stolen_of, in_of, out_of, offered_in, taken_in, left_in, IsRoomier, Keeps, KeepsRoom, IsOfferedOrStopped, IsWell, AreWell, own_deques, all_victims, AreReady, HaveParts, HaveGivenBack, AreTold, FirstBegins, IsStarting, AreStarting, AreNew, IsCounted, AreCounted, Works, HasWorked, IsJob, AreJobs, workers_in, passes_in}
 use lib.ListN.{get_or}
 use Rattle.ghc_pool.proofs.Stealing.{prefix_after}

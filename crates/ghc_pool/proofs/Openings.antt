@@ -33,7 +33,7 @@ of_set [] j d o low e = refl
 of_set (u ∷ os) zero d o low e = ap (λ x. x ∷ deques_of os) e
 of_set (u ∷ os) (suc j) d o low e = ap (λ xs. worker_deque u ∷ xs) (of_set os j d o (omega (arith, low)) e)
 
--- the deque at the place stands behind those in front of it
+-- the deque at the place follows those in front of it
 pub of_at : (os : List Owner) (j : ℕ) (d : Owner) (ds more : List (RowsId × Global)) → length ds ≡ j → j < length os → deques_of os ≡ ds ++ more → (rest : List (RowsId × Global)) × (deques_of os ≡ (ds ++ worker_deque (get_or os j d) ∷ []) ++ rest)
 of_at [] j d ds more len low is = absurd (omega (arith, low))
 of_at (o ∷ os) zero d [] more len low is = (deques_of os, refl)

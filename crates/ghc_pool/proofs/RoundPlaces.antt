@@ -155,7 +155,7 @@ module _ (opened : Gv) (scope : Scope) (spies : Spies) where
         few_steps [] = omega arith
         few_steps (x ∷ taken) = omega (arith, weight_append (λ _. 1) (places_in x.1) (step_places taken), one_place x.1, few_steps taken)
 
-  -- each place behind the start is one
+  -- at each place after the start stands a step that the round took
   pub by_place : (place first n : ℕ) (start whole : List Item) (starts : List (Known Item)) (ks : List Work) (nows : List (Known Item)) → AreTold (IsPassAfter opened scope spies true) starts ks nows → AreNewcomers start starts
       → All (λ p. IsPrefix p.front whole) nows → ((h : ℕ → ℕ) → weight_of_places h nows ≡ weight h (numbers_from first n)) → first ≤ place → place < first + n → IsTakenAt opened scope spies whole place
   by_place place first n start whole starts ks nows told new begins once low high = by_passes start whole place starts ks nows told new begins (subst (λ (t : ℕ). 0 < t) (sym (once (mark place))) (marked_number place first n low high))

@@ -51,7 +51,7 @@ scope_asked (Some named) w u (Of names since) steps covers stands kept took g b 
     subst (λ (l : List Record). IsInQuestion (Some named) l g) (sym kept) (still_in_question (Some named) w.kept steps g (covers.1 g i))
 scope_asked (Some named) w u (Of names since) steps covers stands kept took g b there (inr late) = made_since (Some named) u w.next stands took g b there (subst (λ (n : ℕ). n ≤ g.step) covers.0 late)
 
--- The first n items behind the start are steps that a run may take.
+-- The first n items after the start are steps that a run may take.
 record HasTaken (workers : ℕ) (spies : Spies) (root : Option GoalName) (w : World) (notes : NotesByGoal) (whole : List Item) (n : ℕ) : Type 0 where
   pub world : World
   pub steps : List Record

@@ -1,7 +1,7 @@
 -- Steps of runs, one after another.
 use Rattle.ghc_pool.proofs.Words.{ℕ, inl, inr, List, [], ◌∷◌, ◌++◌, refl, sym, subst, arith, append_assoc, append-nil, None, Option, GoalName, Record, ◌≡◌, Binds, NotesByGoal, AreLeft, World, IsFull, HasRoom, with_step, IsStanding, IsStepOf, AreKept, Spies, IsInQuestion, IsSpiedIn, HasMetNoFailure, HasStepped, IsRunStep, Takes, at_start, and_tries, and_step}
 
--- steps behind steps
+-- steps after steps
 pub takes_more : (workers : ℕ) (spies : Spies) (root : Option GoalName) (w v : World) (a b : NotesByGoal) (first : List Record) (u : World) (c : NotesByGoal) (more : List Record) → Takes workers spies root w a first v b → Takes workers spies root v b more u c
     → Takes workers spies root w a (first ++ more) u c
 takes_more workers spies root w v a b first u c more t at_start = subst (λ l. Takes workers spies root w a l v b) (sym (append-nil first)) t
@@ -9,14 +9,14 @@ takes_more workers spies root w v a b first u c more t (and_tries {notes = m} tr
 takes_more workers spies root w v a b first u c more t (and_step {steps = front} {v = x} {notes = m} r left s step spared) =
     subst (λ l. Takes workers spies root w a l (with_step r x) left) (append_assoc first front (r ∷ [])) (and_step r left (takes_more workers spies root w v a b first x m front t s) step spared)
 
--- a step behind steps
+-- a step after steps
 pub takes_one : (spies : Spies) (root : Option GoalName) (w v u : World) (a b c : NotesByGoal) (first : List Record) (r : Record) → Takes 1 spies root w a first v b → HasStepped spies root v b r u c
     → Takes 1 spies root w a (first ++ r ∷ []) u c
 takes_one spies root w v u a b c first r t s =
     subst (λ (x : World). Takes 1 spies root w a (first ++ r ∷ []) x c) (sym s.world)
     (and_step r c (and_tries s.notes t (λ _. s.tried)) s.step (λ _. subst (λ (x : World). AreLeft x.state.goals (Binds r) s.notes c) s.world s.left))
 
--- tries behind steps
+-- tries after steps
 pub takes_tried : (workers : ℕ) (spies : Spies) (root : Option GoalName) (w v u : World) (a b c : NotesByGoal) (steps : List Record) → Takes workers spies root w a steps v b → u ≡ v → AreKept b c
     → Takes workers spies root w a steps u c
 takes_tried workers spies root w v u a b c steps t same kept = subst (λ (x : World). Takes workers spies root w a steps x c) (sym same) (and_tries c t (λ _. kept))

@@ -1,4 +1,4 @@
--- What is told of a pass, when the pass goes on.
+-- What holds of a pass, when the pass goes on.
 use Rattle.ghc_pool.proofs.Words.{◌≡◌, ◌≤◌, ◌<◌, ◌+◌, ◌++◌, ◌∙◌, ℕ, zero, suc, List, [], ◌∷◌, length, drop, Bool, true, false, Option, Some, None, Ok, refl, sym, ap, subst, inl, inr, arith, append-nil, append_assoc, length-append, MatchBool, in_more, in_last, GoalName, Goal, Fault, Entry, Item, entered, Status, Proposal, Hands, World, no_hands, Answers, Begins, Receipt, IsReceipt, IsAnswered, Reply, Call, Submit, Known, AreAll, IsAcceptedCall, IsRefusedCall, IsDecided, holding, receipt_of, IsProposal, IsAnswerTo, Spies, IsSpied, Answer, Submitted, Noted, Starved, RoundStop, Memory, Limit, Full, Spied, Clash, Decided, Scope, Worker, Taken, one_if, submits_in, IsReason, Work, work_of, works, submits, total_work, submits_by, AreTold, IsSpiedIn, IsSubmitStop, IsSettlingStop, IsNoteStop, GoesOnWithout, IsDecidedAs, IsInScope, StandsIn, IsSpiedGoal, IsStarvedGoal, IsUnspiedStep, IsNotedFor, IsAnswerOf, AreAnswers, places_if, places_in, step_places, after_submits, IsPassAfter, submits_since, IsStarved, AreFedAnswers, IsAskedBy, Asks}
 use base.Stored.{Gv}
 use Rattle.std.specs.Global.{Vec}
@@ -96,7 +96,7 @@ module _ (opened : Gv) (scope : Scope) (spies : Spies) (steps : Bool) where
     submits = made ∙ ap (λ n. after_submits (submits_in a) n) was.submits ∙ sym (after_more (submits taken) (submits_in a) start.submits) ∙ ap (λ k. after_submits k start.submits) (sym (submits-append taken (g, a)));
   }
 
--- the receipt lies behind what had been seen
+-- the receipt's place comes after what had been seen
 pub behind : (before : List Item) (call : Call) (r : given.Receipt Reply) (old new : Known Item) → IsDecided IsAnswerTo before call r old new → (base : List Item) → length base ≤ length old.front → length base ≤ r.place
 behind before call r old new d base low = omega (arith, low, prefix_longer old.front before d.seen, d.place)
 
@@ -186,7 +186,7 @@ noted_memory g s e = cc
 none_woken : (opened : Gv) (g : GoalName) (woken : List GoalName) → woken ≡ [] → AreWokenOf opened g woken
 none_woken opened g woken none h i = absurd (subst (In h) none i)
 
--- what was listed behind nothing is woken
+-- what was added to an empty list is woken
 pub woken_of : (opened : Gv) (g : GoalName) (p : Proposal) (old new : List GoalName) → old ≡ [] → (w : World) × IsProposal opened w g None (Ok p) × ListsWoken w (Ok p) old new → AreWokenOf opened g new
 woken_of opened g p old new none said h i = elim (said.2 h i) [ inl was ↦ absurd (subst (In h) none was) | inr looks ↦ (said.0, p, said.1, looks) ]
 
@@ -202,7 +202,7 @@ module _ (opened : Gv) (scope : Scope) (spies : Spies) (steps : Bool) (g : GoalN
   reason_of_submit r (Some (Spied h)) takes is = absurd is
   reason_of_submit r (Some (Clash h)) takes is = absurd is
 
-  -- where no steps are taken, want of memory alone is a reason
+  -- where no steps are taken, only refused memory is a reason
   pub reason_of_settling : (r : given.Receipt Reply) (stop : Option RoundStop) → IsSettlingStop r.reply stop → IsReason AreFedAnswers (Asks opened spies steps) stop ((g, Noted r) ∷ [])
   reason_of_settling r None is = λ y i. elim i [ inl e ↦ λ s. is (subst (λ (z : Taken). IsStarved z.1) e s) | inr none ↦ absurd none ]
   reason_of_settling r (Some Memory) is = tt
@@ -280,7 +280,7 @@ pub work_between : (xs : List Work) (x : Work) (ys : List Work) → (xs ++ x ∷
 work_between [] x ys = refl
 work_between (z ∷ xs) x ys = ap (λ l. z ∷ l) (work_between xs x ys)
 
--- as many workers are told of as there were passes at the start
+-- there are as many works as there were passes at the start
 pub told_count : {P : Type 0} (tells : P → List Taken → P → Type 0) (starts : List P) (ks : List Work) (nows : List P) → AreTold tells starts ks nows → length ks ≡ length starts
 told_count tells [] [] [] told = refl
 told_count tells [] [] (p ∷ ps) told = absurd told

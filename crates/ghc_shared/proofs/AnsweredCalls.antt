@@ -1,4 +1,4 @@
--- What a pass is told of its call, by the words of the core.
+-- What a pass learns of its call, by the words of the core.
 use Rattle.ghc_shared.proofs.Words.{◌≡◌, ◌+◌, ◌++◌, ℕ, suc, List, [], ◌∷◌, length, map, refl, sym, ap, ◌∙◌, subst, arith, Bool, true, false, MatchBool, Entry, Item, entered, World, LegalIsReachable, LeavesIsOne, reply_of, Leaves, Begins, entry_count, Receipt, IsAccepted, IsTold, IsAnswered, Reply, Call, Known, IsAcceptedCall, IsRefusedCall, IsDecided, hands_of, event_of, receipt_behind, receipt_of, IsToldAnyway, IsAnswerTo, IsToldOnFront}
 use mathlib.Core.List.{IsPrefix}
 use Rattle.ghc_shared.specs.declared.receipt.Receipt as given
@@ -28,7 +28,7 @@ module _ (law : LegalIsReachable) (call : Call) (before : List Item) (receipt : 
   same_receipt : (w : World) → Leaves before w → receipt.place ≡ length before → receipt_behind before receipt.reply ≡ receipt_of receipt
   same_receipt w legal place = ap (λ (n : ℕ). at_place n receipt.reply) (omega (arith, place, counted law before w legal))
 
-  -- what a pass is told of its call
+  -- what a pass learns of its call
   pub answered : IsDecided IsAnswerTo before call receipt old new → IsAnswered (Unit {0}) old.front new.front (hands_of call) (event_of call) (receipt_of receipt)
   answered decided = told receipt.accepted decided.decided
     where
@@ -46,7 +46,7 @@ module _ (law : LegalIsReachable) (call : Call) (before : List Item) (receipt : 
           subst (λ (l : List Item). IsAnswered (Unit {0}) old.front l (hands_of call) (event_of call) (receipt_of receipt)) (sym d.front)
           (IsAnswered.told (subst (λ (r : Receipt). IsTold (Unit {0}) before (hands_of call) (event_of call) r) (same_receipt is.before is.legal decided.place) is) known)
 
--- a call that was not accepted is told what it is refused for anyway
+-- a call that was not accepted gets the refusal that F1 cannot hide, if it has one
 pub told_anyway : LeavesIsOne → (call : Call) (before : List Item) (receipt : given.Receipt Reply) (old new : Known Item) → IsDecided IsAnswerTo before call receipt old new → IsToldOnFront new.front call receipt
 told_anyway one call before receipt old new decided w off leaves =
     let d : IsRefusedCall IsAnswerTo before call receipt.reply old new = rw off at decided.decided in

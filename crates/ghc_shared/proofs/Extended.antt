@@ -46,7 +46,7 @@ module _ {E : Type 0} where
   length-made by [] = refl
   length-made by (e ∷ es) = ap suc (length-made by es)
 
-  -- what the history has more stands behind the log
+  -- what the history has beyond the log follows it
   pub extended_more : (log : List (ℕ × E)) (by : ℕ) (history more : List E) → items_of log ≡ history → extended log by (history ++ more) ≡ log ++ map (λ e. (by, e)) more
   extended_more log by history more is = ap (λ (l : List E). log ++ map (λ e. (by, e)) l) (subst (λ (j : List E). drop (length log) (j ++ more) ≡ more) is (drop_items log more))
 
@@ -96,7 +96,7 @@ module _ {E : Type 0} where
   by_append passes [] b p q = q
   by_append passes (x ∷ a) b p q = (p.0, by_append passes a b p.1 q)
 
-  -- behind the opening, places in the front are places in the log that it begins
+  -- after the opening, places in the front are places in the log that it begins
   pub places_prefix : (by base : ℕ) (seen log : List (ℕ × E)) (places : List ℕ) → base ≤ length seen → IsPrefix seen log → ArePlacesBy by base (drop base seen) places → ArePlacesBy by base (drop base log) places
   places_prefix by base seen log places low p h = subst (λ l. ArePlacesBy by base l places) (sym (drop_more base seen p.0 low) ∙ ap (λ (l : List (ℕ × E)). drop base l) p.1) (places_more by base (drop base seen) p.0 places h)
 

@@ -27,7 +27,7 @@ up_to g n i s a b = elim (cases_eq g.place (i + 1)) [
   | inr d ↦ inl (s, a, omega (arith, b, d))
 ]
 
--- what is found behind a handle is found
+-- a copy is found just where a handle is
 pub handled : {X : Type 0} (o : Option (Bor X)) → is_some (option_copied o) ≡ is_some o
 handled None = refl
 handled (Some b) = refl

@@ -1,4 +1,4 @@
--- What is told of the steps of a slice, and of those who hold a variable.
+-- The lines of the steps of a slice, and of the holders of a variable.
 use Rattle.std.specs.Prelude.{IfNone, IsSome}
 use Rattle.ghc_trace.proofs.Words.{◌≡◌, ◌≢◌, ℕ, List, [], ◌∷◌, ◌++◌, refl, ap, ◌∙◌, append_assoc, false, None, Some, Option, GoalName, Goal, Record, World, NotesByGoal, is_stream, IsSettled, Stands, Status, StandsByNote}
 use Rattle.std.specs.FinMap as finite

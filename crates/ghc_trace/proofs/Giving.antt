@@ -27,7 +27,7 @@ picks_as (x ∷ xs) ys h (leave n p) = leave (λ r. n ((h x (inl refl)).1 r)) (p
 abbrev pub AreNumbersOf : List Record → (Record → Type 0) → List ℕ → Type 0
 AreNumbersOf kept R ns = (r : Record) → In r kept → In r.number ns ↔ R r
 
--- what is told for these numbers is the slice that these steps have
+-- the slice listed for these numbers is that of these steps
 pub told_slice : (kept : List Record) (R : Record → Type 0) (ns told : List ℕ) → AreNumbersOf kept R ns → IsSliceTold kept ns told
     → (found rest : List Record) × IsPartedBy kept (IsCauseOf kept R) found rest × (numbers found ≡ told)
 told_slice kept R ns told given s =

@@ -4,7 +4,7 @@ use Rattle.std.specs.FinMap as finite
 use Rattle.ghc_trace.proofs.Entries.{before_of_map, rises, entry_in, in_entry}
 
 module _ (es picked : List Former) (sorted : IsStrictlySortedBy goal_cmp (keys_of es)) where
-  -- what is told of each goal picked out tells its name
+  -- what `told` makes of each goal picked out names the goal
   module _ {Y : Type 0} (P : Former → Type 0) (k : Picks P es picked) (told : Former → Y) (name : Y → GoalName) (same : (e : Former) → name (told e) ≡ e.0) where
     -- told is what belongs to the entries of which P holds
     each_told : (y : Y) → In y (map told picked)

@@ -97,7 +97,7 @@ module _ (kept : List Record) (b : Record) (ahead : List ℕ) (items : List Reas
       skipped kept b s.far items s.so_far place (s.near place (subst (In place) (sym e) (inl refl))) (let w = s.within place (subst (In place) (sym e) (inl refl)) in omega (arith, w))
       (λ a p at l high u. elim (subst (In p) e (s.all a p at l u)) [ inl same ↦ omega (arith, same, high) | inr j ↦ let k = behind p j in omega (arith, k, high) ])
 
-  -- and the others are behind it
+  -- and the others come after it
   pub behind_it : (place : ℕ) (rest : List ℕ) (new : List Reason) → ahead ≡ place ∷ rest → ((p : ℕ) → In p rest → place < p) → Gathered kept b (place + 1) new → IsSearched kept b rest new
   behind_it place rest new e behind g = record {
     far = place + 1;

@@ -50,7 +50,7 @@ module _ (ss : SlotList) (distinct : AreDistinct (numbers (held_in ss))) (place 
     );
   }
 
-  -- a consequence stands behind the step
+  -- a consequence stands after the step
   behind_it : (r : Record) → StandsIn ss place r → {a : Record} → Follows (held_in ss) r a → (p : ℕ) → StandsIn ss p a → place < p
   behind_it r at (directly {b = b} d) p there = in_front_of ss distinct place p r b at there d.0
   behind_it r at (further {b = m} {c = c} f d) p there =
@@ -79,7 +79,7 @@ module _ (ss : SlotList) (distinct : AreDistinct (numbers (held_in ss))) (place 
           | inr f ↦ let far = behind_it r at f g.0 g.3 in omega (arith, low, high, far)
         ]
 
-    -- so where the last is not behind the place, it tells
+    -- so where the last is not after the place, it decides
     pub stopped : last ≤ place → (r : Record) → StandsIn ss place r → IsTrue (nat_eq last place) ↔ OneRestsOn (held_in ss) r xs
     stopped low r at = elim (cases_eq last place) [
       | inl same ↦ (λ _. found_it same r at, λ _. eq-eqb last place same)
@@ -89,7 +89,7 @@ module _ (ss : SlotList) (distinct : AreDistinct (numbers (held_in ss))) (place 
       )
     ]
 
-    -- on from the last, which is behind the place
+    -- on from the last, which is after the place
     module _ (a : Record) (there : StandsIn ss last a) (low : place < last) (new : List ℕ) (h : HasInFront ss last (Uses a) rest new) where
       onwards : (r : Record) → StandsIn ss place r → GoesWith (held_in ss) r a → OneGoesWith ss r new
       onwards r at (inl same) =

@@ -23,7 +23,7 @@ in_rest [] (suc far) (suc p) r at h = cc
 in_rest (s ∷ ss) (suc far) zero r at h = absurd (omega (arith, h))
 in_rest (s ∷ ss) (suc far) (suc p) r at h = in_rest ss far p r at (omega (arith, h))
 
--- at a place there is no step, or one before all behind it
+-- at a place there is no step, or one before all that follow
 step_at : (ss : SlotList) (p : ℕ) → (held_in (drop p ss) ≡ held_in (drop (suc p) ss)) ⊎ ((a : Record) × StandsIn ss p a × (held_in (drop p ss) ≡ a ∷ held_in (drop (suc p) ss)))
 step_at [] zero = inl refl
 step_at [] (suc p) = inl refl

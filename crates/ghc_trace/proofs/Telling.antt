@@ -1,4 +1,4 @@
--- By notes that are exact, where nothing is untried, goals are told to be resumed or stuck as they are.
+-- Where notes are exact and nothing is untried, they say which goals are resumed or stuck.
 use Rattle.ghc_trace.proofs.Words.{◌≡◌, ◌≢◌, true, false, ◌⊎◌, List, refl, sym, ap, ◌∙◌, subst, inl, inr, ◌↔◌, Option, Some, None, is_some, IsTrue, VarName, GoalName, IsAcyclic, Tree, Goal, In, Variables, StoreValue, value_at, Decided, some_decided, true_decided, not_both, any_in, in_any, Program, is_stream, goal_cmp, Goals, Record, MakesGoal, Binds, Status, ready, waiting, failed, streaming, HasStatus, is_stream_goal, StandsAs, IsHookedOn, Note, NotesByGoal, AreExact, AreLeft, IsUntried, awaits, status_once, exact_awaits, Opening, World, Change, Comes as comes, Goes as goes, Reorders as reorders, all_gone, IsBoundBy, opening_stays, reached_good, IsStuck, Standing, IsSettled, Brings, NotesTellPorts, NotesTellNews, stuck_of, stuck_by, Disturbed, IsOneOf, AreAsNoted, AreDisturbed, WaitsWhereBound, AreResumedBy, IsStuckOtherwise, AreStuckOtherwise, status_by, Stuck, Waiting}
 use Rattle.std.specs.FinMap as finite
 use Rattle.std.specs.FinSet as set

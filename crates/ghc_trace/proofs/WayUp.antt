@@ -66,7 +66,7 @@ module _ (rs : List Record) (root g : GoalName) (other : ¬ (g ≡ root)) where
           subst (Descends rs root) same u.5,
     )
 
--- in a replay, the step that made a goal stands behind the one that made the goal that it consumed
+-- in a replay, the step that made a goal stands after the one that made the goal that it consumed
 pub nearer : (P : Program) (query : Query) (rs : List Record) (t : State) → Replays P query rs t → (maker : Record) (g h : GoalName) → In maker rs → MakesGoal maker g → maker.goal ≡ Some h → far rs h.step < far rs g.step
 nearer P query rs t replay maker g h i makes e =
     let p = place_of P query rs t replay maker i in

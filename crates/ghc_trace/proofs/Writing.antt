@@ -7,7 +7,7 @@ pub next_left : (es : List Former) (i : ℕ) (e : Former) → i < length es → 
 next_left es i e within is = drop_more es i e within ∙ ap (λ d. d ∷ drop (i + 1) es) (sym is)
 
 module _ (P : Former → Type 0) (text : List Former → List ℕ) (es : List Former) where
-  -- Whatever is picked out of the goals left, with it the texts of all that are picked out are written behind the old text.
+  -- With the texts of those picked out of the goals left, `out` is the old text, and after it the texts of all that are picked out.
   abbrev pub IsWritten : List Former → List ℕ → List ℕ → Type 0
   IsWritten left out old = (more : List Former) → Picks P left more → (whole : List Former) × Picks P es whole × (out ++ text more ≡ old ++ text whole)
 

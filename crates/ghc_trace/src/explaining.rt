@@ -1,5 +1,5 @@
-// The texts of the steps of a slice, of those who hold a variable, and of a goal. Where one is refused, what was written may be a
-// part of its text, but for that of a goal.
+// The texts of the steps of a slice, of the holders of a variable, and of a goal. Where one is refused, a part of it may stand
+// written; of a goal's text none does.
 ghost use Rattle.std.specs.Prelude.{◌≡◌, ◌≢◌, ◌⊎◌, ◌++◌, ℕ, None, Some, List, IfErr, OnErr, OnOk, drop, string_bytes};
 ghost use Rattle.std.specs.FinMap as finite;
 ghost use Rattle.ghc_term.specs.Lists.{In};
@@ -46,7 +46,7 @@ fn write_others(others: &[u32], out: &mut String) -> Result<(), AllocError>
     write_more(others, 1, out)
 }
 
-// Writes the line of a kept step, with the other clauses by which it could have been.
+// Writes the line of a kept step, with the other clauses by which it could have been taken.
 fn write_step(alloc: Global, core: &Core, step: &Record, out: &mut String) -> Result<(), AllocError>
     requires { In step.now core.now.world.kept }
     ensures { OnOk result ((others : List ℕ) × AreOtherClauses core.now.world step.now others × (string_bytes out.new ≡ string_bytes out.old ++ step_line step.now others)) }
@@ -58,7 +58,7 @@ fn write_step(alloc: Global, core: &Core, step: &Record, out: &mut String) -> Re
 }
 
 /// Writes a line for each kept step of these numbers, in their order, at the end of `out`. A line is the record, and then the other
-/// clauses by which the step could have been, as ` or 3,4`. It costs what `other_clauses` costs for each, and the text.
+/// clauses by which the step could have been taken, as ` or 3,4`. It costs what `other_clauses` costs for each, and the text.
 pub fn push_steps(
     alloc: Global,
     core: &Core,
@@ -105,9 +105,9 @@ pub fn push_holders(core: &Core, holders: &[Holder], out: &mut String) -> Result
     Ok(())
 }
 
-/// Writes the line of the goal of this name, with its status and its text in the store, as `goals` has it, at the end of `out`, which
-/// stays as it was where that is refused: for want of memory, or by the limit `print`, just where memory is found but the text of
-/// the goal has more than `PRINT_LIMIT` bytes. Some look-ups, and the cost of `print_goal`.
+/// Writes the line of the goal of this name at the end of `out`, with its status and its text in the store, as `goals` has it. It fails
+/// where memory is refused, or else, by the limit `print`, exactly where that text has more than `PRINT_LIMIT` bytes. Then `out` stays as
+/// it was. It costs some look-ups, and what `print_goal` costs.
 pub fn push_goal(
     alloc: Global,
     core: &Core,

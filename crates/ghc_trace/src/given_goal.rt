@@ -1,4 +1,4 @@
-// The slice of a goal: the kept steps that made it and bound what it looks at, and all on which they depend.
+// The slice of a goal: the kept steps that made it or bound what it looks at, and all on which these depend.
 ghost use Rattle.std.specs.Prelude.{◌↔◌, IfOk};
 ghost use Rattle.ghc_term.specs.Lists.{In};
 ghost use Rattle.ghc_term.specs.Store.{value_at};
@@ -15,7 +15,7 @@ use ghc_hooks::try_goal;
 use ghc_term::{Goal, GoalName};
 use std::alloc::{AllocError, Global};
 
-// The numbers of the kept steps that bound what the goal looks at: a try of it, and a look-up for each variable.
+// The numbers of the kept steps that bound what the goal looks at. It costs a try of the goal, and a look-up for each variable.
 fn binders_for(alloc: Global, core: &Core, goal: &Goal) -> Result<Vec<u32>, AllocError>
     ensures { IfOk result (λ ns. AreBindersOf core.now.world.kept (GoalLooksAt core.now.world.opening.program (value_at core.now.world.state.store) goal.now) ns.items) }
 {
@@ -26,8 +26,7 @@ fn binders_for(alloc: Global, core: &Core, goal: &Goal) -> Result<Vec<u32>, Allo
     binders_of(alloc, core.records(), note.looked().members())
 }
 
-// The numbers of the kept steps that gave the goal what it is and looks at: those that bound what it looks at, and the one that
-// made it.
+// The numbers of the kept steps that bound what the goal looks at, and of the one that made it.
 fn given_to_goal(
     alloc: Global,
     core: &Core,
@@ -45,9 +44,9 @@ fn given_to_goal(
     Ok(givers)
 }
 
-/// The numbers of the steps of the slice of the goal of this name, in recorded order: of the kept steps those that made it or bound
-/// what it looks at, and all on which these depend. It costs a try of the goal, and what `slice` costs. It fails for want of memory
-/// alone.
+/// The numbers of the steps of the slice of the goal of this name, in recorded order. These are the kept steps that made it or bound
+/// what it looks at, and all on which those depend. It fails only where memory is refused. It costs a try of the goal, and what
+/// `slice` costs.
 pub fn slice_of_goal(
     alloc: Global,
     core: &Core,

@@ -1,4 +1,4 @@
-// Who holds the unbound variables of a term, or those for which a goal waits: the goals that reach them.
+// The holders of the unbound variables of a term, or of those for which a goal waits: the goals that reach them.
 ghost use Rattle.std.specs.Prelude.{◌≡◌, ◌≢◌, ◌++◌, map, IfOk, OnOk};
 ghost use Rattle.ghc_term.specs.Sets.{IsSetOf};
 ghost use Rattle.ghc_term.specs.Store.{value_at};
@@ -21,7 +21,7 @@ pub struct Holder {
     pub goal: GoalName,
 }
 
-// Adds the leaves of the expression, from left to right, by a list of the parts that wait.
+// Adds the leaves of the expression, from left to right. The parts still to visit stand in a list.
 fn push_leaves<'a>(
     alloc: Global,
     expression: &'a Expr,
@@ -88,7 +88,7 @@ fn unbound_in(alloc: Global, store: &Store, x: VarName) -> Result<Variables, All
     Ok(unbound)
 }
 
-// Adds the goal, which reaches these variables, as a holder of those that are unbound.
+// Adds the goal as a holder of each variable that it reaches and that is unbound.
 fn add_holder(
     holders: &mut BTreeSet<Holder>,
     unbound: &Variables,
@@ -116,8 +116,8 @@ fn listed(alloc: Global, holders: &BTreeSet<Holder>) -> Result<Vec<Holder>, Allo
     Ok(list)
 }
 
-// The goals that reach one of these variables, where there is one: it goes once through what each goal reaches, and puts what is found
-// in order.
+// The goals that reach one of these variables. Where there is a variable, it goes once through what each goal reaches, and sorts what
+// it finds.
 fn holders_among(
     alloc: Global,
     core: &Core,
@@ -139,8 +139,8 @@ fn holders_among(
 }
 
 /// The unbound variables of the variable's term, each with the goals that reach it: by variable, then goal, each by step, then place.
-/// Where there is no such variable it costs the size of the term; else it goes once through what each goal reaches, and puts what is
-/// found in order. It fails only where memory is refused.
+/// It fails only where memory is refused. It costs the size of the term where none is unbound; else it goes once through what each
+/// goal reaches, and sorts what it finds.
 pub fn holders(alloc: Global, core: &Core, x: VarName) -> Result<Vec<Holder>, AllocError>
     ensures { IfOk result (λ list. AreHolders core.now.world.state x list.items) }
 {
@@ -148,7 +148,7 @@ pub fn holders(alloc: Global, core: &Core, x: VarName) -> Result<Vec<Holder>, Al
     holders_among(alloc, core, &unbound)
 }
 
-// Those of the holders that are other goals.
+// Those of the holders whose goal is not this one.
 fn of_others(alloc: Global, holders: &[Holder], goal: GoalName) -> Result<Vec<Holder>, AllocError>
     ensures { IfOk result (λ list. Picks (λ h. h.goal ≢ goal) holders.now list.items) }
 {
@@ -161,8 +161,8 @@ fn of_others(alloc: Global, holders: &[Holder], goal: GoalName) -> Result<Vec<Ho
     Ok(others)
 }
 
-/// The variables for which the goal of this name waits, each with the other goals that reach it: by variable, then goal. Where the
-/// goal does not wait it costs a look-up; else what `holders` costs. It fails for want of memory alone.
+/// The variables for which the goal of this name waits, each with the other goals that reach it: by variable, then goal. It fails
+/// only where memory is refused. It costs a look-up where the goal does not wait; else what `holders` costs.
 pub fn holders_for(alloc: Global, core: &Core, goal: GoalName) -> Result<Vec<Holder>, AllocError>
     requires { IsSettled core.now.world core.now.notes }
     ensures { IfOk result (λ list. AreHoldersFor core.now.world goal list.items) }

@@ -33,7 +33,7 @@ pub answer_for : (p q : List ℕ) (given history : Option (Bor (List ℕ))) (res
 answer_for p q given history result same answer =
     subst (λ h. AnsweredUnless (IsWithoutMemory p q (option_map (λ text. text.now) h)) (IsDebuggerOf p q (option_map (λ text. text.now) h)) (IsOpenRefusal p q (option_map (λ text. text.now) h)) result) (sym same) answer
 
--- What is told of a history for a fault is that memory was refused, or why the history is refused.
+-- A refusal of the history says that memory was refused, or why the history is refused.
 pub told_of_history : (s : Started) (text : List ℕ) (r : Refusal) (f : Fault) → r.part ≡ part.History → r.fault ≡ f → (f ≡ Memory) ⊎ IsHistoryFault s text f
     → IsNoMemoryFor part.History r ⊎ IsHistoryRefused s (Some text) r
 told_of_history s text r f part_is is (inl m) = inl (record { fault = is ∙ m; part_is = part_is })

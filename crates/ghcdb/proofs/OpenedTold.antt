@@ -36,7 +36,7 @@ unentered (e ∷ es) (f ∷ fs) same =
 
 -- ---- what opens
 
--- of an opening of these steps, and these entries behind them
+-- of an opening of these steps, and these entries after them
 tellable : (w : World) (o : Opening) (es : List Entry) → w.opening ≡ o → w.journal ≡ opening_journal o ++ es → ((s : Step) → In s o.steps → IsOfAGoal s) → ((e : Entry) → In e es → CanBeSaid e) → IsSaid w
 tellable w o es opening journal of can = record {
   steps = λ s i. of s (subst (λ (p : Opening). In s p.steps) opening i);

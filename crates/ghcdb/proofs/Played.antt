@@ -16,7 +16,7 @@ played_kept core left text written now later (Err f) played kept = (played.0, pl
 abbrev pub broken_off : Fault → Result Unit Fault
 broken_off f = Err f
 
--- It was broken off behind its end, or before.
+-- It was broken off after its end, or before.
 pub played_begun : (core left : Core) (text : List ℕ) (written now : Option (List ℕ)) (result : Result Unit Fault) (fault : Fault) → IsScheduleOf core text written now left result
     → IsScheduleOf core text written now left (broken_off fault)
 played_begun core left text written now (Ok done) fault played = (played.0, played.1, (played.2.0, played.2.1, whole_begins played.2.2))

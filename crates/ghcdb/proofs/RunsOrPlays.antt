@@ -1,4 +1,4 @@
--- What a session or a schedule that is played in its place writes, is told of its part; and what of it a writer has.
+-- What a session, or a schedule played in its place, writes and how its end is reported; and what of it a writer has.
 use Rattle.ghcdb.proofs.CitedWords.{◌≡◌, ◌⊎◌, ℕ, List, [], inl, inr, sym, ap, ◌∙◌, subst, subst₂, Option, None, Some, Result, Ok, Err, OnOk, Fault, Memory, Debugger, Refusal, SessionState, Session, Began, Tells, append_known}
 use Rattle.std.specs.Prelude.{IfErr, MatchResult}
 use Rattle.ghc_term.specs.declared.fault.Fault.TheVariants.{Device}
@@ -7,7 +7,7 @@ use Rattle.ghcdb.specs.inner.Ending.{BreaksOff, IsEndRefusal, ended_as, part_at_
 use Rattle.ghcdb.specs.inner.Outputs.{HasOutput, PlaysSchedule, RunsOrPlays, RunsSession}
 use Rattle.ghcdb.specs.declared.refused_part.RefusedPart.TheVariants as part
 
--- how a session or a schedule ends, and how that is told
+-- how a session or a schedule ends, and the report of it
 abbrev pub Ended : Type 0
 Ended = Result Unit Fault
 
@@ -49,7 +49,7 @@ session_refused schedule (Ok done) told none is why = subst (λ (r : Told). IfEr
 session_refused schedule (Err f) told none is why =
     subst (λ (r : Told). IfErr r (IsEndRefusal schedule)) (sym is) (record { part_is = ap part_at_end (sym none); fault = subst (λ (s : Option (List ℕ)). BreaksOff s f) (sym none) why })
 
--- A schedule that ends well leaves nothing behind in the device.
+-- A schedule that ends well leaves nothing in the device.
 pub held_played : (ended : Ended) (H : Type 0) → (ended ≡ Err Device) ⊎ H → OnOk ended H
 held_played (Ok done) H (inl e) = absurd cc
 held_played (Ok done) H (inr held) = held
@@ -57,7 +57,7 @@ held_played (Err f) H so = tt
 
 -- ---- what a writer has
 
--- What stands behind the buffer is what was written, but for what the buffer holds.
+-- The writer under the buffer has what was written, but for what the buffer holds.
 pub in_writer : (d : Debugger) (schedule unread before written handed after : Option (List ℕ)) (held : List ℕ) (told : Told) → RunsOrPlays d schedule unread before written told → OnOk told (held ≡ []) → after ≡ handed
     → written ≡ append_known handed held → HasOutput d schedule unread before after told
 in_writer d schedule unread before written handed after held told writes none is cut =

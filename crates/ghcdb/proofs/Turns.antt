@@ -1,4 +1,4 @@
--- The journal of a world begins with its opening, whose steps are numbered, and the entries behind it follow each other up to the next number.
+-- A world's journal begins with its opening, whose steps are numbered. The entries after it follow each other up to the next number.
 use Rattle.ghcdb.proofs.CitedWords.{◌≡◌, ◌<◌, ◌≤◌, List, [], ◌∷◌, ◌++◌, length, map, drop, inl, inr, refl, sym, ap, ◌∙◌, subst, append-nil, arith, In, Opening, World, Opens, from_opening}
 use Rattle.std.proofs.Common.{append_assoc}
 use Rattle.std.proofs.Math.Seq.{drop-append_seam}
@@ -28,7 +28,7 @@ follows w v (goes Going.Alone gone) can c = (tt, sym (ap (λ (u : World). u.next
 follows w v (goes Going.Together gone) can c = (tt, sym (ap (λ (u : World). u.next) c.2.2))
 follows w v (reorders a) can e = (tt, sym (ap (λ (u : World). u.next) e))
 
--- the entries of a journal behind its opening
+-- the entries of a journal after its opening
 pub record Turns (w : World) : Type 0 where
   pub entries : List Entry
   pub journal : w.journal ≡ opening_journal w.opening ++ entries
@@ -58,7 +58,7 @@ turns (from_opening {o = o} {w = w} sound opens) = record {
 }
 turns (by_change {w = w} {v = v} change r can changes) = one_turn w v change can changes (turns r)
 
--- they are what stands behind as many entries as the opening has steps
+-- they are what follows as many entries as the opening has steps
 pub behind_opening : (w : World) (t : Turns w) → drop (length w.opening.steps) w.journal ≡ t.entries
 behind_opening w t =
     ap (λ (l : List Entry). drop (length w.opening.steps) l) t.journal

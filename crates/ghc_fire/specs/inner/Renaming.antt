@@ -15,7 +15,7 @@ use Rattle.ghc_fire.specs.declared.instances.terms.Front.{Front}
 use Rattle.ghc_fire.specs.declared.instances.renaming.Renaming.{Renaming}
 use Rattle.ghc_fire.specs.declared.instances.renaming.Renaming.TheVariants.{Body, Numbered, Called}
 
--- Each variable of the body that does not stand for anything in theta is a fresh one, and its place comes behind the h variables of the head.
+-- Each variable of the body that stands for nothing in theta is a fresh one, and its place comes after the h variables of the head.
 abbrev pub AreBehindHead : ℕ → Clause → StoreValue → Type 0
 AreBehindHead h c theta = (y : VarName) → In y (variables_of_goals c.body) → value_at theta y ≡ None → y.place ≡ h + place_in (fresh_variables c) y
 

@@ -67,7 +67,7 @@ fn hire<P: Drop, C: Craft<P>, L: Limited>(
     }
 }
 
-// Takes the jobs apart: the shares of the budget come together, and it is said how many permits were not used.
+// Takes the jobs apart: the shares of the budget come together. Gives how many permits were not used.
 fn dismiss<P: Drop, L: Limited>(
     jobs: Vec<Job<P, L>>,
     workers: &mut Vec<Worker>,

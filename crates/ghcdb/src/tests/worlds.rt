@@ -106,7 +106,7 @@ fn are_told(replies: &[Reply], script: Script) -> bool {
     replies.len() == script.len()
 }
 
-// The core that is left by playing the script with so many hands, where it is played and told so.
+// The core that so many hands leave by playing the script, where each reply is as the script says.
 fn played(alloc: Global, program: &str, query: &str, hands: u32, script: Script) -> Option<Core> {
     let core = core_of(alloc, program, query)?;
     let mut world = World::new(alloc, core, hands).ok()?;
