@@ -1,8 +1,8 @@
--- Lemmas on lines that say numbers behind a word.
+-- Lemmas on lines that say numbers after a word.
 use Rattle.ghc_records.proofs.Words.{◌≡◌, ◌≢◌, ◌<◌, ◌≤◌, ◌++◌, ◌∷◌, All, ℕ, List, Option, Some, None, IfNone, refl, sym, ap, ◌∙◌, arith, decimal, codes, append_cancel_left, kept_limit, greatest_number, IsNext, opening_line}
 use Rattle.ghc_records.proofs.CutLemmas.{cut_once, no_cut, number_plain, one_number}
 
--- what stands behind the same
+-- what follows the same front
 pub rest_is : (line front word other : List ℕ) → line ≡ front ++ word → line ≡ front ++ other → word ≡ other
 rest_is line front word other e f = append_cancel_left front word other (sym e ∙ f)
 

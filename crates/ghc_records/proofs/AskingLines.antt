@@ -51,7 +51,7 @@ made_more n i (suc k) =
     let same : i + suc k ≡ (i + 1) + k = omega arith in
     ap (λ j. made n i ∷ (made_from n (i + 1) k ++ made n j ∷ [])) same ∙ ap (λ l. made n i ∷ l) (made_more n (i + 1) k)
 
--- where made ones come first and another behind them, and all are made ones, it is the next
+-- where made ones come first and another after them, and all are made ones, it is the next
 next_made : (n i p k : ℕ) (x : VarName) (xs : List VarName) → made_from n i p ++ x ∷ xs ≡ made_from n i k → x.place ≡ i + p
 next_made n i zero (suc k) x xs e = let same : x ≡ made n i = cc in ap (λ y. y.place) same ∙ omega arith
 next_made n i (suc p) (suc k) x xs e =
@@ -90,7 +90,7 @@ module _ (xs : List VarName) (n i p : ℕ) (x : VarName) (here : drop i xs ≡ x
 
 -- ---- lines put together
 
--- The line begins with the number of the step, and behind `- ask ` the text stands.
+-- The line begins with the number of the step, and after `- ask ` the text stands.
 line_is_made : (line word rest front text : List ℕ) (n : ℕ) → line ≡ word ++ 32 ∷ rest → rest ≡ front ++ text → front ≡ codes "- ask " → word ≡ decimal n → line ≡ decimal n ++ 32 ∷ (codes "- ask " ++ text)
 line_is_made line word rest front text n cut begins at is = cut ∙ ap (λ w. w ++ 32 ∷ rest) is ∙ ap (λ r. decimal n ++ 32 ∷ r) (begins ∙ ap (λ f. f ++ text) at)
 

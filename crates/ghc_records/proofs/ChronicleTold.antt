@@ -82,7 +82,7 @@ module _ (text told : List ℕ) (o : History) (es : List Entry) (tells : TellsEn
 
 -- ---- what was read so far
 
--- Opening and entries are told, n is the number of the next step behind them, and the rest begins with the spies.
+-- The text tells opening and entries, n is the number of the next step after them, and the rest begins with the spies.
 pub record IsReadToSpies (text rest : List ℕ) (o : History) (es : List Entry) (n : ℕ) : Type 0 where
   pub tells : TellsEntries text o es
   pub behind : behind_lines (lines_to_spies o es) text ≡ pieces_of rest

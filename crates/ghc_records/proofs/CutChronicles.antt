@@ -1,4 +1,4 @@
--- A text of a chronicle that is cut off is refused with the line behind its last line feed.
+-- A text of a chronicle that is cut off is refused with the line after its last line feed.
 use Rattle.ghc_records.proofs.Words.{◌≡◌, ◌≢◌, ℕ, ◌+◌, ◌<◌, ◌≤◌, cases_lt, inl, inr, List, [], ◌∷◌, ◌++◌, drop, take, length, sym, ap, ◌∙◌, subst, arith, length-drop, drop-drop, kept_limit, Step, IsLine, IsLineOf, SaysStep, end_line, pieces_of, line_feeds, TellsItems, TellsNoMoreItems, Chronicle, AreBelow, AreInTurn, entry_limit, next_behind, spy_limit, SaysEntry, GoTogether, SaysPredicate, IsFirstWrongInChronicle, TellsChronicle, TellsEntries, TellsOpening, TellsSpies, chronicle_heading, entries_line, lines_to_end, lines_to_spies, no_end, no_entry, no_heading, no_opening, no_spy, no_step, opening_line, spies_line}
 use Rattle.ghc_records.proofs.CutSections.{cut_behind, cut_section, first_length, kept_section, none_behind}
 use Rattle.ghc_records.proofs.OneChronicle.{fewer_entries, fewer_steps}
@@ -63,7 +63,7 @@ module _ (front back : List ℕ) (c : Chronicle) (some : back ≢ []) (told : Te
         (no_step {next = c.opening.next} {count = length steps} {steps = take (length rest) steps} (heading_there (omega (arith, far))) opens.next opens.steps.few (opening_there far)
         (subst (λ p. TellsNoMoreItems SaysStep (AreBelow c.opening.next) p (length steps) (take (length rest) steps)) there none))
 
-  -- .. or behind it
+  -- .. or after it
   module _ (far : length steps + 2 ≤ length lines) where
     front_opens : TellsOpening front c.opening
     front_opens = record {
@@ -106,7 +106,7 @@ module _ (front back : List ℕ) (c : Chronicle) (some : back ≢ []) (told : Te
         subst (IsFirstWrongInChronicle front) place
         (no_end {o = c.opening} {es = c.entries} {ps = c.spies} spies (λ is. none_stands to_end (end_line (next_behind c.opening.next c.entries)) (omega (arith, not_all)) is))
 
-  -- the line behind those in front of the cut is wrong
+  -- the line after those in front of the cut is wrong
   refused_behind : 2 ≤ length lines → IsFirstWrongInChronicle front (length lines + 1)
   refused_behind far = elim (cases_lt (length lines) (length steps + 2)) [
     | inl low ↦ wrong_step far low

@@ -6,7 +6,7 @@ use Rattle.std.proofs.lemmas.List.{length-drop}
 none_passes : (mark : ℕ) (bytes : List ℕ) → All (λ b. b ≢ mark) bytes → All (λ b. eqb b mark ≡ false) bytes
 none_passes mark bytes h = λ k e m. ne_eqb _ mark (h k e m)
 
--- the piece up to the first mark, and those behind it
+-- the piece up to the first mark, and those after it
 pub first_piece : (mark : ℕ) (a b : List ℕ) → All (λ b. b ≢ mark) a → slice_split (λ b. eqb b mark) (a ++ mark ∷ b) ≡ a ∷ slice_split (λ b. eqb b mark) b
 first_piece mark a b h = slice_split_at (λ b. eqb b mark) a mark b (none_passes mark a h) (eq-eqb mark mark refl)
 
@@ -14,7 +14,7 @@ first_piece mark a b h = slice_split_at (λ b. eqb b mark) a mark b (none_passes
 pub only_piece : (mark : ℕ) (a : List ℕ) → All (λ b. b ≢ mark) a → slice_split (λ b. eqb b mark) a ≡ a ∷ []
 only_piece mark a h = slice_split_none (λ b. eqb b mark) a (none_passes mark a h)
 
--- what stands in front of the first mark is one, and so is what stands behind it
+-- what stands in front of the first mark is unique, and so is what follows it
 pub cut_once : (mark : ℕ) (a b c d : List ℕ) → All (λ b. b ≢ mark) a → All (λ b. b ≢ mark) c → a ++ mark ∷ b ≡ c ++ mark ∷ d → (a ≡ c) × (b ≡ d)
 cut_once mark a b c d p q e =
     let heads : a ∷ slice_split (λ b. eqb b mark) b ≡ c ∷ slice_split (λ b. eqb b mark) d = sym (first_piece mark a b p) ∙ ap (slice_split (λ b. eqb b mark)) e ∙ first_piece mark c d q in
@@ -94,7 +94,7 @@ pub some_first : {X : Type 0} (xs : List X) → xs ≢ [] → (x : X) × (more :
 some_first [] n = absurd (n refl)
 some_first (x ∷ more) n = (x, more, refl)
 
--- behind the first i pieces the next line stands
+-- after the first i pieces the next line stands
 pub line_stands : (pieces : List (List ℕ)) (i : ℕ) (rest line behind : List ℕ) → drop i pieces ≡ pieces_of rest → pieces_of rest ≡ line ∷ pieces_of behind → IsLineOf pieces i line
 line_stands pieces i rest line behind e f = let k = some_first (pieces_of behind) (some_piece 10 behind) in (k.0, k.1, e ∙ f ∙ ap (λ l. line ∷ l) k.2)
 
@@ -114,6 +114,6 @@ behind_both pieces n m k e = ap (λ i. drop i pieces) e ∙ sym (drop-drop m n p
 pub drop_next : (pieces : List (List ℕ)) (i : ℕ) (line : List ℕ) (behind : List (List ℕ)) → drop i pieces ≡ line ∷ behind → drop (i + 1) pieces ≡ behind
 drop_next pieces i line behind e = sym (drop-drop 1 i pieces) ∙ ap (drop 1) e
 
--- behind the last piece there is none
+-- after the last piece there is none
 pub none_behind : (pieces : List (List ℕ)) (i n : ℕ) (last : List ℕ) → drop i pieces ≡ last ∷ [] → i < n → drop n pieces ≡ []
 none_behind pieces i n last e low = drop_of_length-le pieces {i = n} (omega (arith, low, ap length e, length-drop i pieces))

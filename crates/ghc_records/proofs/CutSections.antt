@@ -1,8 +1,8 @@
--- Sections of a text that is cut off: those in front of the cut are told, and of the one in which it stands the line behind the last line feed is wrong.
+-- Sections of a text that is cut off. It tells those in front of the cut; in the cut one, the line after the last line feed is wrong.
 use Rattle.ghc_records.proofs.Words.{◌≡◌, ℕ, zero, suc, ◌+◌, ◌<◌, ◌≤◌, List, [], ◌∷◌, ◌++◌, drop, take, length, refl, sym, ap, ◌∙◌, subst, arith, length-drop, length-take-le, slice_get_within, IsFirstWrongOf, TellsItems, TellsNoMoreItems, TellsSection, no_count, no_item, push_last}
 use Rattle.ghc_records.proofs.CutTexts.{line_kept, no_line_left, taken_at}
 
--- the lines behind a place in front of the cut
+-- the lines after a place in front of the cut
 pub cut_behind : (d : ℕ) (lines : List (List ℕ)) (x : List ℕ) (others : List (List ℕ)) → d ≤ length lines → drop d (lines ++ x ∷ others) ≡ drop d lines ++ x ∷ others
 cut_behind zero lines x others low = refl
 cut_behind (suc d) [] x others low = absurd (omega (arith, low))
@@ -60,7 +60,7 @@ module _ {A : Type 0} (Says : List ℕ → A → Type 0) (Fit : List A → Type 
         subst (IsFirstWrongOf Says Fit count_line limit (l ∷ (lines ++ last ∷ []))) place
         (no_item {count = length items} {items = take (length lines) items} (line_kept (l ∷ lines) x last others 0 (count_line (length items)) (omega arith) told.count) told.few (none_behind lines items told.told (omega (arith, low))))
 
-    -- the section that begins behind d lines
+    -- the section that begins after d lines
     module _ (lines : List (List ℕ)) (d : ℕ) (front text : List (List ℕ)) (front_is : front ≡ lines ++ last ∷ []) (text_is : text ≡ lines ++ x ∷ others) (told : TellsSection Says Fit count_line limit (drop d text) items) (begins : d ≤ length lines) where
       told_there : TellsSection Says Fit count_line limit (drop d lines ++ x ∷ others) items
       told_there = subst (λ p. TellsSection Says Fit count_line limit p items) (ap (drop d) text_is ∙ cut_behind d lines x others begins) told

@@ -1,4 +1,4 @@
--- A text that is cut off is refused with the line behind its last line feed.
+-- A text that is cut off is refused with the line after its last line feed.
 use Rattle.ghc_records.proofs.Words.{◌≡◌, ◌≢◌, ℕ, zero, suc, ◌+◌, ◌<◌, ◌≤◌, cases_lt, inl, inr, true, false, nat_eq, List, [], ◌∷◌, ◌++◌, drop, take, get_or, length, map, refl, sym, ap, ◌∙◌, subst, arith, Some, slice_get, length-append, length-drop, onto_first, append_cancel_left, length-take-le, length-slice_split, slice_split-cons_no, slice_split-cons_yes, map-append, take-append-drop, In, in_left, push_last, AreDistinct, Step, History, IsFirstWrongLine, IsLine, IsLineOf, TellsCount, TellsHistory, TellsNext, TellsSteps, behind_count, count_line, end_line, heading, pieces_of, line_feeds}
 use Rattle.std.proofs.Common.{append-nil}
 use Rattle.ghc_records.specs.HistoryText.{no_count, no_end, no_heading, no_step}
@@ -110,7 +110,7 @@ module _ (lines : List (List ℕ)) (x last : List ℕ) (others : List (List ℕ)
       let (line, stands, says) = more.each (length (take (length lines) steps)) s (push_last (take (length lines) steps) s) in
       no_line_left lines last (length (take (length lines) steps)) line (omega (arith, first_length)) stands
 
--- a cut behind all lines leaves nothing
+-- a cut after all lines leaves nothing
 all_lines : (lines : List (List ℕ)) (x : List ℕ) (others : List (List ℕ)) (n : ℕ) → drop n (lines ++ x ∷ others) ≡ [] ∷ [] → n ≤ length lines → (x ≡ []) × (others ≡ []) × (n ≡ length lines)
 all_lines [] x others zero e low = let first : x ≡ [] = ap (λ l. get_or l 0 []) e in let rest : others ≡ [] = ap (drop 1) e in (first, rest, refl)
 all_lines [] x others (suc n) e low = absurd (omega (arith, low))
@@ -121,7 +121,7 @@ empty_front : (a b : List ℕ) → a ++ b ≡ [] → a ≡ []
 empty_front [] b e = refl
 empty_front (x ∷ a) b e = cc
 
--- where no byte stands behind the last of so many lines, and all of these stand in front of the cut, nothing is cut off
+-- where no byte follows the last of so many lines, and all of these stand in front of the cut, nothing is cut off
 pub nothing_behind : (front back : List ℕ) (n : ℕ) (lines : List (List ℕ)) → IsCut front back lines → n ≤ length lines → drop n (pieces_of (front ++ back)) ≡ [] ∷ [] → back ≡ []
 nothing_behind front back n lines c far whole =
     let (first, rest, same) = all_lines lines (c.last ++ c.more) c.others n (ap (drop n) (sym c.text_pieces) ∙ whole) far in
@@ -147,7 +147,7 @@ module _ (front back : List ℕ) (h : History) (some : back ≢ []) (told : Tell
   stands lines c i line low is =
       subst (λ p. IsLineOf p i line) (sym c.front_pieces) (line_kept lines (c.last ++ c.more) c.last c.others i line low (subst (λ p. IsLineOf p i line) c.text_pieces is))
 
-  -- the line behind those in front of the cut is wrong
+  -- the line after those in front of the cut is wrong
   refused_at : (lines : List (List ℕ)) → IsCut front back lines → IsFirstWrongLine front (length lines + 1)
   refused_at [] c = no_heading (λ is. no_line_left [] c.last 0 heading (omega arith) (subst (λ p. IsLineOf p 0 heading) c.front_pieces is))
   refused_at (l ∷ []) c =

@@ -42,7 +42,7 @@ one_turn line n (took s) f says other turn =
     (sym k.2 ∙ again.0, again.1)
 one_turn line n e f says other turn = tt
 
--- ---- numbers behind spaces
+-- ---- numbers after spaces
 
 -- the bytes are none, or begin with a space
 abbrev pub IsCut : List ℕ → Type 0
@@ -61,7 +61,7 @@ one_word a b x y p q (inr k) (inr l) e =
     let same = cut_once 32 a k.0 b l.0 p q (ap (λ z. a ++ z) (sym k.1) ∙ e ∙ ap (λ z. b ++ z) l.1) in
     (same.0, k.1 ∙ ap (λ z. 32 ∷ z) same.1 ∙ sym l.1)
 
--- what stands behind the first number
+-- what follows the first number
 pub further : (bytes front words word rest : List ℕ) → front ≡ codes " " → bytes ≡ front ++ words → words ≡ word ++ rest → All (λ c. c ≢ 32) word → IsCut rest
     → (n : ℕ) (ns : List ℕ) → IsNamed n → bytes ≡ numbers_behind (n ∷ ns) → (word ≡ decimal n) × (rest ≡ numbers_behind ns)
 further bytes front words word rest at begins split plain cut n ns named e =
@@ -99,12 +99,12 @@ pub no_step : (line : List ℕ) → ((s : Step) → ¬ SaysStep line s) → ((s 
 no_step line plain asking s (inl h) = plain s h
 no_step line plain asking s (inr h) = asking s h
 
--- where no space is first, no number stands behind one
+-- where no space is first, no number follows one
 pub no_space : (bytes front : List ℕ) → front ≡ codes " " → ((rest : List ℕ) → bytes ≢ front ++ rest) → (ns : List ℕ) → All IsNamed ns → bytes ≡ numbers_behind ns → ns ≡ []
 no_space bytes front at none [] all e = refl
 no_space bytes front at none (n ∷ ns) all e = absurd (none (decimal n ++ numbers_behind ns) (e ∙ ap (λ l. l ++ (decimal n ++ numbers_behind ns)) (sym at)))
 
--- nor where the word behind it is no number
+-- nor where the word after it is no number
 pub no_word : (bytes front words word rest : List ℕ) → front ≡ codes " " → bytes ≡ front ++ words → words ≡ word ++ rest → All (λ c. c ≢ 32) word → IsCut rest
     → ((n : ℕ) → 1 ≤ n → n ≤ greatest_number → word ≢ decimal n) → (ns : List ℕ) → All IsNamed ns → bytes ≡ numbers_behind ns → ns ≡ []
 no_word bytes front words word rest at begins split plain cut none [] all e = refl

@@ -14,7 +14,7 @@ one_count text m n h k =
     one_number m n (omega (arith, h.1)) (omega (arith, k.1)) (append_cancel_left (codes "steps ") (decimal m) (decimal n) same)
 
 module _ (one_term : (text : List ℕ) (u other : Tree) → IsReadTerm text u → IsReadTerm text other → u ≡ other) where
-  -- no more steps are told than where no further one is
+  -- the pieces tell no more steps than those after which they tell no further one
   not_longer : (pieces : List (List ℕ)) (count : ℕ) (stopped steps : List Step) → TellsNoMore pieces count stopped → TellsSteps pieces count steps → length steps ≤ length stopped
   not_longer pieces count stopped steps h told =
       section.not_longer SaysStep (AreApart (IsBelow pieces count)) (one_step one_term) (fewer_apart (IsBelow pieces count)) pieces count stopped steps
@@ -31,7 +31,7 @@ module _ (one_term : (text : List ℕ) (u other : Tree) → IsReadTerm text u �
       ap (λ l. record { steps = l; next = h.next }) steps ∙ ap (λ n. record { steps = k.steps; next = n }) next
 
   module _ (text : List ℕ) where
-    -- the line behind those that tell steps is one
+    -- the line after those that tell steps is unique
     one_stop : (m n : ℕ) (steps others : List Step) → TellsCount text m → TellsCount text n → TellsNoMore (behind_count text) m steps → TellsNoMore (behind_count text) n others → length steps + 3 ≡ length others + 3
     one_stop m n steps others c d h k =
         let same = one_count text m n c d in
@@ -40,7 +40,7 @@ module _ (one_term : (text : List ℕ) (u other : Tree) → IsReadTerm text u �
         let more = not_longer (behind_count text) m steps others h k2.0 in
         omega (arith, less, more)
 
-    -- where all steps are told, none stops them
+    -- where the pieces tell all steps, no line stops them
     no_stop : (m n : ℕ) (steps others : List Step) → TellsCount text m → TellsCount text n → TellsNoMore (behind_count text) m steps → TellsSteps (behind_count text) n others → length others ≡ n → ⊥
     no_stop m n steps others c d h k all =
         let same = one_count text m n c d in

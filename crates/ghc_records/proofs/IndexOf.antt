@@ -40,7 +40,7 @@ given_by_name rs users binders is r m a i e (inl c) = inl (inl (ap step_named c.
 given_by_name rs users binders is r m a i e (inr (inl x)) = inl (inr (x.0, x.1.0, (is.bound x.0 m).1 (a, i, e, x.1.1)))
 given_by_name rs users binders is r m a i e (inr (inr x)) = inr (x.0, x.1.0.0, (a, i, e, x.1.1))
 
--- what gave something to a step that is put behind the others is what the step uses
+-- what gave something to a step that is put after the others is what the step uses
 module _ (rs : List Record) (users : UsersByStep) (binders : BindersByVariable) (is : IsIndexOf rs users binders) (r : Record) (maker : Option ℕ)
     (made : (m : ℕ) → (maker ≡ Some m) ↔ IsMakerFor rs r m) where
   pub gave_to : (m : ℕ) (a : Record) → In a rs → a.number ≡ m → Uses r a → Gives rs binders maker r m

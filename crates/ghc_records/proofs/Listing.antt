@@ -1,7 +1,7 @@
 -- Texts that are written one after another, with a mark between them.
 use Rattle.ghc_records.proofs.Words.{◌≡◌, ℕ, List, [], ◌∷◌, ◌++◌, length, map, refl, append_assoc, followed_by, listed}
 
--- the texts, the first of them behind this mark, and each other one behind the separator
+-- the texts, the first of them after this mark, and each other one after the separator
 abbrev pub led : List ℕ → List ℕ → List (List ℕ) → List ℕ
 led separator mark [] = []
 led separator mark (text ∷ texts) = mark ++ (text ++ followed_by separator texts)

@@ -1,7 +1,7 @@
 -- The names that a step gives to the goals that it makes, one after another.
 use Rattle.ghc_records.proofs.Words.{◌≡◌, ℕ, ◌+◌, ◌<◌, List, [], ◌∷◌, length, drop, refl, arith, at_drop_more, Goal, names_given}
 
--- the name of the goal at this place, and those behind it
+-- the name of the goal at this place, and those after it
 pub named_next : (n i : ℕ) (gs : List Goal) → i < length gs
     → names_given n (i + 1) (drop i gs) ≡ record { step = n; place = i + 1 } ∷ names_given n (i + 1 + 1) (drop (i + 1) gs)
 named_next n i [] h = absurd (omega (arith, h))

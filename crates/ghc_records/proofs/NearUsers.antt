@@ -50,7 +50,7 @@ near_set n (suc x) k (t ∷ ts) es w e h q =
     ap (λ l. cond (nat_eq q n) (Some t) l) (near_set (n + 1) x k ts es w (omega (arith, e)) (omega (arith, h)) q)
     ∙ swapped n k q (Some t) (Some w) (lookup (nat_eq q) (numbered (n + 1) ts ++ es)) (λ f. omega (arith, e, f))
 
--- an entry behind the list that is written, or gone
+-- an entry after the list, written or gone
 far_set : (n x k : ℕ) (ts : Sets) (es new : Entries) (p : Option (Table (List ℕ))) → k ≡ n + x → length ts ≤ x → ((q : ℕ) → lookup (nat_eq q) new ≡ cond (nat_eq k q) p (lookup (nat_eq q) es)) → (q : ℕ)
     → lookup (nat_eq q) (numbered n ts ++ new) ≡ cond (nat_eq k q) p (lookup (nat_eq q) (numbered n ts ++ es))
 far_set n x k [] es new p e h u q = u q

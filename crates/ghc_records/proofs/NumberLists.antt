@@ -1,4 +1,4 @@
--- Lemmas on numbers behind spaces, as they are read one by one.
+-- Lemmas on numbers after spaces, as they are read one by one.
 use Rattle.ghc_records.proofs.Words.{◌≡◌, ℕ, suc, All, List, [], ◌∷◌, ◌++◌, refl, sym, ap, ◌∙◌, subst, arith, append_assoc, decimal, append-nil, All-nil, All-cons, All-append, IsNamed, numbers_behind}
 
 numbers_more : (ns : List ℕ) (n : ℕ) (rest : List ℕ) → numbers_behind (ns ++ n ∷ []) ++ rest ≡ numbers_behind ns ++ (32 ∷ (decimal n ++ rest))
@@ -6,7 +6,7 @@ numbers_more [] n rest = ap (λ l. 32 ∷ (l ++ rest)) (append-nil (decimal n))
 numbers_more (m ∷ ns) n rest =
     ap (λ l. 32 ∷ l) (append_assoc (decimal m) (numbers_behind (ns ++ n ∷ [])) rest ∙ ap (λ l. decimal m ++ l) (numbers_more ns n rest) ∙ sym (append_assoc (decimal m) (numbers_behind ns) (32 ∷ (decimal n ++ rest))))
 
--- The bytes are the numbers, each behind a space, and then the rest; and whatever numbers they say, the rest says the others.
+-- The bytes are the numbers, each after a space, and then the rest; and whatever numbers they say, the rest says the others.
 pub record HasNumbers (bytes numbers rest : List ℕ) : Type 0 where
   pub said : bytes ≡ numbers_behind numbers ++ rest
   pub named : All IsNamed numbers

@@ -78,7 +78,7 @@ module _ (one_term : (text : List ℕ) (u other : Tree) → IsReadTerm text u �
 
   -- ---- chronicles
 
-  -- what is told is what the parts tell
+  -- the chronicle is what the parts tell
   parts : (c : Chronicle) (o : History) (es : List Entry) (ps : List Predicate) → TellsChronicle text c → TellsSpies text o es ps → c ≡ record { opening = o; entries = es; spies = ps; next = c.next }
   parts c o es ps h k =
       let same = right_spies c.opening o c.entries es ps k h.spies.entries in

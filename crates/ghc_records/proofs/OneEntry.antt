@@ -6,7 +6,7 @@ use Rattle.ghc_records.proofs.EntryLines.{cut_numbers, digit_first, one_word, st
 use Rattle.ghc_records.proofs.OneStep.{one_step}
 use Rattle.ghc_records.proofs.PredicateLines.{name_plain, predicate_apart}
 
--- numbers behind spaces are written in one way
+-- numbers after spaces are written in one way
 one_order : (ns ms : List ℕ) → All IsNamed ns → All IsNamed ms → numbers_behind ns ≡ numbers_behind ms → ns ≡ ms
 one_order [] [] all other e = refl
 one_order (n ∷ ns) (m ∷ ms) all other e =
@@ -18,7 +18,7 @@ one_order (n ∷ ns) (m ∷ ms) all other e =
     ∙ ap (λ l. m ∷ l) (one_order ns ms (λ k d less. all (suc k) d (omega (arith, less))) (λ k d less. other (suc k) d (omega (arith, less))) parts.1)
 one_order ns ms all other e = cc
 
--- numbers behind one word
+-- numbers after one word
 same_number : (word : List ℕ) (line : List ℕ) (n m : ℕ) → line ≡ word ++ decimal n → line ≡ word ++ decimal m → IsNamed n → IsNamed m → n ≡ m
 same_number word line n m e f small low = one_number n m small.1 low.1 (append_cancel_left word (decimal n) (decimal m) (sym e ∙ f))
 

@@ -30,7 +30,7 @@ module _ {A : Type 0} (Says : List ℕ → A → Type 0) (Fit : List A → Type 
     fewer_told : (n : ℕ) (xs : List A) → TellsItems Says Fit pieces xs → TellsItems Says Fit pieces (take n xs)
     fewer_told n xs told = record { each = λ i a e. told.each i a (taken_at n xs i a e).1; fit = fewer n xs told.fit }
 
-    -- no more items are told than where no further one is
+    -- the pieces tell no more items than those after which they tell no further one
     pub not_longer : (count : ℕ) (stopped xs : List A) → TellsNoMoreItems Says Fit pieces count stopped → TellsItems Says Fit pieces xs → length xs ≤ length stopped
     not_longer count stopped xs h told = elim (cases_lt (length stopped) (length xs)) [
       | inl low ↦

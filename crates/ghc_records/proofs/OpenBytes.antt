@@ -6,7 +6,7 @@ at_least : (k : ℕ) (bs : List ℕ) → k ≤ most_open k bs
 at_least k [] = omega arith
 at_least k (b ∷ bs) = omega arith
 
--- Whether the text opens more than 1,000 is seen behind its first bytes, where k are open.
+-- The bytes after the first ones, where k are open, show whether the text opens more than 1,000.
 abbrev pub IsLeft : List ℕ → ℕ → ℕ → Type 0
 IsLeft text i k = (1000 < most_open 0 text) ↔ (1000 < most_open k (drop i text))
 

@@ -71,7 +71,7 @@ number_in [] r i = absurd i
 number_in (s ∷ rs) r (inl e) = inl (ap (λ t. t.number) e)
 number_in (s ∷ rs) r (inr i) = inr (number_in rs r i)
 
--- the numbers of two lists, one behind the other
+-- the numbers of two lists, one after the other
 pub numbers_append : (rs qs : List Record) → numbers (rs ++ qs) ≡ numbers rs ++ numbers qs
 numbers_append rs qs = map-append (λ (r : Record). r.number) rs qs
 

@@ -24,7 +24,7 @@ pub rising_distinct : (xs : List ℕ) → IsRising xs → AreDistinct xs
 rising_distinct [] a = tt
 rising_distinct (x ∷ xs) a = ((λ i. let b = a.0 x i in omega (arith, b)), rising_distinct xs a.1)
 
--- a number behind a place is at least that of the place
+-- a number after a place is at least that of the place
 pub rises : (xs : List ℕ) → IsRising xs → (i j : ℕ) → i ≤ j → j < length xs → get_or xs i 0 ≤ get_or xs j 0
 rises [] a i j le l = absurd (omega (arith, l))
 rises (x ∷ xs) a zero zero le l = omega arith
@@ -49,7 +49,7 @@ above_last xs last x a e =
       λ h. lt-ltb last x (subst (λ k. k < x) there (h (get_or xs (length xs - 1) 0) (in_get xs (length xs - 1) 0 (slice_get_within xs (length xs - 1) last e)))),
     )
 
--- a number above all others comes behind them
+-- a number above all others comes after them
 pub rising_pushed : (xs : List ℕ) (x : ℕ) → IsRising xs → ((n : ℕ) → In n xs → n < x) → IsRising (xs ++ x ∷ [])
 rising_pushed xs x a h = joined xs (x ∷ []) a ((λ n never. absurd never), tt) (λ m n i j. elim j [ inl e ↦ subst (λ z. m < z) (sym e) (h m i) | inr never ↦ absurd never ])
 

@@ -28,7 +28,7 @@ number_apart step bytes s small h =
     let (first, second) = line_apart (decimal step ++ 32 ∷ bytes) (decimal step) bytes s refl (number_plain 32 step refl small) h in
     (one_number step s.number small h.number.1 first, second)
 
--- what stands behind the number is cut at its blank in one way
+-- what follows the number is cut at its blank in one way
 pub act_apart : (step : ℕ) (bytes a b : List ℕ) (s : Step) → step ≤ greatest_number → bytes ≡ a ++ 32 ∷ b → All (λ c. c ≢ 32) a → (h : SaysStep (decimal step ++ 32 ∷ bytes) s) → (a ≡ goal_name_text h.goal) × (b ≡ h.act)
 act_apart step bytes a b s small cut plain h =
     cut_once 32 a b (goal_name_text h.goal) h.act plain (goal_plain h.goal h.goal_numbers.0 h.goal_numbers.1) (sym cut ∙ (number_apart step bytes s small h).1)

@@ -9,7 +9,7 @@ none_said Says Fits text line rest found none other a stands says fits =
     none a (subst (λ l. Says l a) (line_is (pieces_of text) 0 text line rest other refl found stands) says)
 
 module _ {A : Type 0} (Says : List ℕ → A → Type 0) (Fit : List A → Type 0) where
-  -- the first line says an item, and others stand behind it
+  -- the first line says an item, and others follow it
   abbrev pub SaysNext : List ℕ → A → List ℕ → Type 0
   SaysNext text a behind = (line : List ℕ) × (pieces_of text ≡ line ∷ pieces_of behind) × Says line a
 
@@ -19,7 +19,7 @@ module _ {A : Type 0} (Says : List ℕ → A → Type 0) (Fit : List A → Type 
     pub all : length items ≡ index
     pub told : TellsItems Says Fit pieces items
 
-  -- at the start nothing is told
+  -- at the start nothing was read
   pub nothing_read : (text : List ℕ) (items : List A) → items ≡ [] → Fit [] → HasRead (pieces_of text) 0 text items
   nothing_read text items none fit = record {
     at = refl;
@@ -45,7 +45,7 @@ module _ {A : Type 0} (Says : List ℕ → A → Type 0) (Fit : List A → Type 
       };
     }
 
-    -- where no line tells an item that goes with these, no item more is told
+    -- where no line tells an item that goes with these, the pieces tell no more
     pub no_more_read : (count : ℕ) → index < count → ((line : List ℕ) (a : A) → IsLineOf (pieces_of rest) 0 line → Says line a → ¬ Fit (items ++ a ∷ [])) → TellsNoMoreItems Says Fit pieces count items
     no_more_read count low none = (
       has.told,

@@ -63,7 +63,7 @@ rank_gap (Some s ∷ ss) zero none = absurd (none s refl)
 rank_gap (None ∷ ss) (suc i) none = let e : suc i + 1 ≡ suc (i + 1) = omega arith in ap (rank (None ∷ ss)) e ∙ rank_gap ss i none
 rank_gap (Some s ∷ ss) (suc i) none = let e : suc i + 1 ≡ suc (i + 1) = omega arith in ap (rank (Some s ∷ ss)) e ∙ ap suc (rank_gap ss i none)
 
--- behind the last slot all records are in front
+-- after the last slot, all records are in front
 pub rank_end : (ss : SlotList) (i : ℕ) → length ss ≤ i → rank ss i ≡ length (held_in ss)
 rank_end [] i l = refl
 rank_end (s ∷ ss) zero l = absurd (omega (arith, l))

@@ -1,4 +1,4 @@
--- The strays of slots, where a slot is put behind the others, where a record is taken out, and where gaps are closed up.
+-- The strays of slots, where a slot is put after the others, where a record is taken out, and where gaps are closed up.
 use Rattle.ghc_records.proofs.Words.{◌≡◌, ◌≢◌, ◌+◌, ◌<◌, ◌≤◌, ℕ, zero, suc, cond, [], ◌∷◌, ◌++◌, length, take, filter, get_or, refl, sym, ap, ◌∙◌, subst, inl, inr, arith, ◌↔◌, Option, Some, None, is_some, slice_set, nat_cmp, filter_more, In, AreDistinct, Record, numbers, SlotList, PlacesByNumber, held_in, StandsIn, HasNumberIn, HasStrayIn, AreStraysOf, IsChangedAt}
 use Rattle.std.specs.FinMap as finite
 use Rattle.ghc_records.proofs.CutTexts.{taken_at}

@@ -38,7 +38,7 @@ module _ (text counted told : List ℕ) (count : ℕ) (first : pieces_of text �
   pub counts : TellsCount text count
   counts = (line_stands (pieces_of text) 1 counted (count_line count) told (ap (drop 1) first) second, few)
 
-  -- so the steps are those that the lines behind say
+  -- so the steps are those that the lines after these say
   steps_told : (steps : List Step) → TellsSteps (pieces_of told) count steps → TellsSteps (behind_count text) count steps
   steps_told steps h = subst (λ p. TellsSteps p count steps) (sym behind_two) h
 
@@ -56,7 +56,7 @@ module _ (text counted told : List ℕ) (count : ℕ) (first : pieces_of text �
   behind_end rest e =
       behind_both (pieces_of text) 2 (count + 1) (count + 3) (omega arith) ∙ ap (drop (count + 1)) behind_two ∙ e
 
-  -- nothing stands behind the end
+  -- nothing follows the end
   pub is_told : (steps : List Step) (next : ℕ) (rest : List ℕ) → TellsSteps (pieces_of told) count steps → length steps ≡ count → TellsNext (pieces_of told) count next
       → drop (count + 1) (pieces_of told) ≡ pieces_of rest → length rest ≡ 0 → TellsHistory text (record { steps = steps; next = next })
   is_told steps next rest h all ends behind none = record {
@@ -67,7 +67,7 @@ module _ (text counted told : List ℕ) (count : ℕ) (first : pieces_of text �
     whole = ap (λ n. drop (n + 3) (pieces_of text)) all ∙ behind_end rest behind ∙ ap pieces_of (nil_from_length rest none);
   }
 
-  -- something stands behind the end
+  -- something follows the end
   pub wrong_rest : (steps : List Step) (next : ℕ) (rest : List ℕ) → TellsSteps (pieces_of told) count steps → length steps ≡ count → TellsNext (pieces_of told) count next
       → drop (count + 1) (pieces_of told) ≡ pieces_of rest → 0 < length rest → IsFirstWrongLine text (count + 4)
   wrong_rest steps next rest h all ends behind some =

@@ -17,7 +17,7 @@ last_is_new (x ∷ ks) k d (inr i) = last_is_new ks k d.1 i
 abbrev pub AreApart : (Step → Type 0) → List Step → Type 0
 AreApart P steps = AreDistinct (map number_of steps) × ((s : Step) → In s steps → P s)
 
--- The fault names the line behind those that tell such steps, two more in front of them.
+-- The fault names the line after those that tell such steps; two more stand in front of them.
 abbrev IsWrongStep : (Step → Type 0) → List (List ℕ) → ℕ → Fault → Type 0
 IsWrongStep P pieces count fault = (steps : List Step) × (fault ≡ Fault.History (length steps + 3)) × TellsNoMoreItems SaysStep (AreApart P) pieces count steps
 
@@ -30,7 +30,7 @@ abbrev pub HasTold : (Step → Type 0) → List (List ℕ) → ℕ → List ℕ 
 HasTold P pieces index rest keys steps = HasRead SaysStep (AreApart P) pieces index rest steps × HaveNumbers keys steps
 
 module _ (P : Step → Type 0) where
-  -- at the start nothing is told
+  -- at the start the text has told nothing
   pub nothing_told : (text keys : List ℕ) (steps : List Step) → keys ≡ [] → steps ≡ [] → HasTold P (pieces_of text) 0 text keys steps
   nothing_told text keys steps no_keys no_steps = (
     nothing_read SaysStep (AreApart P) text steps no_steps (tt, λ s i. absurd i),

@@ -10,7 +10,7 @@ use Rattle.ghc_records.proofs.WrittenTexts.{lines_cut, step_is_plain, step_is_sa
 
 -- ---- lines
 
--- a word, and a number behind it
+-- a word, and a number after it
 word_plain : (word : List ℕ) (n : ℕ) → HasNoFeed word → n ≤ 4294967295 → HasNoFeed (word ++ decimal n)
 word_plain word n plain small = both word (decimal n) plain (decimal_text n (fits n small))
 

@@ -1,4 +1,4 @@
--- Sections of a text as they are written: a line that tells how many items there are, a line for each, and other lines behind these.
+-- Written sections of a text: a line that tells how many items there are, a line for each, and other lines after these.
 use Rattle.ghc_records.proofs.Words.{◌≡◌, ℕ, zero, suc, ◌+◌, ◌≤◌, List, [], ◌∷◌, ◌++◌, drop, length, map, refl, sym, ap, ◌∙◌, subst, arith, inl, inr, Some, slice_get, AllByRecursion, In, in_at, IsLineOf, TellsSection}
 use Rattle.ghc_records.proofs.PlainTexts.{HasNoFeed}
 
@@ -14,12 +14,12 @@ module _ {A : Type 0} (f : A → List ℕ) where
   item_there (b ∷ items) zero a next more e = let same : b ≡ a = cc in let k = front_of items next more in (k.0, k.1, λ j. f (same j) ∷ k.2 j)
   item_there (b ∷ items) (suc i) a next more e = item_there items i a next more e
 
-  -- what stands behind the items
+  -- what follows the items
   pub behind_items : (items : List A) (behind : List (List ℕ)) → drop (length items) (map f items ++ behind) ≡ behind
   behind_items [] behind = refl
   behind_items (a ∷ items) behind = behind_items items behind
 
-  -- .. and behind the section
+  -- .. and the section
   pub behind_section : (line : List ℕ) (items : List A) (behind pieces : List (List ℕ)) → pieces ≡ line ∷ (map f items ++ behind) → drop (length items + 1) pieces ≡ behind
   behind_section line items behind pieces e =
       let places : length items + 1 ≡ suc (length items) = omega arith in
@@ -30,7 +30,7 @@ module _ {A : Type 0} (f : A → List ℕ) where
   items_plain [] behind each rest = rest
   items_plain (a ∷ items) behind each rest = (each a (inl refl), items_plain items behind (λ b i. each b (inr i)) rest)
 
-  -- where each line says its item, the section is told
+  -- where each line says its item, the text tells the section
   pub section_written : (Says : List ℕ → A → Type 0) (Fit : List A → Type 0) (count_line : ℕ → List ℕ) (limit : ℕ) (items : List A) (next : List ℕ) (more pieces : List (List ℕ))
       → pieces ≡ count_line (length items) ∷ (map f items ++ next ∷ more) → length items ≤ limit → ((a : A) → In a items → Says (f a) a) → Fit items → TellsSection Says Fit count_line limit pieces items
   section_written Says Fit count_line limit items next more pieces e few says fit =

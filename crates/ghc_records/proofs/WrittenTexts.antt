@@ -5,7 +5,7 @@ use Rattle.ghc_records.proofs.PlainTexts.{HasNoFeed, both, byte_first, decimal_t
 use Rattle.ghc_records.proofs.TellingHistories.{one_next}
 use Rattle.ghc_records.proofs.WrittenSections.{behind_items, front_of, item_there, items_plain}
 
--- lines without line feeds are the pieces of their text, and nothing comes behind the last
+-- lines without line feeds are the pieces of their text, and nothing comes after the last
 pub lines_cut : (lines : List (List ℕ)) → AllByRecursion HasNoFeed lines → pieces_of (lines_text lines) ≡ lines ++ [] ∷ []
 lines_cut [] h = refl
 lines_cut (line ∷ lines) h = first_piece 10 line (lines_text lines) h.0 ∙ ap (λ l. line ∷ l) (lines_cut lines h.1)

@@ -7,7 +7,7 @@ use Rattle.ghc_records.specs.Orders.{AreDistinct}
 use Rattle.ghc_records.specs.Journal.{Step, Entry, took, undid, rolled, redid, reordered}
 use Rattle.ghc_records.specs.History.{History}
 
--- A chronicle is what a run began with, as a history; the entries behind that, in order; the predicates that are spied; and the number that the next step gets.
+-- A chronicle is what a run began with, as a history; the entries after that, in order; the spied predicates; and the next step's number.
 pub record Chronicle : Type 0 where
   pub opening : History
   pub entries : List Entry
@@ -18,7 +18,7 @@ pub record Chronicle : Type 0 where
 abbrev pub chronicle_of : History → List Entry → List Predicate → ℕ → Chronicle
 chronicle_of opening journal spies next = record { opening = opening; entries = drop (length opening.steps) journal; spies = spies; next = next }
 
--- At most this many entries stand behind an opening, and at most this many spies behind these, so that each line has a number of 32 bits.
+-- At most this many entries follow an opening. With the spies, at most `spy_limit`, each line has a number of 32 bits.
 abbrev pub entry_limit : ℕ
 entry_limit = 4000000000
 
@@ -26,7 +26,7 @@ entry_limit = 4000000000
 abbrev pub spy_limit : ℕ
 spy_limit = 100000000
 
--- The number of the next step behind an entry, where it was n in front of it.
+-- The number of the next step after an entry, where it was n in front of it.
 abbrev pub next_after : ℕ → Entry → ℕ
 next_after n (took s) = n + 1
 next_after n (undid k) = n
@@ -34,7 +34,7 @@ next_after n (rolled k) = n
 next_after n (redid k) = n
 next_after n (reordered ks) = n
 
--- .. and behind entries
+-- .. and after entries
 abbrev pub next_behind : ℕ → List Entry → ℕ
 next_behind n [] = n
 next_behind n (e ∷ es) = next_behind (next_after n e) es

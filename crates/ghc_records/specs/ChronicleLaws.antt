@@ -67,13 +67,13 @@ pub record CanBeTold (c : Chronicle) : Type 0 where
   pub spies : (p : Predicate) → In p c.spies → CanBeSpied p
   pub next : c.next ≡ next_behind c.opening.next c.entries
 
--- What is written of a chronicle that a text can tell tells it. A chronicle that a text tells is such a one, and, written, told again.
+-- What is written of a chronicle that a text can tell tells it. A chronicle that a text tells is such a one, and its own text tells it.
 pub record WrittenChroniclesAreReadAgain : Type 0 where
   pub written : (c : Chronicle) → CanBeTold c → TellsChronicle (chronicle_text c) c
   pub only : (text : List ℕ) (c : Chronicle) → TellsChronicle text c → CanBeTold c
   pub again : (text : List ℕ) (c : Chronicle) → TellsChronicle text c → TellsChronicle (chronicle_text c) c
 
--- A text that is cut off anywhere tells no chronicle: its first wrong line is the one behind its last line feed.
+-- A text that is cut off anywhere tells no chronicle: its first wrong line is the one after its last line feed.
 abbrev pub CutChroniclesAreRefused : Type 0
 CutChroniclesAreRefused =
     (text front back : List ℕ) (c : Chronicle) → TellsChronicle text c → text ≡ front ++ back → back ≢ [] → IsFirstWrongInChronicle front (line_feeds front + 1)

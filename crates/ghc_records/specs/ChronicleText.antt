@@ -17,7 +17,7 @@ use Rattle.ghc_records.specs.Predicates.{GoTogether, SaysPredicate, predicate_te
 abbrev pub chronicle_heading : List ℕ
 chronicle_heading = codes "ghc-history 2"
 
--- the line that tells how many steps the opening has, and the number that the next step gets behind them
+-- the line that tells how many steps the opening has, and the number that the next step gets after them
 abbrev pub opening_line : ℕ → ℕ → List ℕ
 opening_line next count = codes "opening " ++ (decimal count ++ (codes " " ++ decimal next))
 
@@ -45,7 +45,7 @@ chronicle_text c = lines_text (chronicle_lines c)
 abbrev pub IsNext : ℕ → Type 0
 IsNext n = (1 ≤ n) × (n ≤ number_limit)
 
--- the pieces behind so many lines
+-- the pieces after so many lines
 abbrev pub behind_lines : ℕ → List ℕ → List (List ℕ)
 behind_lines n text = drop n (pieces_of text)
 
@@ -55,7 +55,7 @@ pub record TellsOpening (text : List ℕ) (o : History) : Type 0 where
   pub steps : TellsSection SaysStep (AreBelow o.next) (opening_line o.next) kept_limit (behind_lines 1 text) o.steps
   pub next : IsNext o.next
 
--- Behind the opening, the text has the section of the entries.
+-- After the opening, the text has the section of the entries.
 pub record TellsEntries (text : List ℕ) (o : History) (es : List Entry) : Type 0 where
   pub opening : TellsOpening text o
   pub entries : TellsSection SaysEntry (AreInTurn o.next) entries_line entry_limit (behind_lines (length o.steps + 2) text) es
@@ -64,7 +64,7 @@ pub record TellsEntries (text : List ℕ) (o : History) (es : List Entry) : Type
 abbrev pub lines_to_spies : History → List Entry → ℕ
 lines_to_spies o es = length o.steps + length es + 3
 
--- Behind the entries, the text has the section of the spies.
+-- After the entries, the text has the section of the spies.
 pub record TellsSpies (text : List ℕ) (o : History) (es : List Entry) (ps : List Predicate) : Type 0 where
   pub entries : TellsEntries text o es
   pub spies : TellsSection SaysPredicate GoTogether spies_line spy_limit (behind_lines (lines_to_spies o es) text) ps
@@ -73,7 +73,7 @@ pub record TellsSpies (text : List ℕ) (o : History) (es : List Entry) (ps : Li
 abbrev pub lines_to_end : History → List Entry → List Predicate → ℕ
 lines_to_end o es ps = lines_to_spies o es + length ps + 1
 
--- Behind the spies comes the line that tells the number that the next step gets: the one behind the last step that was taken.
+-- After the spies comes the line that tells the number that the next step gets: the one after the last step that was taken.
 abbrev pub TellsEnd : List ℕ → History → List Entry → List Predicate → Type 0
 TellsEnd text o es ps = IsLine text (lines_to_end o es ps) (end_line (next_behind o.next es))
 
@@ -84,9 +84,9 @@ pub record TellsChronicle (text : List ℕ) (c : Chronicle) : Type 0 where
   pub next : c.next ≡ next_behind c.opening.next c.entries
   pub whole : behind_lines (lines_to_end c.opening c.entries c.spies + 1) text ≡ [] ∷ []
 
--- The first line of the text that is not right has this number, from 1 on: the heading; the opening, or the first line that should tell a step of it and tells none, or one with a
--- number that a step in front has or that is not below the next one; a line of the section of the entries, such as one with a step that has not the next number; a line of that of the spies; the end;
--- or what stands behind the end.
+-- The first wrong line of the text has this number, from 1 on. It is the heading; the opening; one of its steps; a line of the entries' or
+-- the spies' section; the end; or what follows it. A step's line is wrong where it tells none, or its number is that of a step in front or
+-- not below the next one. So is an entry whose step has not the next number.
 pub data IsFirstWrongInChronicle (text : List ℕ) : ℕ → Type 0 where
   no_heading : ¬ IsLine text 0 chronicle_heading → IsFirstWrongInChronicle text 1
   no_opening : IsLine text 0 chronicle_heading → ((next count : ℕ) → IsNext next → count ≤ kept_limit → ¬ IsLine text 1 (opening_line next count)) → IsFirstWrongInChronicle text 2

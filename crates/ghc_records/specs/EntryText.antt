@@ -12,7 +12,7 @@ use Rattle.ghc_records.specs.Journal.{Step, Entry, took, undid, rolled, redid, r
 use Rattle.ghc_records.specs.StepText.{body_text, followed_by, step_text}
 use Rattle.ghc_records.specs.HistoryText.{SaysStep, greatest_number}
 
--- numbers, each behind a space
+-- numbers, each after a space
 abbrev pub numbers_behind : List ℕ → List ℕ
 numbers_behind ns = followed_by (codes " ") (map decimal ns)
 
@@ -40,7 +40,8 @@ SaysGoals text gs = (a : WrittenAsk) × IsReadBody text a × ¬ In None a.named 
 abbrev pub AreNewInOrder : ℕ → List Goal → Type 0
 AreNewInOrder n gs = (k : ℕ) × (own_variables n gs ≡ made_from n 1 k)
 
--- The line says a step that asks for goals and consumes none: its number, from 1 on, and, behind `- ask `, any text of the goals, in which its new variables stand in order.
+-- The line says a step that asks for goals and consumes none: its number, from 1 on, then `- ask ` and any text of the goals. Its new
+-- variables stand there in order.
 pub record SaysAsking (line : List ℕ) (s : Step) : Type 0 where
   pub goals : List Goal
   pub body : List ℕ

@@ -27,7 +27,7 @@ pub record IsOfAGoal (s : Step) : Type 0 where
   pub clause : (k : ℕ) → s.act ≡ by_clause k → 1 ≤ k
   pub range : IsInRange s
 
--- What is written of a history tells it. A history that a text tells is of the form, and, written, told again.
+-- What is written of a history tells it. A history that a text tells is of the form, and its own text tells it.
 pub record WrittenHistoriesAreReadAgain : Type 0 where
   pub written : (h : History) → IsHistory h → ((s : Step) → In s h.steps → IsInRange s) → TellsHistory (history_text h) h
   pub only : (text : List ℕ) (h : History) → TellsHistory text h → IsHistory h
@@ -37,7 +37,7 @@ pub record WrittenHistoriesAreReadAgain : Type 0 where
 abbrev pub line_feeds : List ℕ → ℕ
 line_feeds bytes = count_by (λ byte. byte == 10) bytes
 
--- A text that is cut off anywhere tells no history: its first wrong line is the one behind its last line feed.
+-- A text that is cut off anywhere tells no history: its first wrong line is the one after its last line feed.
 abbrev pub CutTextsAreRefused : Type 0
 CutTextsAreRefused =
     (text front back : List ℕ) (h : History) → TellsHistory text h → text ≡ front ++ back → back ≢ [] → IsFirstWrongLine front (line_feeds front + 1)

@@ -43,11 +43,11 @@ history_text h = lines_text (history_lines h)
 abbrev pub pieces_of : List ℕ → List (List ℕ)
 pieces_of text = slice_split (λ byte. byte == 10) text
 
--- Behind the first i of these pieces comes this line, which another piece follows.
+-- After the first i of these pieces comes this line, which another piece follows.
 abbrev pub IsLineOf : List (List ℕ) → ℕ → List ℕ → Type 0
 IsLineOf pieces i line = (next : List ℕ) × (more : List (List ℕ)) × (drop i pieces ≡ line ∷ next ∷ more)
 
--- Behind the first i lines of the text comes this one.
+-- After the first i lines of the text comes this one.
 abbrev pub IsLine : List ℕ → ℕ → List ℕ → Type 0
 IsLine text i line = IsLineOf (pieces_of text) i line
 
@@ -55,7 +55,7 @@ IsLine text i line = IsLineOf (pieces_of text) i line
 abbrev pub greatest_number : ℕ
 greatest_number = 4294967295
 
--- The bytes say the act. Behind `in ` stands any text of an input term. No act that asks for goals is said.
+-- The bytes say the act. After `in ` stands any text of an input term. No act that asks for goals is said.
 abbrev pub SaysAct : List ℕ → Act → Type 0
 SaysAct bytes (by_clause k) = (bytes ≡ codes "by " ++ decimal k) × (1 ≤ k) × (k ≤ greatest_number)
 SaysAct bytes unified = bytes ≡ codes "eq"
@@ -78,21 +78,22 @@ pub record SaysStep (line : List ℕ) (s : Step) : Type 0 where
 abbrev pub TellsCount : List ℕ → ℕ → Type 0
 TellsCount text count = IsLine text 1 (count_line count) × (count ≤ kept_limit)
 
--- the pieces behind heading and count
+-- the pieces after heading and count
 abbrev pub behind_count : List ℕ → List (List ℕ)
 behind_count text = drop 2 (pieces_of text)
 
--- Behind so many of these pieces, whatever they are, comes the line that tells the number that the next step gets.
+-- After so many of these pieces, whatever they are, comes the line that tells the number that the next step gets.
 abbrev pub TellsNext : List (List ℕ) → ℕ → ℕ → Type 0
 TellsNext pieces count next = IsLineOf pieces count (end_line next) × (1 ≤ next) × (next ≤ number_limit)
 
--- The first of these pieces are lines that say the steps, of which no two have one number, and each has one below the number that is told behind count pieces.
+-- The first of these pieces are lines that say the steps. No two steps have one number, and each has one below the number that the line
+-- after count pieces tells.
 pub record TellsSteps (pieces : List (List ℕ)) (count : ℕ) (steps : List Step) : Type 0 where
   pub each : (i : ℕ) (s : Step) → slice_get steps i ≡ Some s → (line : List ℕ) × IsLineOf pieces i line × SaysStep line s
   pub distinct : AreDistinct (map (λ s. s.number) steps)
   pub below : (next : ℕ) (s : Step) → TellsNext pieces count next → In s steps → s.number < next
 
--- These steps are told, fewer than count, and no further one is: the line behind theirs is wrong.
+-- The pieces tell these steps, fewer than count, and no further one: the line after theirs is wrong.
 abbrev pub TellsNoMore : List (List ℕ) → ℕ → List Step → Type 0
 TellsNoMore pieces count steps = TellsSteps pieces count steps × (length steps < count) × ((s : Step) → ¬ TellsSteps pieces count (steps ++ s ∷ []))
 
@@ -104,8 +105,8 @@ pub record TellsHistory (text : List ℕ) (h : History) : Type 0 where
   pub next : TellsNext (behind_count text) (length h.steps) h.next
   pub whole : drop (length h.steps + 3) (pieces_of text) ≡ [] ∷ []
 
--- The first line of the text that is not right has this number, from 1 on: the heading; the count; the first line that should tell a step and tells none, or
--- one with a number that a step in front has or that is not below the next one; the end; or what stands behind the end.
+-- The first wrong line of the text has this number, from 1 on. It is the heading; the count; a step; the end; or what follows the end. A
+-- step's line is wrong where it tells none, or its number is that of a step in front or not below the next one.
 pub data IsFirstWrongLine (text : List ℕ) : ℕ → Type 0 where
   no_heading : ¬ IsLine text 0 heading → IsFirstWrongLine text 1
   no_count : IsLine text 0 heading → ((count : ℕ) → ¬ TellsCount text count) → IsFirstWrongLine text 2

@@ -44,6 +44,6 @@ pub data Item : Type 0 where
   opened : Opening → Item
   entered : Entry → Item
 
--- That list: the opening, and behind it the entries of the journal. Places and lengths count the entries alone.
+-- The list by which contracts know a core: the opening, then the entries of the journal. Places and lengths count the entries alone.
 abbrev pub history : Opening → List Entry → List Item
 history o es = opened o ∷ map entered es

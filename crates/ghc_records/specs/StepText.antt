@@ -21,7 +21,7 @@ use Rattle.ghc_records.specs.Journal.{Step, step_of}
 abbrev pub goal_name_text : GoalName → List ℕ
 goal_name_text g = decimal g.step ++ (codes "." ++ decimal g.place)
 
--- the texts that follow the first, each behind the mark
+-- the texts that follow the first, each after the mark
 abbrev pub followed_by : List ℕ → List (List ℕ) → List ℕ
 followed_by mark [] = []
 followed_by mark (text ∷ texts) = mark ++ (text ++ followed_by mark texts)
@@ -40,7 +40,7 @@ act_text (given u) = codes "in " ++ term_text u
 act_text closed = codes "end"
 act_text (asked gs) = codes "ask " ++ body_text gs
 
--- the name of the goal that a step consumed, or `-` where it consumed none, and a space behind it
+-- the name of the goal that a step consumed, or `-` where it consumed none, and a space after it
 abbrev pub consumed_text : Option GoalName → List ℕ
 consumed_text None = codes "- "
 consumed_text (Some g) = goal_name_text g ++ codes " "

@@ -115,7 +115,7 @@ pub record RecordsTables : Type 0 where
   pub slots : SlotList
   pub room : RecordsRoom
 
--- There is room for the step behind the others: for its record, for what it binds, and for its number under each step that it used.
+-- There is room for the step after the others: its record, what it binds, and its number under each step that it used.
 abbrev pub HasRoomToKeep : List Record → RecordsRoom → Record → Type 0
 HasRoomToKeep rs room r = (0 < room.records) × (finite.len r.effect.binds ≤ room.binders) × ((a : Record) → In a rs → Uses r a → CanTake room.users a.number r.number)
 

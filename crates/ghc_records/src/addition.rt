@@ -50,7 +50,7 @@ impl Model for Addition {
 
 impl Addition {
     /// What it takes to take this step, with handles of its own: one step for each goal, and what it costs to share the bindings.
-    /// Fails for want of memory, or where a count of handles is full.
+    /// It fails where memory is refused, or where a count of handles is full.
     #[inline(always)]
     pub fn of(alloc: Global, step: Record) -> Result<Addition, AllocError>
         ensures { IfOk result (λ a. a ≡ step) }

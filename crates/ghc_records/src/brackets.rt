@@ -5,7 +5,7 @@ ghost use Rattle.ghc_term.specs.InputTerm.{open_behind, most_open};
 /// The most brackets that the text of goals which a step asks for opens at one place, as it is read and as it is printed.
 pub(crate) const MOST_OPEN: usize = 1_000;
 
-// How many are open behind the byte.
+// How many are open after the byte.
 fn open_behind(depth: usize, byte: u8) -> usize
     requires { depth ≤ MOST_OPEN }
     ensures { result ≡ open_behind depth byte }

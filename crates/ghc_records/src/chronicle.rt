@@ -7,8 +7,8 @@ use crate::predicate::Predicate;
 use crate::written_entry::WrittenEntry;
 use std::marker::Model;
 
-/// A chronicle: what a run began with, as a history; the entries behind that, in order; the predicates that are spied; and the number
-/// that the next step gets.
+/// A chronicle: what a run began with, as a history; the entries after that, in order; the spied predicates; and the next step's
+/// number.
 pub struct Chronicle {
     opening: History,
     entries: Vec<WrittenEntry>,
@@ -65,7 +65,7 @@ impl Chronicle {
         &self.opening
     }
 
-    /// The entries behind that, in order.
+    /// The entries after the opening, in order.
     pub fn entries(&self) -> &[WrittenEntry]
         ensures { map said_by result.now ≡ self.now.entries }
     {

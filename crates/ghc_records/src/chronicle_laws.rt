@@ -25,7 +25,7 @@ pub fn written_chronicles_are_read_again()
     printed_goals_are_read_again();
 }
 
-/// A text of a chronicle that is cut off anywhere is refused, with the line behind the last line feed that is left.
+/// A text of a chronicle that is cut off anywhere is refused, with the line after the last line feed that is left.
 pub fn cut_chronicles_are_refused()
     ensures { CutChroniclesAreRefused }
 {}

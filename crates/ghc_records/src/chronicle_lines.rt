@@ -7,7 +7,7 @@ ghost use Rattle.ghc_records.specs.ChronicleText.{IsNext, chronicle_heading, ope
 
 use crate::cutting::{behind, cut, next_line, number, positive};
 
-// What stands behind the heading; none where the first line is another.
+// What follows the heading; none where the first line is another.
 pub(crate) fn behind_chronicle_heading(text: &[u8]) -> Option<&[u8]>
     ensures some { IfSome result (λ rest. pieces_of text.now ≡ chronicle_heading ∷ pieces_of rest.now) }
     ensures none { IfNone result (¬ IsLineOf (pieces_of text.now) 0 chronicle_heading) }
@@ -54,8 +54,8 @@ fn opening_numbers(line: &[u8]) -> Option<(u32, u32)>
     opening_words(count, next)
 }
 
-// How many steps the first line tells that the opening has, the number that the next step gets, and what stands behind the line; none
-// where it tells nothing of the kind.
+// How many steps the opening has by the first line, the number that the next step gets, and what follows the line. None where it tells
+// nothing of the kind.
 pub(crate) fn read_opening(text: &[u8]) -> Option<(u32, u32, &[u8])>
     ensures some { IfSome result (λ told. pieces_of text.now ≡ opening_line told.1 told.0 ∷ pieces_of told.2.now) }
     ensures few { IfSome result (λ told. told.0 ≤ kept_limit) }
@@ -71,7 +71,7 @@ pub(crate) fn read_opening(text: &[u8]) -> Option<(u32, u32, &[u8])>
     }
 }
 
-// The number that the line says behind these bytes, where it is not over the limit.
+// The number that the line says after these bytes, where it is not over the limit.
 fn number_up_to(line: &[u8], front: &[u8], limit: u32) -> Option<u32>
     ensures some { IfSome result (λ n. line.now ≡ front.now ++ decimal n) }
     ensures small { IfSome result (λ n. n ≤ limit) }
@@ -91,7 +91,7 @@ fn number_up_to(line: &[u8], front: &[u8], limit: u32) -> Option<u32>
     }
 }
 
-// How many items the first line tells behind these bytes, not more than the limit, and what stands behind the line; none where it tells
+// How many items the first line tells after these bytes, not more than the limit, and what follows the line. None where it tells
 // nothing of the kind.
 pub(crate) fn read_amount<'a>(text: &'a [u8], front: &[u8], limit: u32) -> Option<(u32, &'a [u8])>
     ensures some { IfSome result (λ told. pieces_of text.now ≡ (front.now ++ decimal told.0) ∷ pieces_of told.1.now) }

@@ -22,10 +22,10 @@ use crate::written_entry::WrittenEntry;
 use ghc_term::Fault;
 use std::alloc::Global;
 
-// At most this many entries stand behind an opening.
+// At most this many entries follow an opening.
 const ENTRY_LIMIT: u32 = 4_000_000_000;
 
-// At most this many spies stand behind the entries.
+// At most this many spies follow the entries.
 const SPY_LIMIT: u32 = 100_000_000;
 
 /// Whether the first line of a text is that of a chronicle, so that `read_chronicle` and not `read_history` reads it: one line.
@@ -38,7 +38,7 @@ pub fn is_chronicle(text: &[u8]) -> bool
     }
 }
 
-// The opening that a text begins with, and what stands behind its steps.
+// The opening that a text begins with, and what follows its steps.
 fn open(alloc: Global, text: &[u8]) -> Result<(History, &[u8]), Fault>
     ensures told { IfOk result (λ read. TellsOpening text.now read.0) }
     ensures rest { IfOk result (λ read. behind_lines (length read.0.steps + 2) text.now ≡ pieces_of read.1.now) }
@@ -56,7 +56,8 @@ fn open(alloc: Global, text: &[u8]) -> Result<(History, &[u8]), Fault>
     }
 }
 
-// The entries of the section with which the bytes begin, and the number of the next step behind them, where it was `next` in front of them, and what stands behind the section; or its first wrong line, where its first line has this number.
+// The entries of the section with which the bytes begin, the next step's number after them (`next` in front of them), and what follows.
+// Else the section's first wrong line, where its first line has this number.
 fn entries_of<'a>(
     alloc: Global,
     text: &'a [u8],
@@ -79,7 +80,8 @@ fn entries_of<'a>(
     }
 }
 
-// The predicates of the section with which the bytes begin, and what stands behind it; or its first wrong line, where its first line has this number.
+// The predicates of the section with which the bytes begin, and what follows it. Else its first wrong line, where its first line has
+// this number.
 fn spies_of<'a>(
     alloc: Global,
     text: &'a [u8],
@@ -99,7 +101,7 @@ fn spies_of<'a>(
     }
 }
 
-// What stands behind the line of the end, which tells this number; none where the first line is another.
+// What follows the line of the end, which tells this number; none where the first line is another.
 fn behind_end(text: &[u8], next: u32) -> Option<&[u8]>
     ensures some { IfSome result (λ rest. pieces_of text.now ≡ end_line next ∷ pieces_of rest.now) }
     ensures none { IfNone result (¬ IsLineOf (pieces_of text.now) 0 (end_line next)) }
@@ -115,10 +117,11 @@ fn behind_end(text: &[u8], next: u32) -> Option<&[u8]>
     }
 }
 
-/// The chronicle that a text tells: `ghc-history 2`, `opening K NEXT0`, K lines of steps, `entries J`, J lines of entries, `spies P`, P lines of
-/// predicates, `end NEXT`, and nothing behind it. Else `History` with the first line that is wrong, counted from 1: one that is not of the
-/// form, where a line that is missing counts by the number that it would have; one whose step has a number that it may not have; or `Memory`.
-/// There are a million steps, 4,000,000,000 entries and 100,000,000 predicates at most. Nothing is carried out. Time and memory grow with the text.
+/// The chronicle that a text tells: `ghc-history 2`, `opening K NEXT0`, and K lines of steps. Then come `entries J`, J lines of entries,
+/// `spies P`, P lines of predicates, `end NEXT`, and nothing after it. Else `History` with the first line that is wrong, counted from 1,
+/// or `Memory`. A line is wrong where it is not of the form, or its step has a number that it may not have. A missing line counts by the
+/// number that it would have. There are a million steps, 4,000,000,000 entries and 100,000,000 predicates at most. Nothing is carried out.
+/// Time and memory grow with the text.
 pub fn read_chronicle(alloc: Global, text: &[u8]) -> Result<Chronicle, Fault>
     ensures { Answered (TellsChronicle text.now) (IsChronicleRefusal text.now) result }
 {

@@ -6,7 +6,7 @@ ghost use Rattle.std.specs.List.{list_all};
 ghost use Rattle.std.specs.Str.Parse.{digits_value};
 ghost use Rattle.ghc_records.specs.HistoryText.{greatest_number, pieces_of};
 
-// What stands in front of the first such byte, and what behind it; none where there is no such byte.
+// What stands in front of the first such byte, and what after it; none where there is no such byte.
 pub(crate) fn cut(bytes: &[u8], mark: u8) -> Option<(&[u8], &[u8])>
     ensures found { IfSome result (λ parts. bytes.now ≡ parts.0.now ++ mark ∷ parts.1.now) }
     ensures plain { IfSome result (λ parts. All (λ b. b ≢ mark) parts.0.now) }
@@ -18,7 +18,7 @@ pub(crate) fn cut(bytes: &[u8], mark: u8) -> Option<(&[u8], &[u8])>
     }
 }
 
-// The first line of a text, and what stands behind its line feed; none where no line feed is left.
+// The first line of a text, and what follows its line feed; none where no line feed is left.
 pub(crate) fn next_line(text: &[u8]) -> Option<(&[u8], &[u8])>
     ensures found { IfSome result (λ parts. pieces_of text.now ≡ parts.0.now ∷ pieces_of parts.1.now) }
     ensures none { IfNone result (pieces_of text.now ≡ text.now ∷ []) }
@@ -26,7 +26,7 @@ pub(crate) fn next_line(text: &[u8]) -> Option<(&[u8], &[u8])>
     cut(text, b'\n')
 }
 
-// What stands behind the bytes in front; none where these are others.
+// What follows the bytes in front; none where these are others.
 pub(crate) fn behind<'a>(bytes: &'a [u8], front: &[u8]) -> Option<&'a [u8]>
     ensures some { IfSome result (λ rest. bytes.now ≡ front.now ++ rest.now) }
     ensures none { IfNone result ((rest : List ℕ) → bytes.now ≢ front.now ++ rest) }

@@ -28,7 +28,7 @@ fn is_in_turn(entry: &WrittenEntry, next: u32) -> bool
     }
 }
 
-// The number of the next step behind an entry that can follow.
+// The number of the next step after an entry that can follow.
 fn number_after(entry: &WrittenEntry, next: u32) -> u32
     requires small { next ≤ number_limit }
     requires in_turn { IsInTurn next (said_by entry.now) }
@@ -44,7 +44,7 @@ fn number_after(entry: &WrittenEntry, next: u32) -> u32
     }
 }
 
-// The entry that the first line says, where it can follow, and what stands behind the line; none where it says no such entry.
+// The entry that the first line says, where it can follow, and what stands after the line; none where it says no such entry.
 fn next_entry<'a>(
     alloc: Global,
     text: &'a [u8],
@@ -69,8 +69,8 @@ fn next_entry<'a>(
     }
 }
 
-// So many entries, which the first lines say, the number that the next step gets behind them, where it was `next` in front of them, and what
-// stands behind; or the first of these lines that is wrong, where the first has the number `first`.
+// So many entries, which the first lines say, the next step's number after them (`next` in front of them), and what follows. Else the
+// first of these lines that is wrong, where the first has the number `first`.
 pub(crate) fn read_entries<'a>(
     alloc: Global,
     text: &'a [u8],

@@ -18,7 +18,7 @@ use crate::written_entry::WrittenEntry;
 use ghc_term::Fault;
 use std::alloc::{AllocError, Global};
 
-// The number that the line says behind these bytes, from 1 on.
+// The number that the line says after these bytes, from 1 on.
 fn named_behind(line: &[u8], front: &[u8]) -> Option<u32>
     ensures some { IfSome result (λ n. line.now ≡ front.now ++ decimal n) }
     ensures named { IfSome result (λ n. IsNamed n) }
@@ -62,7 +62,7 @@ fn split_word(bytes: &[u8]) -> (&[u8], &[u8])
     }
 }
 
-// The number behind the space with which the bytes begin, and what stands behind it; none where they begin with no such number.
+// The number after the space with which the bytes begin, and what follows it; none where they begin with no such number.
 fn next_number(bytes: &[u8]) -> Option<(u32, &[u8])>
     ensures found { IfSome result (λ read. bytes.now ≡ 32 ∷ (decimal read.0 ++ read.1.now)) }
     ensures named { IfSome result (λ read. IsNamed read.0) }
@@ -80,7 +80,7 @@ fn next_number(bytes: &[u8]) -> Option<(u32, &[u8])>
     }
 }
 
-// The numbers that the bytes say, each behind a space; none where they say none.
+// The numbers that the bytes say, each after a space; none where they say none.
 fn read_numbers(alloc: Global, bytes: &[u8]) -> Result<Option<Vec<u32>>, AllocError>
     ensures some { IfOk result (λ found. IfSome found (λ ns. (bytes.now ≡ numbers_behind ns.items) × All IsNamed ns.items)) }
     ensures none { IfOk result (λ found. IfNone found ((ns : List ℕ) → All IsNamed ns → bytes.now ≢ numbers_behind ns)) }

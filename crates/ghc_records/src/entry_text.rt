@@ -20,7 +20,7 @@ fn write_numbered(word: &str, number: u32, out: &mut String) -> Result<(), Alloc
     Ok(())
 }
 
-// Writes numbers, each behind a space.
+// Writes numbers, each after a space.
 fn write_numbers(numbers: &[u32], out: &mut String) -> Result<(), AllocError>
     ensures { OnOk result (string_bytes out.new ≡ string_bytes out.old ++ numbers_behind numbers.now) }
 {

@@ -27,8 +27,8 @@ fn list_of(alloc: Global, made: &Made, count: u32) -> Result<Vec<MadeGoal>, Allo
     Ok(handles)
 }
 
-// Handles of the goals, of which there are as many as counted: one step for each. Fails for want of memory, or where a count of
-// handles is full.
+// Handles of the goals, of which there are as many as counted: one step for each. It fails where memory is refused, or where a
+// count of handles is full.
 #[inline(always)]
 pub(crate) fn handles_of(alloc: Global, made: &Made, count: u32) -> Result<Handles, AllocError>
     requires { count ≡ length made.now }

@@ -37,7 +37,7 @@ impl Model for History {
 }
 
 impl History {
-    /// The history of no steps, behind which a step gets the number `next`. It takes no memory.
+    /// The history of no steps, after which a step gets the number `next`. It takes no memory.
     pub fn empty(alloc: Global, next: u32) -> History
         ensures { result ≡ record { steps = []; next = next } }
     {
@@ -47,7 +47,7 @@ impl History {
         }
     }
 
-    /// The history of these steps, a million at most, behind which a step gets the number `next`.
+    /// The history of these steps, a million at most, after which a step gets the number `next`.
     pub fn new(steps: Vec<Step>, next: u32) -> History
         requires { length steps.items ≤ kept_limit }
         ensures { result ≡ record { steps = steps.items; next = next } }
@@ -70,7 +70,7 @@ impl History {
         self.next
     }
 
-    /// Puts a step behind the others, which are fewer than a million. It stays as it was where memory is refused.
+    /// Puts a step after the others, which are fewer than a million. It stays as it was where memory is refused.
     pub fn push(&mut self, step: Step) -> Result<(), AllocError>
         requires few { length self.old.steps < kept_limit }
         ensures ok { OnOk result (self.new ≡ record { steps = self.old.steps ++ step ∷ []; next = self.old.next }) }

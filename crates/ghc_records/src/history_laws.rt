@@ -20,7 +20,7 @@ pub fn read_history_is_exact()
     read_ground_term_is_exact();
 }
 
-/// A text of a history that is cut off anywhere is refused, with the line behind the last line feed that is left.
+/// A text of a history that is cut off anywhere is refused, with the line after the last line feed that is left.
 pub fn cut_texts_are_refused()
     ensures { CutTextsAreRefused }
 {}

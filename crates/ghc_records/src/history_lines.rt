@@ -5,7 +5,7 @@ ghost use Rattle.ghc_records.specs.HistoryText.{IsLineOf, TellsNext, count_line,
 
 use crate::cutting::{behind, next_line, number, positive};
 
-// What stands behind the heading; none where the first line is another.
+// What follows the heading; none where the first line is another.
 pub(crate) fn behind_heading(text: &[u8]) -> Option<&[u8]>
     ensures some { IfSome result (λ rest. pieces_of text.now ≡ heading ∷ pieces_of rest.now) }
     ensures none { IfNone result (¬ IsLineOf (pieces_of text.now) 0 heading) }
@@ -36,7 +36,7 @@ fn count_number(line: &[u8]) -> Option<u32>
     }
 }
 
-// How many steps the first line tells, and what stands behind it; none where it tells nothing of the kind.
+// How many steps the first line tells, and what follows it; none where it tells nothing of the kind.
 pub(crate) fn read_count(text: &[u8]) -> Option<(u32, &[u8])>
     ensures some { IfSome result (λ told. pieces_of text.now ≡ count_line told.0 ∷ pieces_of told.1.now) }
     ensures few { IfSome result (λ told. told.0 ≤ kept_limit) }
@@ -64,7 +64,7 @@ fn end_number(line: &[u8]) -> Option<u32>
     }
 }
 
-// What stands behind so many lines; none where there are not so many.
+// What follows so many lines; none where there are not so many.
 fn skip_lines(text: &[u8], count: u32) -> Option<&[u8]>
     ensures some { IfSome result (λ rest. drop count (pieces_of text.now) ≡ pieces_of rest.now) }
     ensures none { IfNone result (drop count (pieces_of text.now) ≡ []) }
@@ -79,7 +79,7 @@ fn skip_lines(text: &[u8], count: u32) -> Option<&[u8]>
     Some(rest)
 }
 
-// The number that the next step gets, as the line behind so many tells, and what stands behind that line.
+// The number that the next step gets, as the line after so many others tells, and what follows that line.
 pub(crate) fn find_end(text: &[u8], count: u32) -> Option<(u32, &[u8])>
     ensures some { IfSome result (λ told. TellsNext (pieces_of text.now) count told.0) }
     ensures rest { IfSome result (λ told. drop (count + 1) (pieces_of text.now) ≡ pieces_of told.1.now) }

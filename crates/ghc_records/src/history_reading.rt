@@ -26,8 +26,8 @@ fn is_below(number: u32, bound: Option<u32>) -> bool
     }
 }
 
-// The step that the first line says, with a number below the bound, if there is one, and what stands behind the line; none
-// where it says no such step.
+// The step that the first line says, with a number below the bound, if there is one, and what follows the line. None where it
+// says no such step.
 pub(crate) fn next_step<'a>(
     alloc: Global,
     text: &'a [u8],
@@ -100,11 +100,10 @@ fn read_steps(
     Ok(steps)
 }
 
-/// The history that a text tells: `ghc-history 1`, `steps K`, K lines of steps, `end NEXT`, and nothing behind it. Else
-/// `History` with the first line that is wrong, counted from 1: one that is not of the form, where a line that is missing counts
-/// by the number that it would have; one whose step has the number of another, or one that is not below NEXT; or `Memory`, which
-/// comes only where heading and count are right and there is a step to read. Nothing is carried out. Time and memory grow with the
-/// text.
+/// The history that a text tells: `ghc-history 1`, `steps K`, K lines of steps, `end NEXT`, and nothing after it. Else `History`
+/// with the first line that is wrong, counted from 1, or `Memory`. A line is wrong where it is not of the form, or its step has the
+/// number of another or one not below NEXT. A missing line counts by the number that it would have. `Memory` comes only where
+/// heading and count are right and there is a step to read. Nothing is carried out. Time and memory grow with the text.
 pub fn read_history(alloc: Global, text: &[u8]) -> Result<History, Fault>
     ensures answer { Answered (TellsHistory text.now) (IsHistoryRefusal text.now) result }
     ensures heading { ¬ IsLine text.now 0 heading → result ≡ Err (fault_spec.History 1) }

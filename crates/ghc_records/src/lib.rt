@@ -1,4 +1,4 @@
-//! Records of steps, their replay, the journal, and the opening with which it begins.
+//! Records of steps, their replay, the journal and its opening; and the texts of histories and sessions (chronicles).
 #![tactic(auto)]
 
 mod addition;
@@ -71,7 +71,5 @@ pub use removal::Removal;
 pub use shelf::Shelf;
 pub use state::State;
 pub use step::Step;
-pub use step_text::{
-    push_act, push_goal_name, push_journal_step, push_record, push_step, push_variables,
-};
+pub use step_text::{push_goal_name, push_journal_step, push_record, push_step, push_variables};
 pub use written_entry::WrittenEntry;

@@ -182,8 +182,8 @@ impl NumberSet {
         }
     }
 
-    // Adds a number that is there already, or for which there is room: one step where it is greater than all others, else a search by
-    // halves and a move of those behind it, of 1,024 at most, or one look-up.
+    // Adds a number that is there already, or for which there is room. One greater than all others takes one step. Another takes a
+    // search by halves and a move of at most 1,024 after it, or one look-up.
     #[inline(always)]
     pub(crate) fn put(&mut self, number: u32)
         requires { (0 < self.old.room) ⊎ In number self.old.held }
@@ -212,8 +212,7 @@ impl NumberSet {
         }
     }
 
-    // Takes a number out: three comparisons at most, or a search by halves and a move of those behind it, of 1,024 at most, or one
-    // look-up.
+    // Takes a number out: at most three comparisons, or a search by halves and a move of at most 1,024 after it, or one look-up.
     pub(crate) fn remove(&mut self, number: u32)
         ensures { (n : ℕ) → In n self.new.held ↔ (In n self.old.held × (n ≢ number)) }
     {

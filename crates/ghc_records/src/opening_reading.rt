@@ -13,7 +13,7 @@ use ghc_term::Fault;
 use std::alloc::Global;
 use std::collections::BTreeSet;
 
-// So many steps, which the first lines say, with numbers of their own, below the next one, and what stands behind them; or the first of these
+// So many steps, which the first lines say, with numbers of their own, below the next one, and what follows them. Else the first of these
 // lines that is wrong, where the first is the third line of the text.
 pub(crate) fn read_opening_steps<'a>(
     alloc: Global,

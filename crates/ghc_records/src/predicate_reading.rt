@@ -79,7 +79,7 @@ fn read_predicate(alloc: Global, line: &[u8]) -> Result<Option<Predicate>, Alloc
     Ok(Some(Predicate { name, arity }))
 }
 
-// The predicate that the first line says, and what stands behind the line; none where it says none.
+// The predicate that the first line says, and what follows the line; none where it says none.
 fn next_predicate<'a>(
     alloc: Global,
     text: &'a [u8],
@@ -97,7 +97,7 @@ fn next_predicate<'a>(
     }
 }
 
-// So many predicates, which the first lines say, and what stands behind them; or the first of these lines that is wrong, where the
+// So many predicates, which the first lines say, and what follows them. Else the first of these lines that is wrong, where the
 // first has this number.
 pub(crate) fn read_predicates<'a>(
     alloc: Global,

@@ -15,7 +15,7 @@ pub struct Record {
     parts: Arc<Parts>,
 }
 
-// What a line of the step tells stands in front, so that it is told from one place in memory.
+// The fields that a line of the step shows come first, so that one place in memory has them.
 struct Parts {
     number: u32,
     goal: Option<GoalName>,
@@ -51,7 +51,7 @@ impl Record {
     ghost use Rattle.std.specs.Prelude.{option_copied};
     ghost use Rattle.ghc_records.specs.Journal.{step_of};
 
-    /// The record of a step of these parts. It fails for want of memory alone.
+    /// The record of a step of these parts. It fails only where memory is refused.
     pub fn new(
         alloc: Global,
         number: u32,

@@ -92,8 +92,8 @@ impl Records {
         self.slots.place_of(number)
     }
 
-    /// The records of these numbers in this order, shared with these. It fails for want of memory alone, and goes once over the
-    /// order, with some look-ups for each number, and for each variable that its step read or bound.
+    /// The records of these numbers in this order, shared with these. It fails only where memory is refused. It goes once over
+    /// the order, with some look-ups for each number, and for each variable that its step read or bound.
     pub fn in_order(&self, alloc: Global, order: &[u32]) -> Result<Records, AllocError>
         requires kept { (n : ℕ) → In n order.now → In n (numbers self.now.held) }
         requires distinct { AreDistinct order.now }
@@ -175,7 +175,7 @@ impl Records {
     }
 
     /// Takes the record of the step of this number away and gives it, if there was one; the others keep their order. It costs some
-    /// look-ups, and some for each variable that the step read or bound; the records behind it stay where they are.
+    /// look-ups, and some for each variable that the step read or bound. The records after it stay where they are.
     pub fn remove(&mut self, number: u32) -> Option<Record>
         ensures found { IfSome result (λ r. In r self.old.held × (r.number ≡ number)) }
         ensures rest { (r : Record) → In r self.old.held → r.number ≡ number → Picks (λ s. ¬ (s ≡ r)) self.old.held self.new.held }

@@ -44,8 +44,8 @@ fn is_above(list: &[u32], number: u32) -> bool
     }
 }
 
-// Adds a number that is there already, or for which there is room: one step where it is greater than all others, else a search by
-// halves and a move of those behind it.
+// Adds a number that is there already, or for which there is room. One greater than all others takes one step. Another takes a
+// search by halves and a move of those after it.
 #[inline(never)]
 pub(crate) fn put_rising(list: &mut Vec<u32>, number: u32)
     requires rising { IsRising list.old.items }
@@ -65,7 +65,7 @@ pub(crate) fn put_rising(list: &mut Vec<u32>, number: u32)
     }
 }
 
-// Takes a number out: a search by halves, and a move of those behind it.
+// Takes a number out: a search by halves, and a move of those after it.
 pub(crate) fn take_rising(list: &mut Vec<u32>, number: u32)
     requires { IsRising list.old.items }
     ensures rising { IsRising list.new.items }

@@ -1,4 +1,4 @@
-// Records in slots, in recorded order: one that is taken out leaves a gap, and those behind stay where they are.
+// Records in slots, in recorded order: one that is taken out leaves a gap, and those after it stay where they are.
 ghost use Rattle.std.specs.Prelude.{◌≡◌, ◌≢◌, ◌↔◌, ◌+◌, ◌<◌, ◌≤◌, ◌++◌, ◌∷◌, [], length, slice_set, filter, is_some, ℕ, IsTrue, IfSome, IfNone, IfOk, OnOk, Some, None};
 ghost use Rattle.ghc_term.specs.Lists.{In};
 ghost use Rattle.std.specs.Option.{option_copied};
@@ -57,8 +57,8 @@ fn is_just_below(place: usize, number: u32) -> bool
     (number as usize).checked_sub(place) == Some(1)
 }
 
-// The strays among the records of these slots as they will stand when the gaps are closed up: one pass, with a search for each
-// stray among those found. It fails for want of memory alone.
+// The strays among the records of these slots as they will stand when the gaps are closed up. It fails only where memory is
+// refused. It takes one pass, with a search for each stray among those found.
 fn strays_when_closed(alloc: Global, slots: &[Option<Record>]) -> Result<Strays, AllocError>
     requires { AreDistinct (numbers (held_in slots.now)) }
     ensures { IfOk result (λ strays. AreStraysOf (filter is_some slots.now) strays.held) }
@@ -194,7 +194,7 @@ impl Slots {
         self.make_room()
     }
 
-    // Puts a record in a slot behind the others, whose number no other has, where there is room: one step.
+    // Puts a record, whose number no other has, in a slot after the others, where there is room: one step.
     #[inline(always)]
     pub(crate) fn put(&mut self, step: Record)
         requires room { 0 < self.old.room }

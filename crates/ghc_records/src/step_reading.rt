@@ -118,8 +118,7 @@ fn step_with(
     }
 }
 
-// The step that a line says that begins with this number, from what stands behind the number and a space: the goal that
-// the step consumed, and its act.
+// The step of a line that begins with this number, from what follows the number and a space: the goal consumed, and the act.
 fn step_behind(alloc: Global, step: u32, bytes: &[u8]) -> Result<Option<Step>, AllocError>
     requires { 1 ≤ step }
     ensures some { IfOk result (λ found. IfSome found (λ s. SaysStep (decimal step ++ 32 ∷ bytes.now) s)) }

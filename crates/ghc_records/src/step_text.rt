@@ -77,17 +77,7 @@ fn write_act(act: &Act, out: &mut String) -> Result<(), AllocError>
     }
 }
 
-/// Writes an act at the end of `out`, which stays as it was where memory is refused: `by 2`, `eq`, `is`, `in T`, `end` or `ask BODY`. The
-/// cost is that of the text.
-pub fn push_act(act: &Act, out: &mut String) -> Result<(), AllocError>
-    ensures { string_bytes out.new ≡ (if is_ok result then string_bytes out.old ++ act_text act.now else string_bytes out.old) }
-{
-    let length = end_of(out);
-    let written = write_act(act, out);
-    or_cut_back(out, length, written)
-}
-
-// Writes the name of the goal that a step consumed, or `-` where it consumed none, and a space behind it.
+// Writes the name of the goal that a step consumed, or `-` where it consumed none, and a space after it.
 fn write_consumed(goal: Option<GoalName>, out: &mut String) -> Result<(), AllocError>
     ensures text { OnOk result (string_bytes out.new ≡ string_bytes out.old ++ consumed_text goal) }
     ensures begun { StartsWith (string_bytes out.new) (string_bytes out.old) }

@@ -5,7 +5,7 @@ use Rattle.ghc_term.specs.Lists.{In}
 use Rattle.ghc_records.specs.declared.number_set.Held.{Held}
 use Rattle.ghc_records.specs.declared.number_set.Held.TheVariants.{Nothing, One, Two, Three, Listed, Tabled}
 
--- Each number of the list is below those behind it.
+-- Each number of the list is below those after it.
 abbrev pub IsRising : List ℕ → Type 0
 IsRising [] = Unit
 IsRising (x ∷ xs) = ((n : ℕ) → In n xs → x < n) × IsRising xs

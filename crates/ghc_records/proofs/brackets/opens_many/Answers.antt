@@ -4,7 +4,7 @@ use Rattle.ghc_records.proofs.OpenBytes.{IsLeft, left_more, left_open}
 use Rattle.ghc_records.proofs.brackets.opens_many.Goals as goal
 use Rattle.ghc_records.proofs.brackets.opens_many.Goals.{After-open_behind-depth}
 
--- what is left behind the next byte
+-- what is left after the next byte
 next_left : (c : After-open_behind-depth) → IsLeft c.args.text.now (c.loop-byte.byte-index + 1) c.open_behind-depth.result
 next_left c =
     left_more c.args.text.now c.loop-byte.byte-index c.loop-byte.depth c.open_behind-depth.result c.loop-byte.invariant.few c.loop-byte-test.true c.open_behind-depth.ensures c.loop-byte.invariant.left
