@@ -16,15 +16,15 @@ LIMITS = [
     ("ghc_reader/src/depth.rt", "MOST_OPEN", "", "F6 `depth`"),
     ("ghc_reader/src/limits/levels.rt", "MOST_LEVELS", "ghc_reader most limit.Depth", "F6 `depth`"),
     ("ghc_reader/src/depth.rt", "MOST_OPEN_IN_BODY", "", "F1; the loader tests for the next limit first"),
-    ("ghc_records/src/brackets.rt", "MOST_OPEN", "ghc_records OpensFew text", "F24"),
+    ("ghc_records/src/text/brackets.rt", "MOST_OPEN", "ghc_records OpensFew text", "F24"),
     ("ghc_reader/src/limits.rt", "MOST_GOALS", "ghc_reader most limit.Goals", "F6 `goals`"),
     ("ghc_reader/src/limits.rt", "MOST_VARIABLES", "ghc_reader most limit.Variables", "F6 `variables`"),
     ("ghc_reader/src/limits.rt", "MOST_NODES", "ghc_reader most limit.Term", "F6 `term`"),
     ("ghc_term/src/printing.rt", "PRINT_LIMIT", "ghc_trace print_limit", "F6 `print`"),
     ("ghc_core/src/commit.rt", "KEPT_LIMIT", "ghc_records kept_limit", "F22; F24 in a history"),
     ("ghc_fire/src/effect.rt", "NO_STEP", "ghc_fire no_step", "F22"),
-    ("ghc_records/src/chronicle_reading.rt", "ENTRY_LIMIT", "ghc_records entry_limit", "F24"),
-    ("ghc_records/src/chronicle_reading.rt", "SPY_LIMIT", "ghc_records spy_limit", "F24"),
+    ("ghc_records/src/text/chronicle_reading.rt", "ENTRY_LIMIT", "ghc_records entry_limit", "F24"),
+    ("ghc_records/src/text/chronicle_reading.rt", "SPY_LIMIT", "ghc_records spy_limit", "F24"),
     ("ghc_console/src/command.rt", "RUN_LIMIT", "ghc_console run_limit", "`stopped limit`"),
 ]
 

@@ -17,8 +17,8 @@ use Rattle.ghc_fire.specs.contracts.effect.Effect as effect
 use Rattle.ghc_fire.specs.contracts.goals.Goals as goals
 use Rattle.ghc_records.specs.contracts.record.Record as taken
 use Rattle.ghc_records.specs.contracts.records.Records as records
-use Rattle.ghc_records.specs.contracts.slots.Slots as slots
-use Rattle.ghc_records.specs.contracts.use_index.UseIndex as use_index
+use Rattle.ghc_records.specs.contracts.table.slots.Slots as slots
+use Rattle.ghc_records.specs.contracts.table.use_index.UseIndex as use_index
 use Rattle.ghc_records.specs.contracts.shelf.Shelf as shelf
 use Rattle.ghc_records.specs.contracts.state.State as state
 use Rattle.ghc_records.specs.contracts.history.History as history

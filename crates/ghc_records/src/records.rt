@@ -5,8 +5,8 @@ ghost use Rattle.ghc_records.specs.Uses.{Binds};
 ghost use Rattle.ghc_records.specs.UseIndex.{StepDependsOn, StepBinds, HasRoomToKeep, IsMakerFor};
 
 use crate::record::Record;
-use crate::slots::Slots;
-use crate::use_index::{UseIndex, step_of_name};
+use crate::table::slots::Slots;
+use crate::table::use_index::{UseIndex, step_of_name};
 use ghc_term::VarName;
 use std::alloc::{AllocError, Global};
 use std::marker::Model;

@@ -2,8 +2,8 @@
 use Rattle.std.specs.Prelude.{ℕ, List, [], ◌∷◌, ◌-◌, ◌<◌, ◌≤◌, min, vec_len, vec_capacity}
 use Rattle.indexmap.specs.IndexSet.{spare}
 use Rattle.ghc_term.specs.Lists.{In}
-use Rattle.ghc_records.specs.declared.number_set.Held.{Held}
-use Rattle.ghc_records.specs.declared.number_set.Held.TheVariants.{Nothing, One, Two, Three, Listed, Tabled}
+use Rattle.ghc_records.specs.declared.table.number_set.Held.{Held}
+use Rattle.ghc_records.specs.declared.table.number_set.Held.TheVariants.{Nothing, One, Two, Three, Listed, Tabled}
 
 -- Each number of the list is below those after it.
 abbrev pub IsRising : List ℕ → Type 0

@@ -1,0 +1,20 @@
+// The texts of steps, histories and chronicles: written, read, and refused at their first wrong line.
+pub(crate) mod asking_reading;
+pub(crate) mod brackets;
+pub(crate) mod chronicle_laws;
+pub(crate) mod chronicle_lines;
+pub(crate) mod chronicle_reading;
+pub(crate) mod chronicle_writing;
+pub(crate) mod cutting;
+pub(crate) mod entries_reading;
+pub(crate) mod entry_reading;
+pub(crate) mod entry_text;
+pub(crate) mod history_laws;
+pub(crate) mod history_lines;
+pub(crate) mod history_range;
+pub(crate) mod history_reading;
+pub(crate) mod history_writing;
+pub(crate) mod opening_reading;
+pub(crate) mod predicate_reading;
+pub(crate) mod step_reading;
+pub(crate) mod step_text;

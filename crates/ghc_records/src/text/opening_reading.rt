@@ -1,0 +1,48 @@
+// Reading the steps of the opening of a chronicle.
+ghost use Rattle.std.specs.Prelude.{◌≡◌, ◌+◌, ◌≤◌, ◌⊎◌, ℕ, List, drop, length, IfOk, IfErr};
+ghost use Rattle.ghc_term.specs.declared.fault.Fault.{Fault as fault_spec};
+ghost use Rattle.ghc_records.specs.Numbers.{kept_limit};
+ghost use Rattle.ghc_records.specs.Journal.{Step as step_spec};
+ghost use Rattle.ghc_records.specs.HistoryText.{SaysStep, pieces_of};
+ghost use Rattle.ghc_records.specs.Sections.{TellsItems, TellsNoMoreItems};
+ghost use Rattle.ghc_records.specs.Chronicle.{AreBelow};
+
+use crate::step::Step;
+use crate::text::history_reading::{add_number, next_step};
+use ghc_term::Fault;
+use std::alloc::Global;
+use std::collections::BTreeSet;
+
+// So many steps, which the first lines say, with numbers of their own, below the next one, and what follows them. Else the first of these
+// lines that is wrong, where the first is the third line of the text.
+pub(crate) fn read_opening_steps<'a>(
+    alloc: Global,
+    text: &'a [u8],
+    count: u32,
+    next: u32,
+) -> Result<(Vec<Step>, &'a [u8]), Fault>
+    requires { count ≤ kept_limit }
+    ensures told { IfOk result (λ read. TellsItems SaysStep (AreBelow next) (pieces_of text.now) read.0.items) }
+    ensures all { IfOk result (λ read. length read.0.items ≡ count) }
+    ensures rest { IfOk result (λ read. drop count (pieces_of text.now) ≡ pieces_of read.1.now) }
+    ensures fault { IfErr result (λ fault. (fault ≡ fault_spec.Memory) ⊎ ((items : List step_spec) × (fault ≡ fault_spec.History (length items + 3))
+        × TellsNoMoreItems SaysStep (AreBelow next) (pieces_of text.now) count items)) }
+{
+    let mut steps = Vec::new(alloc);
+    let mut numbers = BTreeSet::new(alloc);
+    let mut rest = text;
+    for index in 0..count {
+        match next_step(alloc, rest, Some(next)) {
+            Ok(Some((step, further))) => {
+                if !add_number(&mut numbers, step.number())? {
+                    return Err(Fault::History { line: index + 3 });
+                }
+                steps.push(step)?;
+                rest = further;
+            }
+            Ok(None) => return Err(Fault::History { line: index + 3 }),
+            Err(_) => return Err(Fault::Memory),
+        }
+    }
+    Ok((steps, rest))
+}
