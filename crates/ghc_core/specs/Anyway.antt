@@ -15,13 +15,10 @@ use Rattle.ghc_core.specs.AskedGoals.{AskFails}
 use Rattle.ghc_core.specs.Streams.{StreamFails}
 use Rattle.ghc_core.specs.Refusals.{IsToldWhere, OrElse, UndoFails, RedoFails}
 
--- An attempt finds no such goal, or no such clause of the goal's predicate.
-abbrev pub FindsNothing : World → GoalName → Option ℕ → Fault → Type 0
-FindsNothing w g choice f = ((f ≡ Fault.NoGoal) × AttemptAnswers w g choice (attempt.refused Fault.NoGoal)) ⊎ ((f ≡ Fault.NoClause) × AttemptAnswers w g choice (attempt.refused Fault.NoClause))
-
 -- A hand is not given a proposal: there is no such hand; or else there is no such goal, or no such clause.
 pub record IsNotProposedAnyway (w : World) (hands : Hands) (h : ℕ) (g : GoalName) (choice : Option ℕ) (f : Fault) : Type 0 where
-  pub first : OrElse (IsToldWhere Fault.Command (¬ IsHand hands h)) (FindsNothing w g choice) f
+  pub first : OrElse (IsToldWhere Fault.Command (¬ IsHand hands h)) 
+      (λ e. ((e ≡ Fault.NoGoal) × AttemptAnswers w g choice (attempt.refused Fault.NoGoal)) ⊎ ((e ≡ Fault.NoClause) × AttemptAnswers w g choice (attempt.refused Fault.NoClause))) f
 
 -- The hand holds nothing, or the goal of what it holds is not there any more.
 abbrev pub HoldsNoGoal : World → Hands → ℕ → Type 0

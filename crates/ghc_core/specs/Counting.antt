@@ -23,10 +23,6 @@ FiresUnless Holds m n = (Holds → n ≡ m) × ((¬ Holds) → n ≡ fired m)
 abbrev pub TriesUnless : Type 0 → Meter → Meter → Type 0
 TriesUnless Holds m n = (Holds → n ≡ m) × ((¬ Holds) → n ≡ tried m)
 
--- There is the hand, and it holds a proposal.
-abbrev pub HoldsProposal : Hands → ℕ → Type 0
-HoldsProposal hands h = IsHand hands h × ((p : Proposal) × (finite.get hands.held h ≡ Some p))
-
 -- A redo of step n is refused whatever memory is left: before it fires.
 abbrev pub IsNotRedoneAnyway : World → ℕ → Type 0
 IsNotRedoneAnyway w n = (f : Fault) × IsNotObeyedAnyway w (redo n) f
@@ -39,7 +35,7 @@ CountsInObeying w c m n = n ≡ m
 -- Meeting the event takes the core's counts from m to n: a commit fires once where its hand holds a proposal, a note tries once unless there is no goal to try, and a command counts as it does where it is obeyed; a proposal does not count here.
 abbrev pub Counts : World → Hands → Event → Meter → Meter → Type 0
 Counts w hands (propose h g choice) m n = n ≡ m
-Counts w hands (commit h) m n = FiresWhere (HoldsProposal hands h) m n
+Counts w hands (commit h) m n = FiresWhere (IsHand hands h × ((p : Proposal) × (finite.get hands.held h ≡ Some p))) m n
 Counts w hands (note g) m n = TriesUnless (IsNoCandidate w g) m n
 Counts w hands (command c) m n = CountsInObeying w c m n
 

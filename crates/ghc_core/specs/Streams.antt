@@ -20,14 +20,11 @@ use Rattle.ghc_core.specs.Events.{Command, input, finish, undo, roll, redo, arra
 abbrev pub IsStreamAt : World → ℕ → GoalName → VarName → Type 0
 IsStreamAt w k g s = finite.get w.state.goals g ≡ Some (stream k s)
 
--- The tail of stream k ends in a value.
-abbrev pub HasBoundTail : World → ℕ → Type 0
-HasBoundTail w k = (g : GoalName) × (s : VarName) × (e : Tree) × IsStreamAt w k g s × EndsIn (value_at w.state.store) s e × IsValue e
-
 -- Why stream k takes neither input nor close: there is no such stream, or it is closed; or else its tail ends in a value; or else the world is full.
 pub record StreamFails (w : World) (k : ℕ) (f : Fault) : Type 0 where
   pub first : OrElse (IsToldWhere Fault.NoStream ((g : GoalName) (s : VarName) → ¬ IsStreamAt w k g s))
-      (OrElse (IsToldWhere Fault.TailBound (HasBoundTail w k)) (IsToldWhere Fault.Full (IsFull w))) f
+      (OrElse (IsToldWhere Fault.TailBound ((g : GoalName) × (s : VarName) × (e : Tree) × IsStreamAt w k g s × EndsIn (value_at w.state.store) s e × IsValue e))
+        (IsToldWhere Fault.Full (IsFull w))) f
 
 -- The record is that of the act on stream k.
 abbrev pub IsOfStream : ℕ → Act → Record → Type 0

@@ -4,7 +4,7 @@ ghost use Rattle.ghc_term.specs.declared.fault.Fault.{Fault as fault_spec};
 ghost use Rattle.ghc_core.specs.Answers.{Answers, Plays};
 ghost use Rattle.ghc_core.specs.Anyway.{IsNotProposedAnyway, IsNotCommittedAnyway};
 ghost use Rattle.ghc_core.specs.Core.{Stays};
-ghost use Rattle.ghc_core.specs.Counting.{FiresWhere, HoldsProposal};
+ghost use Rattle.ghc_core.specs.Counting.{FiresWhere, Counts};
 ghost use Rattle.ghc_core.specs.EventCode.{event_of, reply_of};
 ghost use Rattle.ghc_core.specs.Events.{propose, commit, refused};
 ghost use Rattle.ghc_core.specs.Legal.{IsReachable};
@@ -120,7 +120,7 @@ impl World {
         ensures anyway { (f : fault_spec) → IsNotCommittedAnyway self.old.core.world self.old.hands hand f → reply_of result ≡ refused f }
         ensures moves { IsRefusal (reply_of result) ⊎ Moves self.old.core self.new.core }
         ensures stays { IsRefusal (reply_of result) → Stays self.old.core self.new.core }
-        ensures counted { FiresWhere (HoldsProposal self.old.hands hand) self.old.core.meter self.new.core.meter }
+        ensures counted { Counts self.old.core.world self.old.hands (commit hand) self.old.core.meter self.new.core.meter }
         ensures meter { self.new.meter ≡ self.old.meter }
     {
         if !self.hands.has(hand) {
