@@ -1,4 +1,4 @@
-// Two workers take the steps of two unifications, each goal once.
+// Workers of a round take each goal that is ready once, and a goal that wakes in the round once more.
 ghost use Rattle.std.specs.Prelude.{◌≡◌, ◌+◌, length};
 ghost use Rattle.ghc_records.specs.Journal.{history};
 ghost use Rattle.ghc_shared.specs.inner.Calls.{code_of};
@@ -86,22 +86,12 @@ pub(crate) fn counts(report: &RoundReport) -> (usize, usize, usize, usize) {
     sums
 }
 
-#[test]
-fn two_unifications(rt: HostRuntime) -> Result<(), Fail> {
-    let core = two(rt.alloc()).ok_or("a core")?;
-    assert_eq!(rt; core.meter().firings(), 0);
-    let Ok(opening) = Opening::new(rt.alloc(), core, 2) else {
-        return Err("memory for the table".into());
-    };
-    two_named::<Brand, _>(&rt, rt.alloc(), opening)
-}
-
-// All is taken, both goals by a step, and nothing is left; the journal comes again where a new core is given its events.
-fn two_named<N: Naming + Send + Sync, R: Threads + Wait + Abort + Sync>(
+// What a round over the first two goals leaves, and its report.
+fn worked_off<N: Naming + Send + Sync, R: Threads + Wait + Abort + Sync>(
     rt: &R,
     alloc: Global,
     opening: Opening<Core>,
-) -> Result<(), Fail>
+) -> Option<(Core, RoundReport)>
     requires table { opening.table ≡ N.table }
     requires ledger { (opening.name ≡ N.name) × (opening.passes + 1 ≡ N.parts) }
     requires passes { opening.passes ≡ N.passes }
@@ -109,10 +99,10 @@ fn two_named<N: Naming + Send + Sync, R: Threads + Wait + Abort + Sync>(
     requires base { length (history opening.value.world.opening opening.value.world.journal) ≡ N.base }
 {
     let Ok((shared, passes)) = opening.named::<N>(alloc) else {
-        return Err("memory for the passes".into());
+        return None;
     };
     if passes.is_empty() || passes.len() > 64 {
-        return Err("two passes".into());
+        return None;
     }
     let names = [goal(1), goal(2)];
     let spies = SpySet::new(alloc);
@@ -128,15 +118,40 @@ fn two_named<N: Naming + Send + Sync, R: Threads + Wait + Abort + Sync>(
         &names,
         &Open,
     ) else {
-        return Err("memory for the round".into());
+        return None;
     };
+    Some((shared.close(passes), report))
+}
+
+// All is taken, both goals by a step, and nothing is left; the journal comes again where a new core is given its events.
+#[test]
+fn two_unifications(rt: HostRuntime) -> Result<(), Fail> {
+    let core = two(rt.alloc()).ok_or("a core")?;
+    assert_eq!(rt; core.meter().firings(), 0);
+    let Ok(opening) = Opening::new(rt.alloc(), core, 2) else {
+        return Err("memory for the table".into());
+    };
+    let (core, report) = worked_off::<Brand, _>(&rt, rt.alloc(), opening).ok_or("a round")?;
     assert_eq!(rt; counts(&report), (2, 2, 0, 2));
     assert!(rt; report.stop.is_none());
-    let core = shared.close(passes);
     assert_eq!(rt; core.records().len(), 2);
     assert_eq!(rt; core.meter().firings(), 2);
     assert_eq!(rt; core.meter().tries(), 0);
-    let new = two(alloc).ok_or("a core")?;
-    assert!(rt; is_played_again(alloc, core.journal(), new));
+    let new = two(rt.alloc()).ok_or("a core")?;
+    assert!(rt; is_played_again(rt.alloc(), core.journal(), new));
+    Ok(())
+}
+
+// The one worker finds that 0.1 waits, and notes it; the step of 0.2 binds what it waits for, so it is offered again and stepped.
+#[test]
+fn woken_goal_is_offered(rt: HostRuntime) -> Result<(), Fail> {
+    let core = core_of(rt.alloc(), b"p(1) :- true | true.", b"p(X), X = 1").ok_or("a core")?;
+    let Ok(opening) = Opening::new(rt.alloc(), core, 1) else {
+        return Err("memory for the table".into());
+    };
+    let (core, report) = worked_off::<Brand, _>(&rt, rt.alloc(), opening).ok_or("a round")?;
+    assert_eq!(rt; counts(&report), (3, 3, 0, 2));
+    assert!(rt; report.stop.is_none());
+    assert_eq!(rt; core.records().len(), 2);
     Ok(())
 }
