@@ -6,7 +6,7 @@ some_line : (t : List ℕ) (ts : List (List ℕ)) → text_lines (t ∷ ts) ≢ 
 some_line [] ts e = cc
 some_line (b ∷ bs) ts e = cc
 
--- Lines are told, and `none` where there is no line.
+-- The text has the lines, or `none` where there is no line.
 pub lines_told : (texts : List (List ℕ)) (lines text : List ℕ) → lines ≡ text_lines texts → (lines ≡ [] → text ≡ lined (codes "none")) → (lines ≢ [] → text ≡ lines) → text ≡ lines_or_none texts
 lines_told [] lines text are none some = none are
 lines_told (t ∷ ts) lines text are none some = some (λ e. some_line t ts (sym are ∙ e)) ∙ are

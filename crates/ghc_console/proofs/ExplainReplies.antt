@@ -1,4 +1,4 @@
--- What is said of a slice that is told, and of who holds a variable.
+-- What a reply says of a slice, and of who holds a variable.
 use Rattle.ghc_console.proofs.CitedWords.{◌≡◌, ◌≢◌, ◌⊎◌, ◌<◌, length, Fault, IsTextOf, IsVariableNamed, Tree, variable, value_at, print_limit, refusal, ◌++◌, inl, inr, refl, sym, subst, ap, ◌∙◌, ℕ, List, [], ◌∷◌, None, Some, Record, World, VarName}
 use Rattle.std.proofs.Common.{append_assoc}
 use Rattle.std.specs.FinMap as finite
@@ -16,7 +16,7 @@ use Rattle.ghc_term.specs.declared.goal_name.GoalName.{GoalName}
 use Rattle.ghc_trace.specs.GoalLines.{IsTooLong}
 use Rattle.ghc_console.specs.Explaining.{RepliesToExplain, RepliesToExplainGoal, goal_is_too_long, too_long_to_explain}
 
--- a number that is told is that of a record
+-- each of the numbers is that of a record
 of_number : (rs : List Record) (n : ℕ) → In n (numbers rs) → (r : Record) × In r rs × (r.number ≡ n)
 of_number [] n i = absurd i
 of_number (r ∷ rs) n (inl e) = (r, inl refl, sym e)

@@ -72,11 +72,11 @@ rolls_next w v u ns n old mid new done one = (done.0 ++ one.0, and_next done.1 o
 pub rolls_some : (w v : World) (ns : List ℕ) (i : ℕ) (old new : List ℕ) → AddsRollbacks w (take i ns) old new v → AddsSomeRollbacks w ns old new v
 rolls_some w v ns i old new done = (take i ns, drop i ns, sym (take-append-drop i ns), done)
 
--- all are told, and how many are kept
+-- the text has all, and how many are kept
 pub told_all : (w v : World) (ns old mid new : List ℕ) → AddsRollbacks w ns old mid v → old ≡ [] → new ≡ mid ++ kept_line v → TellsKept w ns new v
 told_all w v ns old mid new done empty is = subst (λ t. TellsKept w ns t v) (sym (is ∙ ap (λ t. t ++ kept_line v) (done.2 ∙ ap (λ t. t ++ done.0) empty))) (rolled_all done.1)
 
--- some are told, and that memory was refused
+-- the text has some, and that memory was refused
 pub told_some : (w v : World) (ns mid new : List ℕ) → AddsSomeRollbacks w ns [] mid v → new ≡ mid ++ refusal fault.Memory → TellsKept w ns new v
 told_some w v ns mid new some is = subst (λ t. TellsKept w ns t v) (sym (is ∙ ap (λ t. t ++ refusal fault.Memory) some.3.2)) (rolled_some some.1 some.2 some.3.1)
 

@@ -70,7 +70,7 @@ module _ (w : World) (roots : Record → Type 0) (slice rest : List Record) (sta
   behind_kept a b (directly d) = (ends w.kept b a d).1
   behind_kept a b (further {b = m} f d) = (ends w.kept b m d).1
 
-  -- the rest behind the slice gives the old state
+  -- the rest after the slice gives the old state
   pub way_back : Replays w.opening.program w.opening.query (slice ++ rest) w.state
   way_back =
       let good = reached_good standing in

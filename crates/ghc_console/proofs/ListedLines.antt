@@ -3,15 +3,15 @@ use Rattle.ghc_console.proofs.CitedWords.{◌≡◌, ◌≢◌, ◌⊎◌, ◌�
 use Rattle.ghc_records.proofs.ChronicleWritten.{there}
 use Rattle.ghc_console.proofs.RunLines.{Going, going_broken, going_end, going_last, going_on, going_start, one_told}
 
--- lines that were told and written
+-- lines whose text was written
 abbrev pub Wrote : List (List ℕ) → Option (List ℕ) → Option (List ℕ) → Type 0
 Wrote lines a b = (text : List ℕ) × AreLinesTold lines text × Appends a b text
 
--- lines that were told, of which a front was written
+-- lines of whose text a front was written
 abbrev pub WroteFront : List (List ℕ) → Option (List ℕ) → Option (List ℕ) → Type 0
 WroteFront lines a b = (text : List ℕ) × AreLinesTold lines text × ((n : ℕ) × Appends a b (take n text))
 
--- Lines, and others behind them.
+-- Lines, and others after them.
 pub wrote_then : {E : Type 0} (xs ys : List (List ℕ)) (a b c : Option (List ℕ)) (result : Result Unit E) → Wrote xs a b → WritesTold ys b c result → WritesTold (xs ++ ys) a c result
 wrote_then xs ys a b c result first more = going_last (xs ++ ys) ys a b c result (going_on (xs ++ ys) xs ys a a b first.0 (going_start (xs ++ ys) a) first.1 first.2) more
 
@@ -23,7 +23,7 @@ front_then xs ys a b c first more =
 pub front_less : (xs ys : List (List ℕ)) (a b : Option (List ℕ)) → WroteFront xs a b → WroteFront (xs ++ ys) a b
 front_less xs ys a b first = going_broken (xs ++ ys) xs ys a a b first.0 first.2.0 (going_start (xs ++ ys) a) first.1 first.2.1
 
--- the thing at a place, in front of those behind it
+-- the thing at a place, before those after it
 pub drop_there : {A : Type 0} (xs : List A) (i : ℕ) (x : A) → slice_get xs i ≡ Some x → drop i xs ≡ x ∷ drop (i + 1) xs
 drop_there xs i x e =
     let t = there xs i (slice_get_within xs i x e) in
@@ -44,7 +44,7 @@ module _ {A : Type 0} (f : A → List ℕ) (all : List (List ℕ)) (xs : List A)
   pub lines_broken : (i : ℕ) (x : A) (a b c : Option (List ℕ)) → drop i xs ≡ x ∷ drop (i + 1) xs → Going all (lines_of_each f (drop i xs)) a b → WroteFront (lined (f x) ∷ []) b c → WroteFront all a c
   lines_broken i x a b c here g told = going_broken all (lined (f x) ∷ []) (lines_of_each f (drop (i + 1) xs)) a b c told.0 told.2.0 (subst (λ l. Going all (lines_of_each f l) a b) here g) told.1 told.2.1
 
-  -- all were told
+  -- all were written
   pub lines_done : (i : ℕ) (a b : Option (List ℕ)) → length xs ≤ i → Going all (lines_of_each f (drop i xs)) a b → Wrote all a b
   lines_done i a b past g = going_end all a b (subst (λ l. Going all (lines_of_each f l) a b) (drop_of_length-le xs {i = i} past) g)
 

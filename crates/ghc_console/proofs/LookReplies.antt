@@ -10,7 +10,7 @@ use Rattle.ghc_console.specs.TextLines.{text_or_none}
 use Rattle.ghc_console.specs.Looks.{RepliesToClauses, RepliesToSince, TellsCausesAt, TellsCausesOf, TellsClause, TellsClausesFor, tells_since}
 use Rattle.ghc_console.proofs.RecordLines.{drop_at}
 
--- From the place of a step on, the record is told.
+-- The text is the record from the place of a step on.
 pub since_told : (w : World) (n : ℕ) (ss : SlotList) (first last : ℕ) (text : List ℕ) → w.kept ≡ held_in ss → HasNumberIn ss first n → length ss ≤ last
     → text ++ record_lines (drop (rank ss last) (held_in ss)) ≡ record_lines (drop (rank ss first) (held_in ss)) → RepliesToSince w n text
 since_told w n ss first last text is found end told =
@@ -58,7 +58,7 @@ causes_on kept ss place before after (inl (r, text, stands, causes, added)) (tol
 causes_on kept ss place before after (inr (gap, same)) (told, of_each, is) =
     (told, subst (λ k. AllZip (TellsCausesOf kept) (take k (held_in ss)) told) (sym (rank_gap ss place gap)) of_each, same ∙ is)
 
--- Behind the last place they are told of all.
+-- After the last place, the text tells those of all.
 pub all_causes : (kept : List Record) (ss : SlotList) (place : ℕ) (text : List ℕ) → kept ≡ held_in ss → length ss ≤ place → TellsCausesUpTo kept ss place text
     → (told : List (List ℕ)) × AllZip (TellsCausesOf kept) kept told × (text ≡ concat told)
 all_causes kept ss place text is end (told, of_each, text_is) =
@@ -67,7 +67,7 @@ all_causes kept ss place text is end (told, of_each, text_is) =
     let whole : take (rank ss place) held ≡ kept = take_all (rank ss place) held (omega (arith, behind)) ∙ sym is in
     (told, subst (λ rs. AllZip (TellsCausesOf kept) rs told) whole of_each, text_is)
 
--- It is told, or `none` in its place.
+-- The text stays, or `none` comes in its place.
 pub told_or_none : (text after : List ℕ) → (text ≡ [] → after ≡ lined (codes "none")) → (text ≢ [] → after ≡ text) → after ≡ text_or_none text
 told_or_none [] after none some = none refl
 told_or_none (b ∷ bs) after none some = some (λ e. cc)
@@ -83,6 +83,6 @@ module _ (P : Program) (ts : List Tree) (S : VarName → Option Tree) where
       let text : after ≡ text_lines all = added ∙ ap (λ l. l ++ (line ++ codes "\n")) is ∙ sym (lines_joined told (line ∷ [])) in
       (all, subst (λ js. AllZip (TellsClause P ts S) js all) (sym (take_more ks i 0 within)) (one_more (TellsClause P ts S) (take i ks) told (get_or ks i 0) line of_each says), text)
 
--- What is told of the goal that is found is the reply.
+-- The text of the goal that is found is the reply.
 pub clauses_told : (w : World) (g : GoalName) (goals : Goals) (found : Option Goal) (text : List ℕ) → goals ≡ w.state.goals → found ≡ finite.get goals g → TellsClausesFor w found text → RepliesToClauses w g text
 clauses_told w g goals found text same there told = subst (λ o. TellsClausesFor w o text) (there ∙ ap (λ gs. finite.get gs g) same) told

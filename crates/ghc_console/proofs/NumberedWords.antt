@@ -2,11 +2,11 @@
 use Rattle.ghc_console.proofs.CitedWords.{◌≡◌, ◌≢◌, ℕ, ◌+◌, All, Option, Some, None, inl, inr, List, [], ◌∷◌, ◌++◌, eqb, take, drop, refl, sym, ap, ◌∙◌, slice_split-cons_yes, slice_split, numbered_of, variable_numbered, variable_of_parts, number_of}
 use Rattle.ghc_console.proofs.WordLemmas.{IsOnePartOrNone, split-first, split-last, one_part_or_none, no_number}
 
--- behind a first bar, the parts are those of what stands there
+-- after a first bar, the parts are those of what stands there
 at_bar : (numbers : List ℕ) → numbered_of (95 ∷ numbers) ≡ variable_of_parts ([] ∷ slice_split (λ b. eqb b 95) numbers)
 at_bar numbers = ap variable_of_parts (slice_split-cons_yes (λ b. eqb b 95) 95 numbers refl)
 
--- the part in front of the second bar, and all behind it
+-- the part before the second bar, and all after it
 pub two_bars : (numbers : List ℕ) (i : ℕ) → numbers ≡ take i numbers ++ 95 ∷ drop (i + 1) numbers → All (λ b. b ≢ 95) (take i numbers)
     → numbered_of (95 ∷ numbers) ≡ variable_numbered (number_of (take i numbers)) (number_of (drop (i + 1) numbers))
 two_bars numbers i e plain =

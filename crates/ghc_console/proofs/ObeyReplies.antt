@@ -28,7 +28,7 @@ pub opening_left : {T E : Type 0} (w u v : World) (c : Command) (text : List ℕ
 opening_left w u v c text (Ok t) told kept same = obeyed_leaves_opening w v c text told
 opening_left w u v c text (Err e) told kept same = ap (λ (z : World). z.opening) (kept ∙ same)
 
--- What a command counted it fired, where nothing was fired before and behind it.
+-- What a command counted it fired, where nothing was fired before and after it.
 pub fires_as_counted : (w : World) (c : Command) (m n : Meter) (before after : ℕ) → m.firings ≡ before → CountsInObeying w c m n → after ≡ n.firings → FiresInObeying c before after
 fires_as_counted w (redo k) m n before after old counted new = elim (redo_decided w k) [
   | inl refused ↦ inl (new ∙ ap (λ (z : Meter). z.firings) (counted.0 refused) ∙ old)

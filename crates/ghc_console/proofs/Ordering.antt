@@ -1,7 +1,7 @@
 -- Numbers that are gathered word by word.
 use Rattle.ghc_console.proofs.CitedWords.{◌≡◌, ◌⊎◌, ◌∙◌, inl, inr, ℕ, List, [], ◌∷◌, ◌++◌, refl, sym, ap, subst, append_assoc, append-nil, Option, Some, None, BeginsWithNumber, in_front, number_of}
 
--- the numbers that are still to come, behind those that are there
+-- the numbers that are still to come, after those that are there
 abbrev pub behind : List ℕ → Option (List ℕ) → Option (List ℕ)
 behind numbers None = None
 behind numbers (Some more) = Some (numbers ++ more)

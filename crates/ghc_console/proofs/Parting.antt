@@ -19,7 +19,7 @@ first_there [] (suc i) n rest e = cc
 first_there (x ∷ xs) zero n rest e = cc
 first_there (x ∷ xs) (suc i) n rest e = first_there xs i n rest e
 
--- Of the numbers so far those outside of the part are told, and of those ahead the part has these.
+-- The numbers so far that are outside of the part are in `told`, and those ahead that are in it are its rest.
 pub record IsParting (part before ahead : List ℕ) (next : ℕ) (told : List ℕ) : Type 0 where
   pub outside : Picks (λ n. ¬ In n part) before told
   pub inside : Picks (λ n. In n part) ahead (drop next part)

@@ -2,7 +2,7 @@
 use Rattle.ghc_console.proofs.CitedWords.{◌≡◌, ◌≢◌, ℕ, ◌+◌, true, false, cond, eqb, zero, suc, All, Option, Some, None, inl, inr, List, [], ◌∷◌, ◌++◌, take, drop, refl, sym, ap, ◌∙◌, arith, false≢true, slice_split, IsAscii, is_name, predicate_named, predicate_of, predicate_of_parts, number_of}
 use Rattle.ghc_console.proofs.WordLemmas.{IsOnePartOrNone, ascii_names, split-first, split-last, one_part_or_none, no_number}
 
--- the part in front of the first stroke, and all behind it
+-- the part before the first stroke, and all after it
 pub at_stroke : (word : List ℕ) (i : ℕ) → word ≡ take i word ++ 47 ∷ drop (i + 1) word → All (λ b. b ≢ 47) (take i word)
     → predicate_of word ≡ predicate_named (take i word) (number_of (drop (i + 1) word))
 at_stroke word i e plain =

@@ -12,7 +12,7 @@ line_answered s t line text ends short h = subst (IsReply s line text t) h.1 (re
 line_answered s t line text (asks root limit) short h = (h.0, short, h.1)
 line_answered s t line text (lists listed) short h = (h.0, short, h.1)
 
--- The text of a run for which a command asks is its reply, behind which the session goes on.
+-- The text of a run for which a command asks is its reply, after which the session goes on.
 run_answers : (s t : SessionState) (c : LineCommand) (root : Option GoalName) (limit : ℕ) (text : List ℕ) → AsksForRun s.world c root limit → HasRun s root limit text t → Answers s c text t × (quits c ≡ false)
 run_answers s t c root limit text (leap_asks most) ran = (record { told = ran.run; spies = ran.spies; workers = ran.workers }, refl)
 run_answers s t c root limit text (skip_asks g b there) ran = (record { told = skips b there ran.run; spies = ran.spies; workers = ran.workers }, refl)
@@ -24,7 +24,7 @@ run_replied s t line root limit text short asked ran =
     let answers = run_answers s t (command_of line) root limit text asked ran in
     subst (IsReply s line text t) answers.1 (replies short answers.0)
 
--- What is told of a listing for which a command asks is its reply, behind which the session goes on; or memory was refused.
+-- The text of a listing for which a command asks is its reply, after which the session goes on; or memory was refused.
 listing_answers : (s : SessionState) (c : LineCommand) (listed : Listing) (text : List ℕ) → AsksForListing c listed → IsListing s.world s.spies listed text → (Answers s c text s × (quits c ≡ false)) ⊎ (text ≡ refusal fault.Memory)
 listing_answers s c listed text records_asks lines = inl (record { told = (lines, refl); spies = refl; workers = refl }, refl)
 listing_answers s c listed text save_asks (inl lines) = inl (record { told = (lines, refl); spies = refl; workers = refl }, refl)

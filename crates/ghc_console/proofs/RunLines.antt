@@ -2,7 +2,7 @@
 use Rattle.ghc_console.proofs.CitedWords.{◌≡◌, ℕ, zero, suc, ◌+◌, ◌-◌, ◌<◌, ◌≤◌, List, [], ◌∷◌, ◌++◌, length, map, take, drop, refl, sym, ap, ◌∙◌, subst, inl, inr, ◌⊎◌, slice_get, append_assoc, append-nil, take-append-drop, drop_of_length-le, length-append, arith, Option, Some, None, Result, Ok, Err, length-drop, slice_get_cases, take-append_seam, drop-append_seam, Appends, Appends-trans, Appends-nil, GoalName, In, in_at, in_right, Record, numbers, AreDistinct, record_once, NotesByGoal, World, Spies, Report, Mode, Runs, RunsIn, Takes, at_start, and_step, and_tries, RunsAddAtTheEnd, AreLinesTold, no_line, and_line, IsAdded, IsLineTold, TellsRun, last_of, mode_of, run_lines, step_line, WritesTold}
 use Rattle.ghc_console.proofs.RecordLines.{drop_at}
 
--- Lines that are told, and more behind them.
+-- Lines of a text, and more after them.
 told_then : (xs ys : List (List ℕ)) (t u : List ℕ) → AreLinesTold xs t → AreLinesTold ys u → AreLinesTold (xs ++ ys) (t ++ u)
 told_then xs ys t u no_line q = q
 told_then xs ys t u (and_line {line = x} {told = told} {text = text} {lines = lines} h p) q =
@@ -21,7 +21,7 @@ plain_told (x ∷ xs) = and_line (inl refl) (plain_told xs)
 pub one_told : (x text : List ℕ) → IsLineTold x text → AreLinesTold (x ∷ []) text
 one_told x text h = subst (AreLinesTold (x ∷ [])) (append-nil text) (and_line h no_line)
 
--- of all the lines a front was told; with the rest told behind it, all are
+-- the text has a front of all the lines; with the rest after it, it has all
 pub record Going (all rest : List (List ℕ)) (old now : Option (List ℕ)) : Type 0 where
   pub done : List ℕ
   pub appended : Appends old now done
@@ -38,7 +38,7 @@ going_on all xs rest a b c text g told wrote = record {
   whole = λ more later. subst (AreLinesTold all) (sym (append_assoc g.done text more)) (g.whole (text ++ more) (told_then xs rest text more told later));
 }
 
--- all were told
+-- the text has all
 pub going_end : (all : List (List ℕ)) (a b : Option (List ℕ)) → Going all [] a b → (text : List ℕ) × AreLinesTold all text × Appends a b text
 going_end all a b g = (g.done ++ [], g.whole [] no_line, subst (Appends a b) (sym (append-nil g.done)) g.appended)
 
@@ -83,7 +83,7 @@ numbered law workers spies root w before v after steps (and_step {steps = front}
       | inr new ↦ ap (λ (z : Record). z.number) new.1 ∙ s.taken.2.1.0 ∙ (law workers spies root w before u notes front t).next ∙ ap (λ k. w.next + k) (sym new.0)
     ]
 
--- The last of a list, as many as stand behind its front.
+-- The last of a list, as many as stand after its front.
 last_is : (front back : List Record) → last_of (length back) (front ++ back) ≡ back
 last_is front back =
     let long = length-append front back in
@@ -143,7 +143,7 @@ module _ (w : World) (count : ℕ) (added : IsAdded w count) where
   pub is_there : (n : ℕ) → w.next - count ≤ n → n < w.next → ¬ ((r : Record) → In r w.kept → r.number ≡ n → ⊥)
   is_there n low high none = let s = stands n low high in none s.0 s.2 s.3
 
-  -- the step of the number is the next to be told
+  -- the step of the number is the next to be written
   pub going_at : (n : ℕ) (r : Record) (a b : Option (List ℕ)) → w.next - count ≤ n → n < w.next → AreDistinct (numbers w.kept) → In r w.kept → r.number ≡ n
       → Going (map step_line (last_of count w.kept)) (map step_line (drop (n - (w.next - count)) (last_of count w.kept))) a b
       → Going (map step_line (last_of count w.kept)) (step_line r ∷ map step_line (drop ((n + 1) - (w.next - count)) (last_of count w.kept))) a b

@@ -2,7 +2,7 @@
 use Rattle.ghc_console.proofs.CitedWords.{◌≡◌, ℕ, List, [], ◌∷◌, ◌++◌, Option, Result, Ok, Err, take, ap, sym, ◌∙◌, subst, append_assoc, Appends, Appends-nil, Appends-trans, Fault, Core, Reply, empty_hands, Hands, WritesFront, records_text, Hears, told_text, ArePlayedOut, BrokenOff, Schedule, WritesSchedule, part_of_records, part_of_reply, hand_count, then_begun, then_whole, told_at_end, with_hands}
 use Rattle.ghc_core.specs.declared.world.World.{World as Played}
 
--- what the rest gives, behind what was done, is what the whole gives
+-- what the rest gives, after what was done, is what the whole gives
 pub record Onward (first now : Played) (all rest : List (List ℕ)) (done : List ℕ) : Type 0 where
   pub whole : (out : List ℕ) (new : Played) → Schedule now rest out new → Schedule first all (done ++ out) new
   pub begun : (out : List ℕ) (new : Played) → BrokenOff now rest out new → BrokenOff first all (done ++ out) new
@@ -37,7 +37,7 @@ going_broken first now next all lines rest bytes reply written held held' n g is
     let text = take n (told_text reply) in
     (g.done ++ text, Appends-trans written held held' g.done text g.appended told, g.onward.begun text next (subst (λ l. BrokenOff now l text next) (sym is) (part_of_reply n heard)))
 
--- the records stand behind the last line, or a beginning of them
+-- the records stand after the last line, or a beginning of them
 pub going_last : (first now : Played) (all lines : List (List ℕ)) (written held held' : Option (List ℕ)) (core : Core) (result : Result Unit Fault)
     → Going first now all lines written held → lines ≡ [] → core ≡ now.core → WritesFront held held' result (records_text core.world.kept) → ArePlayedOut first all written held' now result
 going_last first now all lines written held held' core (Ok done) g is same told =

@@ -1,4 +1,4 @@
--- What is told in a schedule of a text that the reader refuses, and of want of memory.
+-- What a schedule says of a text that the reader refuses, and of refused memory.
 use Rattle.ghc_console.proofs.CitedWords.{◌≡◌, ◌⊎◌, ◌∙◌, inl, inr, refl, sym, ap, subst, List, ℕ, Option, Some, Result, codes, Fault, a_term, an_ask, IsRefusal, reply_of, refused, Refused, WritesFront, IsAskedOf, IsGiven, reply_text}
 use Rattle.ghc_term.specs.declared.fault.Fault.TheVariants as fault
 use Rattle.ghc_core.specs.declared.reply.Reply.{Reply}
@@ -16,7 +16,7 @@ pub ask_refused : (old : Played) (given : List ℕ) (f : Fault) → (f ≡ fault
 ask_refused old given f (inl m) = IsAskedOf.no_memory (ap (λ e. Some (refused e)) m, refl)
 ask_refused old given f (inr r) = unasked f r (refl, refl)
 
--- The line of want of memory is written without any.
+-- The line of F1 is written without memory.
 pub starving_told : {E : Type 0} (written now : Option (List ℕ)) (result : Result Unit E) (reply : Reply) (f : Fault) → reply ≡ Refused f → f ≡ fault.Memory
     → WritesFront written now result (codes "F1 no memory\n") → WritesFront written now result (reply_text (reply_of reply))
 starving_told written now result reply f is memory told = subst (WritesFront written now result) (sym (ap (λ r. reply_text (reply_of r)) is ∙ ap refusal memory)) told

@@ -2,7 +2,7 @@
 use Rattle.ghc_console.proofs.CitedWords.{◌≡◌, ◌≤◌, ◌+◌, ◌-◌, ℕ, Bool, true, false, Option, None, Some, List, [], ◌++◌, length, inl, inr, take, refl, sym, ap, ◌∙◌, subst, append_assoc, append-nil, length-append, arith, take-append_seam, Appends, IsAtEnd, Keeps, prepend_known, Appends-trans, Appends-kept, Appends-nil, line_feeds, lines_of, AsksAtNeed, CountsGiven, TakesFirst, TakesLine, IsReply, SessionState, Session, Began, Tells, at_end, ends, goes_on, nothing_yet, broken, went_on}
 use Rattle.ghc_console.proofs.Rows.{feeds_append, feeds_plain}
 
--- what the rest gives, behind `count` lines and what was done, is what the whole gives
+-- what the rest gives, after `count` lines and what was done, is what the whole gives
 pub record Onward (count : ℕ) (first now : SessionState) (all rest : List (List ℕ)) (done : List ℕ) : Type 0 where
   pub whole : (more : ℕ) (out : List ℕ) (later : SessionState) → Session more now rest out later → Session (more + count) first all (done ++ out) later
   pub begun : (more : ℕ) (out : List ℕ) (later : SessionState) → Began more now rest out later → Began (more + count) first all (done ++ out) later

@@ -1,7 +1,7 @@
--- What is told behind a change.
+-- What a reply says after a change.
 use Rattle.ghc_console.proofs.CitedWords.{◌≡◌, ℕ, List, ◌++◌, Result, Ok, Err, OnOk, OnErr, IsOk, is_ok, false, if◌then◌else◌, sym, subst, NotesByGoal, World, AreKept, Change, Disturbed, AreStuckOtherwise, IsSettled, NotesTellNews, Standing, news_text, Settled, settled, IsJustChanged}
 
--- what holds where a text was put behind another holds where that was not refused
+-- what holds where a text was put after another holds where that was not refused
 pub appended : {T E : Type 0} (r : Result T E) {Q : Type 0} (text front more : List ℕ) → text ≡ (if is_ok r then front ++ more else front) → (text ≡ front ++ more → Q) → OnOk r Q
 appended (Ok t) text front more e f = f e
 appended (Err x) text front more e f = tt

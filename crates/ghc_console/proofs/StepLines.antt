@@ -60,7 +60,7 @@ step_line (byte ∷ bytes) g e =
     let words = step_words byte bytes (λ k d lt. no_space_in_goal (get_or word k d) (known k d lt)) in
     ap (λ t. cond t (command_of_words (words_of line) line) Unknown) printable ∙ ap (λ ws. command_of_words ws line) words ∙ ap step_with e
 
--- A line of these bytes in front, with a word behind it that names a goal, says the step with it.
+-- A line of these bytes in front, with a word after them that names a goal, says the step with it.
 pub line_of_step : (line name word : List ℕ) (found : Option GoalName) → name ≡ take 5 line → word ≡ drop 5 line → bytes_eq name (codes "step ") ≡ true → found ≡ goal_name_of word
     → IfSome found (λ g. command_of line ≡ Step g None)
 line_of_step line name word None front back is e = tt

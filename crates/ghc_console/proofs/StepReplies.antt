@@ -18,7 +18,7 @@ pub either : {T E : Type 0} (r : Result T E) {P R : T → Type 0} {Q S : Type 0}
 either (Ok t) p q f g = f t p
 either (Err e) p q f g = g q
 
--- A step that is refused is told so.
+-- The reply to a step that is refused is its refusal.
 pub step_refused : (w v : World) (g : GoalName) (choice : Option ℕ) (f : Fault) (text : List ℕ) → v ≡ w → (f ≡ fault.Memory) ⊎ StepFails w g choice f → text ≡ refusal f → f ≢ fault.Memory
     → RepliesToStep w g choice text v
 step_refused w v g choice f text same (inl m) told kept = absurd (kept m)
@@ -32,7 +32,7 @@ pub step_taken : (w v : World) (p : Proposal) (r : Record) (text : List ℕ) →
 step_taken w v p r text commit told =
     subst (Takes w p text) (sym told.2) (takes r commit told.1.1 (subst₂ (λ u front. Settled w u front text) told.2 told.1.2 told.3))
 
--- Ports stand one behind another.
+-- Ports stand one after another.
 pub ports_joined : (ps qs : List Port) → ports_text (ps ++ qs) ≡ ports_text ps ++ ports_text qs
 ports_joined [] qs = refl
 ports_joined (p ∷ ps) qs = ap (λ l. port_text p ++ (codes "\n" ++ l)) (ports_joined ps qs) ∙ sym (append_assoc (port_text p) (codes "\n" ++ ports_text ps) (ports_text qs))
@@ -46,7 +46,7 @@ printed_refused w word x f text named (inr q) past told kept =
     let long = past q in
     subst (RepliesToShow w word) (sym (told ∙ ap refusal q)) (too_long x long.0 named long.1.0 long.1.1)
 
--- Lines of goals are told, and `none` where there is no line.
+-- The text has the lines of goals, or `none` where there is no line.
 pub goals_told : LinesAreOfGoals → (w : World) (lines text : List ℕ) → AreGoalLines w lines → ¬ HasTooLong w.state.goals w.state.store → (lines ≡ [] → text ≡ lined (codes "none")) → (lines ≢ [] → text ≡ lines)
     → RepliesToGoals w text
 goals_told law w [] text are short none some = subst (RepliesToGoals w) (sym (none refl)) (no_goals ((law w [] are).0 refl))

@@ -2,7 +2,7 @@
 use Rattle.ghc_console.proofs.CitedWords.{◌≡◌, ◌⊎◌, ℕ, List, [], ◌∷◌, ◌++◌, codes, map, refl, sym, ap, ◌∙◌, subst, inl, inr, append_assoc, AreLinesTold, and_line, no_line, lined, lines_text, text_lines, record_lines, refusal, Record, record_text, World, Spies, ListingsAreWhole, SaysMemory, TellsListing, records_listed, records_text, saved_text, session_listed}
 use Rattle.ghc_term.specs.declared.fault.Fault.TheVariants as fault
 
--- Where each line but those behind a refusal is there, so are all, or a line says that memory was refused.
+-- Where each line is there, or a refusal in its place, all are there, or a line says that memory was refused.
 whole : (ts : List (List ℕ)) (text : List ℕ) → TellsListing ts text → (text ≡ text_lines ts) ⊎ SaysMemory text
 whole [] text no_line = inl refl
 whole (t ∷ ts) text (and_line {told = told} {text = rest} (inr m) more) = inr ([], rest, ap (λ l. l ++ rest) m)

@@ -48,7 +48,7 @@ one_word : (word : List ℕ) (empty : Bool) → eqb (length word) 0 ≡ empty �
 one_word word true e = ap (λ b. cond (not b) (word ∷ []) []) e
 one_word word false e = ap (λ b. cond (not b) (word ∷ []) []) e
 
--- The words of a line that are left in the rest: the first part of it, where it is one, and those behind the blank.
+-- The words of a line that are left in the rest: the first part of it, where it is one, and those after the blank.
 pub words_on : (rest line word behind : List ℕ) (i : ℕ) (empty : Bool) → rest ≡ take i rest ++ 32 ∷ drop (i + 1) rest → All (λ b. b ≢ 32) (take i rest) → words_of rest ≡ words_of line
     → word ≡ take i rest → behind ≡ drop i rest → eqb (length word) 0 ≡ empty → words_of line ≡ cond empty [] (word ∷ []) ++ words_of (take (length behind - 1) (drop 1 behind))
 words_on rest line word behind i empty e plain h front back is =
@@ -95,7 +95,7 @@ no_number word e = gate (not (eqb (length word) 0)) (list_all is_ascii_digit wor
     gate true true c v e = cc
     gate true false c v e = refl
 
--- the part in front of the first point, and all behind it
+-- the part before the first point, and all after it
 pub goal_at_point : (word : List ℕ) (i : ℕ) → word ≡ take i word ++ 46 ∷ drop (i + 1) word → All (λ b. b ≢ 46) (take i word)
     → goal_name_of word ≡ goal_named (number_of (take i word)) (number_of (drop (i + 1) word))
 goal_at_point word i e plain =

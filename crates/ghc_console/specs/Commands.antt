@@ -75,7 +75,7 @@ command_with_variable name word = if bytes_eq name (codes "show") then Show word
 abbrev pub command_with_goal : List ℕ → GoalName → LineCommand
 command_with_goal name goal = if bytes_eq name (codes "explain") then ExplainGoal goal else (if bytes_eq name (codes "keep") then KeepGoal goal else Unknown)
 
--- The same, where the word behind named a goal; or the command of a number, where it said one.
+-- The same, where the next word named a goal; or the command of a number, where it said one.
 abbrev pub named : List ℕ → Option GoalName → Option ℕ → LineCommand
 named name (Some goal) number = command_with_goal name goal
 named name None number = numbered name number

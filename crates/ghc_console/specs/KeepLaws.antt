@@ -27,7 +27,7 @@ KeepLeavesTheSlice =
     (w v : World) (x : VarName) (slice rest : List Record) (lines : List ℕ) → IsStanding w → IsVariableOf w.opening.query w.kept x
     → IsSliceOf w.kept w.state x slice rest → RollBack w (numbers rest) lines v → IsKeptAlone w x slice rest v
 
--- In the world v just the slice is kept, in its order, and the goal b is there alike, under its name g, with the status that it has in the world w. With the rest behind it, in its old order, the record replays to the old state.
+-- In the world v just the slice is kept, in its order, and the goal b is there alike, under its name g, with the status that it has in the world w. With the rest after it, in its old order, the record replays to the old state.
 pub record IsGoalKeptAlone (w : World) (g : GoalName) (b : Goal) (slice rest : List Record) (v : World) : Type 0 where
   pub kept : v.kept ≡ slice
   pub alike : IsThereAlike w.opening.program g b (value_at w.state.store) v.state

@@ -1,4 +1,4 @@
--- The replies that are listings: the records, and the whole session, told line by line.
+-- The replies that are listings: the records, and the whole session, line by line.
 use Rattle.std.specs.Prelude.{ℕ, List, [], ◌∷◌, codes, map}
 use Rattle.ghc_records.specs.Record.{Record}
 use Rattle.ghc_records.specs.StepText.{record_text}

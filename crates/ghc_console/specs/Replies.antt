@@ -62,7 +62,7 @@ use Rattle.ghc_console.specs.SessionState.{SessionState, HasClauseFor, LeavesSpi
 abbrev pub print_limit : ℕ
 print_limit = 1048576
 
--- Settled w v front text: the world w was changed to the world v, of which the front of the text tells. Behind it come the lines of the goals that are stuck now in a way in which they were not before, or that memory was refused for them.
+-- Settled w v front text: the world w was changed to the world v, of which the front of the text tells. After it come the lines of the goals that are stuck now in a new way, or F1 in place of these.
 pub data Settled (w v : World) (front : List ℕ) : List ℕ → Type 0 where
   settled : {news : List Standing} → AreNews w v news → Settled w v front (front ++ news_text news)
   unsettled : Settled w v front (front ++ refusal Fault.Memory)
@@ -145,7 +145,7 @@ pub data RepliesToKeep (w : World) (word : List ℕ) : List ℕ → World → Ty
       → RepliesToKeep w word text v
   keeps_nothing : ((x : VarName) → ¬ IsVariableNamed w word x) → RepliesToKeep w word (refusal Fault.NoVariable) w
 
--- RepliesToKeepGoal w g text v: the kept steps outside of the slice of the goal named g are rolled back, which leaves the world v, and it is told how many are kept; or the refusal where there is no such goal.
+-- RepliesToKeepGoal w g text v: the kept steps outside of the slice of the goal named g are rolled back, which leaves the world v. The text tells how many are kept, or is the refusal where there is no such goal.
 pub data RepliesToKeepGoal (w : World) (g : GoalName) : List ℕ → World → Type 0 where
   keeps_goal : (b : Goal) (slice rest : List Record) {text : List ℕ} {v : World} → finite.get w.state.goals g ≡ Some b → IsGoalSliceOf w.opening.program w.kept w.state g b slice rest
       → TellsKept w (numbers rest) text v → RepliesToKeepGoal w g text v

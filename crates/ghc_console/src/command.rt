@@ -25,7 +25,7 @@ pub enum LineCommand {
     Nothing,
     /// A step with the goal, by the clause of this number where one is named.
     Step(GoalName, Option<u32>),
-    /// A command to the core, but an input.
+    /// A command to the core other than an input or an ask.
     Obey(Command),
     /// The value of the variable that is written so.
     Show(Word),

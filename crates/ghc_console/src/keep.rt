@@ -81,7 +81,7 @@ fn slice_of_named(
 }
 
 /// Rolls back each kept step outside of the slice of the goal of this name, in recorded order, as far as it is still kept then, and
-/// tells it as `keep` does; or the refusal. Where memory is refused on the way, what was rolled back stays so, and the refusal is told
+/// tells it as `keep` does; or the refusal. Where memory is refused on the way, what was rolled back stays so, and the refusal stands
 /// in place of the rest. An error leaves the world as it was. It costs what `slice_of_goal` costs, a step for each place of the record,
 /// and what each rollback costs.
 #[inline(never)]

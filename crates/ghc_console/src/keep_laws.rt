@@ -8,7 +8,7 @@ pub fn keep_leaves_the_slice()
 {}
 
 /// Where the steps outside of the slice of a goal are rolled back, one after another, each that is still kept then, the slice is kept
-/// alone, and the goal is there with all at which it looks as it was, and so with its status. With the rest behind it the record replays
+/// alone, and the goal is there with all at which it looks as it was, and so with its status. With the rest after it the record replays
 /// to the old state.
 pub fn keep_leaves_the_goal()
     ensures { KeepLeavesTheGoal }

@@ -78,7 +78,7 @@ fn write_some<W: Write>(writer: &mut W, bytes: &[u8]) -> Result<usize, Broken>
     Err(Broken)
 }
 
-// Empties the buffer into the writer behind it. It has failed where something is left.
+// Empties the buffer into its writer. It has failed where something is left.
 fn hand_on<W: Write + Drop>(writer: &mut BufWriter<W>) -> Result<(), Broken>
     ensures held { OnOk result (writer_buffer writer.new ≡ []) }
     ensures bytes { Keeps (writer_contents W.contents writer.old) (writer_contents W.contents writer.new) }
@@ -102,7 +102,7 @@ impl<R: Read, W: Write + Drop, L: Ledger> Lines<R, W, L> {
         }
     }
 
-    /// The reader, and the writer behind the buffer. What the buffer holds is not handed on.
+    /// The reader, and the writer of the buffer. What the buffer holds is not handed on.
     pub fn into_parts(self) -> (R, W)
         ensures reader { R.remaining result.0 ≡ self.unread }
         ensures writer { W.contents result.1 ≡ self.handed }

@@ -13,9 +13,9 @@ use ghc_core::Core;
 use ghc_trace::SpySet;
 use std::alloc::Global;
 
-/// Writes a listing line by line, in place of what stands in the text. Where memory is refused for a line, that is told in its place;
-/// where it is refused for the order of the spies, nothing else is told. It costs the lines, and for a session what it takes to put
-/// the spies in order; and memory for one line.
+/// Writes a listing line by line, in place of what stands in the text. Where memory is refused for a line, the refusal stands in its
+/// place; where it is refused for the order of the spies, the refusal stands alone. It costs the lines, and for a session what it
+/// takes to put the spies in order; and memory for one line.
 #[inline(never)]
 pub(crate) fn write_listing<D: Device>(
     alloc: Global,

@@ -1,7 +1,7 @@
 // Laws of listings, each as the contract of a function.
 ghost use Rattle.ghc_console.specs.ListingLaws.{ListingsAreWhole};
 
-/// What is told of the records or of a session is its text, unless a line of it says that memory was refused.
+/// A listing of the records or of a session is its text, unless a line of it says that memory was refused.
 pub fn listings_are_whole()
     ensures { ListingsAreWhole }
 {}

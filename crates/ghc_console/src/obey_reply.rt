@@ -1,4 +1,4 @@
-// The replies to commands that change the core: the change is found, told, and made.
+// The replies to commands that change the core: each finds the change, writes it, and makes it.
 ghost use Rattle.std.specs.Prelude.{◌≡◌, ◌++◌, [], IfOk, OnErr, OnOk, string_bytes};
 ghost use Rattle.ghc_records.specs.Record.{numbers};
 ghost use Rattle.ghc_core.specs.Change.{CanChange, IsBoundBy};
@@ -110,7 +110,7 @@ pub(crate) fn carry_out(
 
 /// Does what the command says, and tells it and what is stuck then; or its refusal, which changes nothing. What is untried is
 /// tried first, so that it is known what was stuck before. The change is found, then the text is made, and then room; an error
-/// leaves the world as it was. It costs what `Core::prepare_command` and `Core::apply` cost, and a try of each goal that was
+/// leaves the world as it was. It costs what `Core::prepare_command` and `Core::make` cost, and a try of each goal that was
 /// disturbed; a step that is redone is fired once at most, and nothing else is fired.
 #[inline(never)]
 pub fn obey(

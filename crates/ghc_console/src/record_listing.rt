@@ -62,7 +62,7 @@ fn write_each<D: Device>(device: &mut D, records: &Records, line: &mut String) -
 }
 
 /// Writes the records, a line each, or `none`, one at a time, in place of what stands in the text. Where memory is refused for a
-/// line, that is told in its place. Two steps for each place of the record, and memory for one line.
+/// line, the refusal stands in its place. It costs two steps for each place of the record, and memory for one line.
 pub(crate) fn write_records<D: Device>(
     device: &mut D,
     records: &Records,

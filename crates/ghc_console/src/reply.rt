@@ -128,7 +128,7 @@ fn lines(records: &Records, reply: &mut String) -> Result<(), AllocError>
     Ok(())
 }
 
-/// What stands where nothing was told.
+/// Writes `none` where the reply is empty.
 pub(crate) fn or_none(reply: &mut String) -> Result<(), AllocError>
     ensures none { OnOk result (string_bytes reply.old ≡ [] → string_bytes reply.new ≡ lined (codes "none")) }
     ensures some { OnOk result (string_bytes reply.old ≢ [] → string_bytes reply.new ≡ string_bytes reply.old) }

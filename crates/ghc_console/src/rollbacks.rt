@@ -1,4 +1,4 @@
-// Rollbacks one after another, each told on a line.
+// Rollbacks one after another, each on a line of the reply.
 ghost use Rattle.std.specs.Prelude.{◌≡◌, ◌+◌, ◌≤◌, ◌++◌, [], OnErr, OnOk, length, string_bytes, string_capacity, string_len};
 ghost use Rattle.ghc_console.specs.Keeping.{TellsKept, kept_line};
 ghost use Rattle.ghc_console.specs.inner.KeepingCode.{AddsRollback, AddsRollbacks, AddsSomeRollbacks};
@@ -53,7 +53,7 @@ fn roll_back(
 }
 
 // Rolls the steps of these numbers back, one after another, each that is still kept, and tells of each which steps are undone. At
-// an error some of them are rolled back and told. The room for the line that memory was refused stays.
+// an error some of them are rolled back and in the text. The room for the line that memory was refused stays.
 fn roll_all(
     alloc: Global,
     core: &mut Core,
@@ -98,8 +98,8 @@ fn tell_kept(alloc: Global, core: &Core, reply: &mut String) -> Result<(), Alloc
     reply.push_str(line.as_str())
 }
 
-// Rolls the steps of these numbers back, and tells that and how many are kept then. At an error some are rolled back and told, and
-// there is room for the line that memory was refused.
+// Rolls the steps of these numbers back, and tells that and how many are kept then. At an error some are rolled back and in the
+// text, and there is room for the line that memory was refused.
 fn roll_and_tell(
     alloc: Global,
     core: &mut Core,

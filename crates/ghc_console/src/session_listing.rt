@@ -273,8 +273,8 @@ fn write_spies<D: Device>(
 }
 
 /// Writes the history of the whole session, of version 2, line by line, in place of what stands in the text: what it began with,
-/// all entries of the journal after that, these predicates, and the next number. Where memory is refused for a line, that is told
-/// in its place. It costs the lines, and memory for one.
+/// all entries of the journal after that, these predicates, and the next number. Where memory is refused for a line, the refusal
+/// stands in its place. It costs the lines, and memory for one.
 pub(crate) fn write_session<D: Device>(
     device: &mut D,
     core: &Core,

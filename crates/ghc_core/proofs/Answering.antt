@@ -54,7 +54,7 @@ module _ (w : World) (ordered : IsOrderly w) where
       → (stepped r.number ≡ stepped s.number) × (u ≡ v)
   comes_once from same e f = (ap (λ (z : Record). stepped z.number) same, e ∙ ap (λ z. with_coming from z w) same ∙ sym f)
 
-  -- a command asks for one change, which is told in one way and leaves one world
+  -- a command asks for one change, which has one reply and leaves one world
   change_once : (u v : World) {c : Command} {x y : Change} → Asks c x → Asks c y → CanChange w x → CanChange w y → Changes w x u → Changes w y v → (told_of x ≡ told_of y) × (u ≡ v)
   change_once u v (to_give {k = k} {t = t} {r = r} o) (to_give {r = s} p) m n e f =
       comes_once Coming.Next (one_stream_step effect_once w ordered.acyclic ordered.streams_once k (given t) r s (o, m) (p, n)) e f
@@ -75,7 +75,7 @@ module _ (w : World) (ordered : IsOrderly w) where
     asks_no_say (by_hand there c) said = elim said [ ]
     asks_no_say (by_command a) said = elim said [ ]
 
-    -- an event asks for one change, which is told in one way and leaves one world
+    -- an event asks for one change, which has one reply and leaves one world
     asked_once : {e : Event} {x y : Change} {u v : World} → AsksFor w hands e x → AsksFor w hands e y → CanChange w x → CanChange w y → Changes w x u → Changes w y v → (told_of x ≡ told_of y) × (u ≡ v)
     asked_once (by_hand {p = p} {r = r} there c) (by_hand {p = q} {r = s} here d) m n e f =
         let same : p ≡ q = value_once there here in

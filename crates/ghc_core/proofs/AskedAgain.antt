@@ -3,7 +3,7 @@ use Rattle.ghc_core.proofs.Words.{◌≡◌, ◌≢◌, ℕ, zero, suc, ◌+◌,
 use Rattle.ghc_fire.specs.Asked.{Asks}
 use Rattle.ghc_core.proofs.AskedGoals.{defined_by, defined_calls}
 
--- behind made variables stands the next one
+-- after made variables comes the next one
 made_next : (n i c k : ℕ) (x : VarName) (rest : List VarName) → made_from n i c ++ x ∷ rest ≡ made_from n i k → x ≡ made n (i + c)
 made_next n i zero (suc k) x rest e = let first : x ≡ made n i = cc in let p : i ≡ i + 0 = omega arith in first ∙ ap (made n) p
 made_next n i (suc c) (suc k) x rest e =

@@ -104,7 +104,7 @@ module _ (w : World) (gs : List Goal) where
   pub ask_told : {f : Fault} → AskFails w gs f → (f ≢ Fault.NoStream) × (f ≢ Fault.TailBound) × (f ≢ Fault.Command)
   ask_told p = grind arith
 
-  -- what is told whatever memory is left is why
+  -- the refusal that comes whatever memory is left is the one
   pub one_ask_refusal : {f g : Fault} → AskFails w gs f → IsNotAskedAnyway w gs g → f ≡ g
   one_ask_refusal p (inl (e, q)) = ask_fails_once p q ∙ sym e
   one_ask_refusal p (inr (e, q)) = ask_fails_once p q ∙ sym e

@@ -14,7 +14,7 @@ pub one_undo_refusal : (w : World) → IsStanding w → {n : ℕ} {f g : Fault} 
 one_undo_refusal w s {n} p q = undo_fails_once w n (standing_orderly w s).kept_once p q
 
 module _ (w : World) where
-  -- what a note is refused for is told
+  -- the reply is what a note is refused for
   pub note_refused_anyway : (g : GoalName) (f : Fault) (reply : Reply) → (IsNoCandidate w g → reply ≡ refused Fault.NoGoal) → (f ≡ Fault.NoGoal) × IsNoCandidate w g → reply ≡ refused f
   note_refused_anyway g f reply said (e, none) = said none ∙ ap refused (sym e)
 

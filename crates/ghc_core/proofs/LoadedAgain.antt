@@ -17,7 +17,7 @@ module _ (P : Program) (query : Query) (accepted : IsProgram P) (asked : IsQuery
         let replay : Replays P query done s = (((λ r i. numbered.0 r (subst (In r) (sym e) (in_left done rest r i))), distinct_left (numbers done) (numbers rest) own), run, λ front behind r split. named front (behind ++ rest) r (e ∙ ap (λ l. l ++ rest) split ∙ append_assoc front (r ∷ behind) rest)) in
         (replay_well P query done s accepted asked replay).acyclic
 
-    -- behind the steps done, a run of the first of the steps that follow has their records, and the others run on from the state that it leaves
+    -- after the steps done, a run of the first of the steps that follow has their records, and the others run on from the state that it leaves
     behind_run : (done rest run : List Record) (s t u : State) (later : List Step)
         → whole ≡ done ++ rest → Runs P (query_state query) done s → Runs P s rest t → Runs P s run u
         → map step_of rest ≡ map step_of run ++ later → (left : List Record) × (rest ≡ run ++ left) × Runs P u left t × (map step_of left ≡ later)

@@ -52,7 +52,7 @@ module _ (w : World) (good : Good w) (h : Replayed w) where
         let d = picks_distinct w.kept gone parts.0 good.kept_once in
         redo_each hands gone (without_steps gone left t entry w) w.state (subst (λ z. Runs w.opening.program z gone w.state) same s.2) (on_shelf gone w.shelf d) d short whole.2
 
-  -- a change that is told as steps undone took these away
+  -- a change whose reply is steps undone took these away
   redo_changed : (hands : Hands) (ns : List ℕ) (v : World) (change : Change) → CanChange w change → Changes w change v → undone ns ≡ told_of change → Redone w v hands ns
   redo_changed hands ns v (goes how gone) can (left, split, (t, run, e)) told =
       let same : ns ≡ numbers (all_gone gone) = cc in

@@ -1,4 +1,4 @@
--- Refusals: each cause, which is told alone, and no cause where what is asked for can be done.
+-- Refusals: each cause, reported alone, and no cause where what is asked for can be done.
 use Rattle.ghc_core.proofs.Words.{◌≡◌, ◌≢◌, ℕ, ◌≤◌, List, Option, length, refl, sym, ◌∙◌, subst, inl, inr, Some, None, GoalName, VarName, Fault, Tree, IsValue, value_at, EndsIn, kept_limit, Goal, Record, IsThere, Fires, IsKeptAs, IsNotKept, IsFirstConsequence, Proposal, World, IsFull, IsKnown, IsToldWhere, OrElse, UndoFails, LacksGoal, IsShelvedWith, RedoFails, IsStreamAt, StreamFails, StillHolds, CommitFails, arith}
 use Rattle.std.specs.FinMap as finite
 

@@ -9,12 +9,12 @@ use Rattle.ghc_core.proofs.Refusing.{has_not}
 abbrev pub Unknown : Type 0
 Unknown = Unit {0}
 
--- why a call of a core is refused: for want of memory, or for what is told
+-- why a call of a core is refused: memory, or the fault that it reports
 abbrev pub Why : (Fault → Type 0) → Fault → Type 0
 Why Fails f = (f ≡ Fault.Memory) ⊎ Fails f
 
 module _ (w : World) where
-  -- a command that is refused, for want of memory or for what is told
+  -- a command that is refused, for memory or for the fault reported
   pub not_obeyed : (c : Command) (f : Fault) (v : World) → Why (Fails w c) f → v ≡ w → Obeys Unknown w c (refused f) v
   not_obeyed c f v why same = rw same (elim why [ inl m ↦ rw m (starves tt) | inr o ↦ refuses o ])
 
@@ -35,7 +35,7 @@ module _ (w : World) where
       subst IsCauseOfFailure one (elim (refusal_is g b plain t) [ inl e ↦ absurd (waits e) | inr c ↦ c ])
   failure_is f b s plain h same = cc
 
-  -- what a note says of why its goal fails, and what is told of it
+  -- what a note says of why its goal fails, and what the reply says of it
   pub note_failure : (g : GoalName) (n : Note) → IsNoteOf w g n → (f : Fault) → n.status ≡ failed f → IsCauseOfFailure f
   note_failure g n (b, candidate, exact) f same = failure_is f b n.status candidate.1 exact.0 same
 

@@ -61,7 +61,7 @@ module _ (P : Program) (query : Query) (names : List (List ℕ)) (c : Chronicle)
   pub program_stays : (o w : World) → IsOpened P query names c o → CarriesOutEach o c.entries w → w.opening.program ≡ P
   program_stays o w opens each = ap (λ (p : Opening). p.program) ((each_grown o w c.entries each).opening ∙ opens.opening)
 
--- An entry more is told.
+-- One more entry is written.
 pub told_pushed : (held : List Entry) (place : ℕ) (told : List WrittenEntry) (t : WrittenEntry) (x : Entry) → slice_get held place ≡ Some x → said_by t ≡ x
     → map said_by (told ++ t ∷ []) ++ drop (place + 1) held ≡ map said_by told ++ drop place held
 told_pushed held place told t x at is =

@@ -1,4 +1,4 @@
--- A chronicle has one answer, what is told of a world is carried out again, and what is carried out is told again.
+-- A chronicle has one answer, that of a world is carried out again, and one that is carried out is written again.
 use Rattle.ghc_core.proofs.Words.{◌≡◌, ℕ, List, [], ◌∷◌, ◌++◌, map, length, drop, refl, sym, ap, ◌∙◌, subst, subst₂, inl, inr, append_assoc, append-nil, Result, Ok, Err, Fault, In, compare_splits, in_middle, Program, Query, Step, Opening, Entry, took, history, opening_journal, IsHistory, loaded_opening, Change, Comes as comes, Goes as goes, Coming, Going, Predicate, Chronicle, next_after, next_behind, World, Opens, CanChange, Changes, IsSound, Reaches, from_opening, by_change, Leaves, the_opening, and_entry, CarriesOut, CarriesOutEach, StopsBehind, LacksBehind, IsCarriedOut, Resumes, resumes, no_entry, no_spy, line_of_entry, line_of_spy, opening_of, chronicle_of_world}
 use Rattle.ghc_core.specs.Resume.{no_step, no_memory}
 use Rattle.ghc_core.specs.ResumeLaws as laws
@@ -8,7 +8,7 @@ use Rattle.ghc_core.proofs.Moving.{opening_stays, reachable_reached}
 use Rattle.ghc_core.proofs.Reaching.{reachable_good}
 use Rattle.ghc_core.proofs.Resuming.{entered_by, enters_own, carried_by, carries}
 
--- what is carried out behind a legal history is legal
+-- what is carried out after a legal history is legal
 each_legal : (o : Opening) (done : List Entry) (entries : List Entry) (w v : World) → Leaves (history o done) w → CarriesOutEach w entries v → Leaves (history o (done ++ entries)) v
 each_legal o done [] w v l e = subst₂ (λ es z. Leaves (history o es) z) (sym (append-nil done)) (sym e) l
 each_legal o done (x ∷ entries) w v l (u, (reply, n), rest) =
@@ -95,7 +95,7 @@ module _ (P : Program) (query : Query) (names : List (List ℕ)) (c : Chronicle)
   one_refusal form _ _ (no_memory n) q = absurd n
   one_refusal form _ _ p (no_memory n) = absurd n
 
--- What a reachable world entered behind its opening is carried out.
+-- What a reachable world entered after its opening is carried out.
 record Entered (w : World) : Type 0 where
   pub first : World
   pub opens : Opens w.opening first
@@ -124,7 +124,7 @@ reached_entered (by_change {w = w} {v = v} change r can changes) =
       carried = each_push before.first w v before.entries entry before.carried (carries w v entry r (change, can, changes, refl));
     }
 
--- behind the steps of the opening stand the other entries
+-- after the steps of the opening come the other entries
 behind_steps : (ss : List Step) (entries : List Entry) → drop (length ss) (map took ss ++ entries) ≡ entries
 behind_steps [] entries = refl
 behind_steps (s ∷ ss) entries = behind_steps ss entries
@@ -151,7 +151,7 @@ told_carried w hands spies r known = (answer, only)
     only (Ok v) other = ap Ok (only_world w.opening.program w.opening.query w.opening.names c sound v w other answer)
     only (Err f) other = absurd (never_both w.opening.program w.opening.query w.opening.names c sound w f answer other)
 
--- the number that the next step gets behind a change
+-- the number that the next step gets after a change
 change_next : (w v : World) (change : Change) → CanChange w change → Changes w change v → v.next ≡ next_after w.next (entered_by change)
 change_next w v (goes Going.Alone gone) can (left, split, (t, run, e)) = ap (λ (z : World). z.next) e
 change_next w v (goes Going.Together gone) can (left, split, (t, run, e)) = ap (λ (z : World). z.next) e

@@ -101,7 +101,7 @@ module _ (w : World) (good : Good w) (replay : IsReplay w w.kept w.state) where
         refl,
       )
 
-  -- a change that is told as a step took one
+  -- a change whose reply is a step took one
   undo_changed : (n : ℕ) (v : World) (change : Change) → CanChange w change → Changes w change v → stepped n ≡ told_of change → Undone w n v
   undo_changed n v (comes Coming.Next r) can e told = let same : n ≡ r.number = cc in rw (e, same) (undo_last r _ _ _ _ (not_next w good r can.0))
   undo_changed n v (comes Coming.Shelved r) can e told = let same : n ≡ r.number = cc in rw (e, same) (undo_last r _ _ _ _ (good.shelf r.number r can.0).3)

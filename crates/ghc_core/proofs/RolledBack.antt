@@ -47,7 +47,7 @@ pub struck_first : (kept some new gone : List Record) (r : Record) → AreDistin
 struck_first kept some new gone r once there before next =
     struck_more kept some new gone (r ∷ gone) r (λ s. grind arith) before (next (still_there kept some gone r there once.0 before))
 
--- What is known where steps behind were taken back, which leaves t: where the steps left are kept, a world with it stands, and notes and marks are exact.
+-- What is known where later steps were taken back, which leaves t: where the steps left are kept, a world with it stands, and notes and marks are exact.
 record Undone (w : World) (back : List Record) (t : State) (old new : Tries) : Type 0 where
   left : List Record
   shelf : Shelf
@@ -129,7 +129,7 @@ module _ (w : World) (stands : IsStanding w) (how : Going) (gone : Gone) (can : 
         streams = λ names tell. stands_back v before.standing r kept_r after stands_after refl taken _ (before.streams names tell);
       }
 
-    -- all steps behind are taken back
+    -- all later steps are taken back
     each : (front rest : List Record) (t : State) (new : Tries) → all ≡ front ++ rest → AreTakenBack rest w.state t → AreAllCarriedBack rest old new
         → Undone w rest t old new
     each front [] t new e p q = at_first t new p q

@@ -11,7 +11,7 @@ drop_at rs i r e =
     drop-cons rs i r (slice_get_within rs i r e) ∙ (λ k. get_or_from_slice_get rs i r r e k ∷ drop (more k) rs)
 
 module _ {A : Type 0} (part : Record → A) where
-  -- Where the parts found and those from a slot on are all parts, so are those found behind it and those of the next slot on.
+  -- Where the parts found and those from a slot on are all parts, so are those found after it and those of the next slot on.
   pub slot_on : (ss : SlotList) (i : ℕ) (before later : List A) → KeepsSlot part ss i before later → before ++ map part (drop (rank ss i) (held_in ss)) ≡ map part (held_in ss)
       → later ++ map part (drop (rank ss (i + 1)) (held_in ss)) ≡ map part (held_in ss)
   slot_on ss i before later (inl t) whole =

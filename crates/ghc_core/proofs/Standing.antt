@@ -40,7 +40,7 @@ standing_numbered w s g b e =
 pub opening_stands : (o : Opening) (w : World) → IsSound o → Opens o w → IsStanding w
 opening_stands o w sound opens = from_opening sound opens
 
--- the opening of a query on which no step was loaded, and behind which a step gets the number n
+-- the opening of a query on which no step was loaded, and after which a step gets the number n
 abbrev pub empty_opening : Program → Query → List (List ℕ) → ℕ → Opening
 empty_opening P query names n = loaded_opening P query names (record { steps = []; next = n })
 

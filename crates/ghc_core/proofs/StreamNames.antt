@@ -107,13 +107,13 @@ query_asked query k g x e = elim (made_or_old 0 1 query finite.empty g (stream k
 standing_asked : (w : World) → IsStanding w → AreAsked w.opening.query w.state.goals
 standing_asked w stands = run_asked w.opening.program (reached_good stands).accepted w.opening.query w.kept (query_state w.opening.query) w.state (standing_replay w stands).1 (query_asked w.opening.query)
 
--- In a standing world a step is taken, and the names are told of it.
+-- In a standing world a step is taken, and the names follow it.
 pub stands_over : (w : World) → IsStanding w → (r : Record) → Fires w.opening.program w.state r → (names new : List GoalName) → new ≡ told r names
     → TellStreams w.opening.query w.state.goals names → TellStreams w.opening.query (after w.state r).goals new
 stands_over w stands r fires names new same tell =
     subst (TellStreams w.opening.query (after w.state r).goals) (sym same) (over w.opening.program (reached_good stands).accepted w.state r fires w.opening.query names tell)
 
--- In a standing world a step is taken back, which leaves the standing world z, and the names are told of it.
+-- In a standing world a step is taken back, which leaves the standing world z, and the names follow it.
 pub stands_back : (w : World) → IsStanding w → (r : Record) → In r w.kept → (z : World) → IsStanding z → z.opening ≡ w.opening
     → IsTakenBack r w.state z.state → (names : List GoalName) → TellStreams w.opening.query w.state.goals names
     → TellStreams w.opening.query z.state.goals (told_back r names)

@@ -22,7 +22,7 @@ stream_step w k act g s e r at has room same =
     ((g, s, refl, refl, refl), (refl, ((stream k s, refl, at), has), room, known_of_act w.opening.program w.opening.query w.kept t (stream k s) w.next (value_at w.state.store) e has))
 
 module _ (w : World) (ordered : IsOrderly w) (k : ℕ) where
-  -- what is told where it takes nothing is why
+  -- a refusal that takes no memory is the one
   pub refused_anyway : {A : Type 0} (f g : Fault) → StreamFails w k f → StreamFails w k g → ◌≡◌ {A = Result A Fault} (Err f) (Err g)
   refused_anyway f g p q = ap Err (stream_fails_once p q)
 

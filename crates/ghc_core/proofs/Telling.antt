@@ -2,7 +2,7 @@
 use Rattle.ghc_core.proofs.Words.{◌≡◌, true, false, [], ◌∷◌, ◌++◌, refl, sym, ap, ◌∙◌, subst, MatchBool, Entry, Change, Comes as comes, Hands, World, Event, Reply, told_of, Says, Answers, makes, says, tells_change, AnswersAddWhatTheyTell}
 use Rattle.ghc_core.proofs.Moving.{change_enters}
 
--- what is told of a change tells of one
+-- the reply to a change tells of one
 told_changes : (change : Change) → tells_change (told_of change) ≡ true
 told_changes (comes from r) = refl
 told_changes change = refl

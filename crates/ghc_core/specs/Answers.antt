@@ -35,7 +35,7 @@ pub data Asks : Command → Change → Type 0 where
   to_arrange : {order : List ℕ} {a : Arrangement} → a.order ≡ order → Asks (arrange order) (reorders a)
   to_ask : {gs : List Goal} {r : Record} → IsOfAsk gs r → Asks (ask gs) (comes Coming.Next r)
 
--- what is told of a change: the step that comes, the steps that go, or that the record is arranged
+-- the reply to a change: the step that comes, the steps that go, or that the record is arranged
 abbrev pub told_of : Change → Reply
 told_of (comes from r) = stepped r.number
 told_of (goes how gone) = undone (numbers (all_gone gone))
@@ -51,7 +51,7 @@ Fails w (redo n) f = RedoFails w n f
 Fails w (arrange order) f = (a b : ℕ) × (f ≡ Fault.NotLawful a b) × IsUnlawful w.kept order a b
 Fails w (ask gs) f = AskFails w gs f
 
--- Obeys Starved w c reply v: in the world w the change for which the command c asks is made and told, which leaves the world v; or the command is refused, for this or for want of memory, which changes nothing.
+-- Obeys Starved w c reply v: in the world w the change for which the command c asks is made, which leaves the world v, and the reply names it. Or the command is refused, for a fault of its own or for memory, which changes nothing.
 pub data Obeys (Starved : Type 0) (w : World) (c : Command) : Reply → World → Type 0 where
   does : {change : Change} {reply : Reply} {v : World} → Asks c change → CanChange w change → Changes w change v → reply ≡ told_of change → Obeys Starved w c reply v
   refuses : {f : Fault} → Fails w c f → Obeys Starved w c (refused f) w
@@ -76,7 +76,7 @@ pub data AsksFor (w : World) (hands : Hands) : Event → Change → Type 0 where
   by_hand : {h : ℕ} {p : Proposal} {r : Record} → finite.get hands.held h ≡ Some p → IsCommitOf w p r → AsksFor w hands (commit h) (comes Coming.Next r)
   by_command : {c : Command} {change : Change} → Asks c change → AsksFor w hands (command c) change
 
--- Says w hands e reply left: the event e asks for no change: its hand holds what an attempt proposes, or the status of its goal is told.
+-- Says w hands e reply left: the event e asks for no change: its hand holds what an attempt proposes, or the reply is the status of its goal.
 pub data Says (w : World) (hands : Hands) : Event → Reply → Hands → Type 0 where
   holds : {h : ℕ} {g : GoalName} {choice : Option ℕ} (p : Proposal) → IsProposedIn w g choice p → Says w hands (propose h g choice) (held h) (with_hand h p hands)
   tells : {g : GoalName} {s : Status} → IsStatusOf w g s → Says w hands (note g) (noted g s) hands
@@ -88,7 +88,7 @@ IsRefusedFor w hands (commit h) f = OrElse (IsToldWhere Fault.Stale (finite.get 
 IsRefusedFor w hands (note g) f = IsToldWhere Fault.NoGoal (IsNoCandidate w g) f
 IsRefusedFor w hands (command c) f = Fails w c f
 
--- Answers Starved w hands e reply v left: in the world w with these hands the event e gets the reply, which leaves the world v and the hands left. There is no hand of its number; or the change for which it asks is made and told; or it asks for none, and says what it found; or it is refused, for this or for want of memory, which changes nothing but that the hand of a commit is empty.
+-- Answers Starved w hands e reply v left: in the world w with these hands the event e gets the reply, which leaves the world v and the hands left. There is no hand of its number. Or the change for which it asks is made, and the reply names it. Or it asks for none, and the reply is what it found. Or it is refused, for a fault of its own or for memory, which changes nothing but that the hand of a commit is empty.
 pub data Answers (Starved : Type 0) (w : World) (hands : Hands) (e : Event) : Reply → World → Hands → Type 0 where
   no_hand : ¬ HasHand hands e → Answers Starved w hands e (refused Fault.Command) w hands
   makes : {change : Change} {reply : Reply} {v : World} → HasHand hands e → AsksFor w hands e change → CanChange w change → Changes w change v → reply ≡ told_of change

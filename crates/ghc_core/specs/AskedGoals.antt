@@ -19,7 +19,7 @@ use Rattle.ghc_core.specs.Refusals.{IsToldWhere, OrElse}
 abbrev pub HasClauseFor : Program → List ℕ → ℕ → Type 0
 HasClauseFor P f n = (k : ℕ) × (c : Clause) × IsClause P k c × (c.name ≡ f) × (length c.head ≡ n)
 
--- The first of the goals that is a call without a clause is told.
+-- The fault names the first of the goals that is a call without a clause.
 abbrev pub HasUndefined : World → List Goal → Fault → Type 0
 HasUndefined w gs f = (name : List ℕ) × (n : ℕ) × (f ≡ Fault.Undefined name n) × IsFirstCallWithout (HasClauseFor w.opening.program) gs name n
 

@@ -48,13 +48,13 @@ ReachableIsNamed = (w : World) (hands : Hands) → IsReachable w hands → AreNa
 abbrev pub ReachableKeeps : Type 0
 ReachableKeeps = (w : World) (hands : Hands) → IsReachable w hands → Keeps w.opening w.journal w.kept w.shelf
 
--- In an orderly world each event has one answer at most, want of memory apart.
+-- In an orderly world each event has one answer at most, unless memory is refused.
 abbrev pub OrderedHasOneAnswer : Type 0
 OrderedHasOneAnswer =
     (w u v : World) (hands left other : Hands) (e : Event) (reply said : Reply) → IsOrderly w
     → Answers ⊥ w hands e reply u left → Answers ⊥ w hands e said v other → (reply ≡ said) × (u ≡ v) × (left ≡ other)
 
--- In a reachable world each event has one answer at most, want of memory apart.
+-- In a reachable world each event has one answer at most, unless memory is refused.
 abbrev pub EventsHaveOneAnswer : Type 0
 EventsHaveOneAnswer =
     (w u v : World) (hands left other : Hands) (e : Event) (reply said : Reply) → IsReachable w hands
@@ -83,7 +83,7 @@ abbrev pub StillHoldsAsNext : Type 0
 StillHoldsAsNext =
     (w : World) (hands : Hands) (h : ℕ) (p : Proposal) → IsReachable w hands → finite.get hands.held h ≡ Some p → StillHolds w p ↔ HoldsAsNext w p
 
--- In a reachable world each proper event has an answer other than want of memory.
+-- In a reachable world each proper event has an answer other than F1.
 abbrev pub EventsHaveAnAnswer : Type 0
 EventsHaveAnAnswer =
     (w : World) (hands : Hands) (e : Event) → IsReachable w hands → IsProper e

@@ -68,7 +68,7 @@ pub data IsReceipt (Starved : Type 0) (items : List Item) (hands : Hands) (e : E
 
 -- IsAnswered Starved old new hands e receipt: a caller that knew the front old made a call with the event e, got this receipt, and knows the front new now.
 pub data IsAnswered (Starved : Type 0) (old new : List Item) (hands : Hands) (e : Event) (receipt : Receipt) : Type 0 where
-  -- what was accepted is the last entry of the new front, behind all that was known
+  -- what was accepted is the last entry of the new front, after all that was known
   accepted : (front : List Item) (entry : Entry) → IsAccepted front hands e receipt entry → Begins old front → new ≡ front ++ entered entry ∷ []
       → IsAnswered Starved old new hands e receipt
   -- what left no entry has the definition's reply after the whole new front

@@ -17,7 +17,7 @@ use Rattle.ghc_core.specs.World.{World, IsKnown, Opens}
 abbrev pub line_of_step : ℕ → ℕ
 line_of_step n = n + 3
 
--- The step of the record can be loaded behind those that are kept: it is possible now, what it names is known, it has a number of its own, below the next one, and one step more can be kept.
+-- The step of the record can be loaded after those that are kept: it is possible now, what it names is known, it has a number of its own, below the next one, and one step more can be kept.
 pub record CanLoad (w : World) (r : Record) : Type 0 where
   pub possible : Fires w.opening.program w.state r
   pub known : IsKnown w r
@@ -55,7 +55,7 @@ AskForGoals rs = (r : Record) × In r rs × AsksForGoals r
 abbrev pub history_of : World → History
 history_of w = record { steps = map step_of w.kept; next = w.next }
 
--- KeepsSlot part slots i before after: the part of the record at place i was put behind the others, or there is a gap, and none was.
+-- KeepsSlot part slots i before after: the part of the record at place i was put after the others, or there is a gap, and none was.
 abbrev pub KeepsSlot : {A : Type 0} → (Record → A) → SlotList → ℕ → List A → List A → Type 0
 KeepsSlot part slots i before after =
     ((r : Record) × StandsIn slots i r × (after ≡ before ++ part r ∷ [])) ⊎ (((r : Record) → ¬ StandsIn slots i r) × (after ≡ before))
@@ -73,7 +73,7 @@ pub record StopsAt (P : Program) (query : Query) (h : History) (line : ℕ) : Ty
   pub impossible : IsImpossible P state stopped
   pub line_is : line ≡ line_of_step (length before)
 
--- Loads Starved P query names h answer: the history is loaded on the program and the query, whose variables have these names, or the first step that is not possible is told by its line.
+-- Loads Starved P query names h answer: the history is loaded on the program and the query, whose variables have these names, or the refusal names the line of the first step that is not possible.
 pub data Loads (Starved : Type 0) (P : Program) (query : Query) (names : List (List ℕ)) (h : History) : Result World Fault → Type 0 where
   loads : (w : World) → Opens (loaded_opening P query names h) w → Loads Starved P query names h (Ok w)
   stops : {line : ℕ} → StopsAt P query h line → Loads Starved P query names h (Err (Fault.History line))

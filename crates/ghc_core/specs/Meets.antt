@@ -28,7 +28,7 @@ CarriesNotes (commit h) old new = Moves old new
 CarriesNotes (note g) old new = IsNoted old.world g old.notes new.notes × (new.untried ≡ set.remove old.untried g)
 CarriesNotes (command c) old new = Moves old new
 
--- Meets old e reply new: the event e gets the reply, whether or not memory was refused; what is refused whatever memory is left is told so; a refused event leaves world, notes and untried goals as they were.
+-- Meets old e reply new: the event e gets the reply, whether or not memory was refused. What is refused whatever memory is left gets that refusal. A refused event leaves world, notes and untried goals as they were.
 pub record Meets (old : Played) (e : Event) (reply : Reply) (new : Played) : Type 0 where
   pub answer : Answers (Unit {0}) old.core.world old.hands e reply new.core.world new.hands
   pub anyway : (f : Fault) → IsRefusedAnyway old.core.world old.hands e f → reply ≡ refused f

@@ -79,7 +79,7 @@ IsNoCandidate w g = (finite.get w.state.goals g ≡ None) ⊎ ((b : Goal) × (fi
 abbrev pub IsStatusOf : World → GoalName → Status → Type 0
 IsStatusOf w g s = (b : Goal) × (finite.get w.state.goals g ≡ Some b) × (is_stream b ≡ false) × HasStatus w.opening.program (value_at w.state.store) b s
 
--- Notes Starved w g reply: the goal named g is tried, and its status told; the world stays as it is.
+-- Notes Starved w g reply: the goal named g is tried, and the reply is its status; the world stays as it is.
 pub data Notes (Starved : Type 0) (w : World) (g : GoalName) : Reply → Type 0 where
   tells : {s : Status} → IsStatusOf w g s → Notes Starved w g (noted g s)
   no_goal : IsNoCandidate w g → Notes Starved w g (refused Fault.NoGoal)

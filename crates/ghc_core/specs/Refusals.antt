@@ -9,7 +9,7 @@ use Rattle.ghc_records.specs.Record.{Record, Fires}
 use Rattle.ghc_depend.specs.Depend.{Follows, IsKeptAs, IsNotKept, IsFirstConsequence}
 use Rattle.ghc_core.specs.World.{World, IsKnown}
 
--- Where this holds, this is told.
+-- The fault is this one, and its condition holds.
 abbrev pub IsToldWhere : Fault → Type 0 → Fault → Type 0
 IsToldWhere told Holds f = (f ≡ told) × Holds
 
@@ -21,7 +21,7 @@ OrElse First Next f = First f ⊎ (((g : Fault) → ¬ First g) × Next f)
 abbrev pub CanUndo : List Record → ℕ → Type 0
 CanUndo kept n = (r : Record) × IsKeptAs kept n r × ((b : Record) → ¬ Follows kept r b)
 
--- The step of number n is kept, and its first consequence is told.
+-- The step of number n is kept, and the fault names its first consequence.
 abbrev pub HasConsequence : List Record → ℕ → Fault → Type 0
 HasConsequence kept n f = (r b : Record) × (f ≡ Fault.HasConsequence b.number) × IsKeptAs kept n r × IsFirstConsequence kept r b
 

@@ -1,4 +1,4 @@
--- Laws of chronicles: carrying one out has one answer, and what is told of a world is carried out again, and told again.
+-- Laws of chronicles: carrying one out has one answer, that of a world is carried out again, and one that is carried out is written again.
 use Rattle.std.specs.Prelude.{◌≡◌, ◌++◌, ℕ, List, Result, Ok, Err, ◌≤◌, length}
 use Rattle.ghc_term.specs.declared.fault.Fault.{Fault}
 use Rattle.ghc_term.specs.Answered.{Answered, IsExact}
@@ -33,13 +33,13 @@ WhatIsToldIsCarriedOut =
     → Resumes w.opening.program w.opening.query w.opening.names (chronicle_of_world w spies) ⊥ (Ok w)
     × ((result : Result World Fault) → Resumes w.opening.program w.opening.query w.opening.names (chronicle_of_world w spies) ⊥ result → result ≡ Ok w)
 
--- A chronicle whose next number is the one behind its entries, and that is carried out, is the chronicle of the world that it leaves.
+-- A chronicle whose next number is the one after its entries, and that is carried out, is the chronicle of the world that it leaves.
 abbrev pub WhatIsCarriedOutIsTold : Type 0
 WhatIsCarriedOutIsTold =
     (P : Program) (query : Query) (names : List (List ℕ)) (c : Chronicle) (w : World)
     → c.next ≡ next_behind c.opening.next c.entries → IsCarriedOut P query names c w → chronicle_of_world w c.spies ≡ c
 
--- A chronicle can be carried out: its opening is a history of the form, its entries and spied predicates are not too many, and its next number is the one behind its entries.
+-- A chronicle can be carried out: its opening is a history of the form, its entries and spied predicates are not too many, and its next number is the one after its entries.
 pub record CanBeResumed (c : Chronicle) : Type 0 where
   pub opening : IsHistory c.opening
   pub entries : length c.entries ≤ entry_limit

@@ -25,7 +25,7 @@ IsNoteOf w g note = (b : Goal) × IsCandidate w g b × IsExact w.opening.program
 abbrev pub AreKept : NotesByGoal → NotesByGoal → Type 0
 AreKept old new = (g : GoalName) (note : Note) → finite.get old g ≡ Some note → finite.get new g ≡ Some note
 
--- In the world w the goal named g has a note, which says the status that is told of it, and the other goals have what they had.
+-- In the world w the goal named g has a note, which says the status that a try of it finds, and the other goals have what they had.
 pub record IsNoted (w : World) (g : GoalName) (old new : NotesByGoal) : Type 0 where
   pub note : Note
   pub told : Notes ⊥ w g (noted g note.status)

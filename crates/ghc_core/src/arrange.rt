@@ -63,9 +63,9 @@ fn boxed_in_order(
 }
 
 impl Core {
-    /// Finds what it takes to put the record into this order: `NotLawful` exactly where the order is not lawful, with the pair
-    /// that tells why, unless memory was refused before that was known, which cannot be where its first number is not kept; else it
-    /// fails for want of memory alone. It goes over order and record, with a look-up for each variable that a step read or bound.
+    /// Finds what it takes to put the record into this order: `NotLawful`, with the pair that tells why, exactly where the order is
+    /// not lawful, unless memory was refused before that was known. Else it fails only where memory is refused, which cannot be where
+    /// the first number is not kept. It goes over order and record, with a look-up for each variable that a step read or bound.
     pub fn prepare_arrange(&self, alloc: Global, order: &[u32]) -> Result<Arrangement, Fault>
         ensures found { IfOk result (λ arrangement. CanChange self.now.world (reorders arrangement)) }
         ensures order { IfOk result (λ arrangement. arrangement.order ≡ order.now) }
@@ -110,7 +110,7 @@ impl Core {
 
     /// Puts the record into this order, also where that is the present one: goals, store, shelf, notes and untried goals stay as
     /// they are, and the journal has the order. `NotLawful`, with the pair that tells why, where the order is not lawful; else it
-    /// fails for want of memory alone. A refused order changes nothing. It goes over order and record, with a look-up for each
+    /// fails only where memory is refused. A refused order changes nothing. It goes over order and record, with a look-up for each
     /// variable that a step read or bound, and fires and tries nothing.
     pub fn arrange(&mut self, alloc: Global, order: &[u32]) -> Result<(), Fault>
         ensures ok { OnOk result (Obeys ⊥ self.old.world (arrange order.now) arranged self.new.world) }

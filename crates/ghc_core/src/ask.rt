@@ -90,10 +90,10 @@ fn ask_addition(alloc: Global, number: u32, ask: &Ask) -> Result<Addition, Alloc
 }
 
 impl Core {
-    /// Finds what it takes to ask for the goals, as the next step: `Undefined` exactly where a call among them has no clause, which
-    /// tells the first; else `NoVariable` exactly where they name a variable that is neither the query's nor made by a kept step;
-    /// else `Full` exactly where the numbers are used up or 1,000,000 steps are kept. These are told before memory is asked for
-    /// (but a count of handles of the name of an undefined call may be full). Else it fails for want of memory alone. Nothing is
+    /// Finds what it takes to ask for the goals, as the next step: `Undefined` exactly where a call among them has no clause, with
+    /// the first; else `NoVariable` exactly where they name a variable that is neither the query's nor made by a kept step; else
+    /// `Full` exactly where the numbers are used up or 1,000,000 steps are kept. It reports these before it asks for memory (but a
+    /// count of handles of the name of an undefined call may be full). Else it fails only where memory is refused. Nothing is
     /// fired. It costs two look-ups for each call, one for each variable, and a walk over the goals.
     pub fn prepare_ask(&self, alloc: Global, ask: &Ask) -> Result<Addition, Fault>
         ensures answer { Answered (λ step. IsOfAsk ask.now step × IsNextStep self.now.world step) (AskFails self.now.world ask.now) result }

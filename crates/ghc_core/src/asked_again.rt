@@ -16,7 +16,7 @@ use ghc_records::{Addition, Record};
 use ghc_term::{Bindings, Goal, GoalView, Variables};
 use std::alloc::{AllocError, Global};
 
-// Whether the place is the one behind so many.
+// True where the place is the next after so many.
 fn is_next_place(place: u32, count: u32) -> bool
     ensures { IsTrue result ↔ (place ≡ count + 1) }
 {

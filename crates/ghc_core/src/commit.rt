@@ -55,7 +55,7 @@ impl Core {
     ) -> Result<Proposal, Fault>
         ensures answer { Answered (IsProposedIn self.now.world goal choice) (λ f. AttemptAnswers self.now.world goal choice (refused f)) result }
 
-        // No want of memory hides that the goal or the clause is not there.
+        // Where memory runs out, it still reports that the goal or the clause is not there.
         ensures no_goal { AttemptAnswers self.now.world goal choice (refused Fault.NoGoal) → result ≡ Err Fault.NoGoal }
         ensures no_clause { AttemptAnswers self.now.world goal choice (refused Fault.NoClause) → result ≡ Err Fault.NoClause }
         ensures counted { meter.new ≡ fired meter.old }
@@ -164,13 +164,13 @@ impl Core {
     }
 
     /// Finds what it takes to take the step that was proposed, as the next step, and counts a firing. `Stale` exactly where the
-    /// goal is not there any more or the effect is not the one proposed; else `Full` exactly where the numbers are used up or
-    /// 1,000,000 steps are kept; else it fails for want of memory alone. But for the meter the core stays as it is. It costs
+    /// goal is not there any more or the effect is not the one proposed. Else `Full` exactly where the numbers are used up or
+    /// 1,000,000 steps are kept. Else it fails only where memory is refused. But for the meter the core stays as it is. It costs
     /// what the attempt costs, and a walk over its effect as written.
     pub fn prepare(&mut self, alloc: Global, proposal: &Proposal) -> Result<Addition, Fault>
         ensures answer { Answered (IsCommitOf self.old.world proposal.now) (CommitFails self.old.world proposal.now) result }
 
-        // No want of memory hides that the goal is not there any more.
+        // Where memory runs out, it still reports that the goal is not there any more.
         ensures gone { finite.get self.old.world.state.goals proposal.now.goal ≡ None → result ≡ Err Fault.Stale }
         ensures stays { Stays self.old self.new }
         ensures counted { self.new.meter ≡ fired self.old.meter }
@@ -202,7 +202,7 @@ impl Core {
     pub fn commit(&mut self, alloc: Global, proposal: &Proposal) -> Result<u32, Fault>
         ensures answer { Answered (IsCommitted self.old.world proposal.now self.new.world) (CommitFails self.old.world proposal.now) result }
 
-        // No want of memory hides that the goal is not there any more.
+        // Where memory runs out, it still reports that the goal is not there any more.
         ensures gone { finite.get self.old.world.state.goals proposal.now.goal ≡ None → result ≡ Err Fault.Stale }
         ensures stays { OnErr result (Stays self.old self.new) }
         ensures counted { self.new.meter ≡ fired self.old.meter }

@@ -14,7 +14,7 @@ pub enum Event {
     },
     /// The hand commits what it holds, and is empty afterwards, refused or not.
     Commit(u32),
-    /// The goal is tried, and its status told.
+    /// The goal is tried, and the reply is its status.
     Note(GoalName),
     /// The core gets the command.
     Command(Command),

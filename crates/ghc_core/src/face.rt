@@ -8,7 +8,7 @@ use ghc_hooks::Face;
 use std::alloc::{AllocError, Global};
 
 impl Core {
-    /// The face of the state, found from scratch, which costs what `Face::new` does; it fails for want of memory alone. Nothing is
+    /// The face of the state, found from scratch. It fails only where memory is refused. It costs what `Face::new` does. Nothing is
     /// counted or noted, for it is not a step of the run. Where no goal is untried, notes show the same.
     pub fn face(&self, alloc: Global) -> Result<Face<'_>, AllocError>
         ensures scratch { IfOk result (IsFaceOf self.now.world) }

@@ -92,8 +92,8 @@ impl Core {
 
     /// Finds what it takes to give the stream this input, as the next step: `NoStream` exactly where there is no such stream or it
     /// is closed, else `TailBound` exactly where its tail ends in a value, else `Full` exactly where the numbers are used up or
-    /// 1,000,000 steps are kept, all of which are told before memory is asked for; else it fails for want of memory alone. Nothing
-    /// is fired. It costs a look-up for each variable of the tail's chain.
+    /// 1,000,000 steps are kept. It reports these before it asks for memory. Else it fails only where memory is refused. Nothing is
+    /// fired. It costs a look-up for each variable of the tail's chain.
     pub fn prepare_input(
         &self,
         alloc: Global,

@@ -26,12 +26,12 @@ fn record_of(found: Result<Addition, Fault>) -> Result<Record, Fault>
 
 impl Core {
     /// The record that the command would add now, where it gives a stream an input or closes it, or asks for goals; the refusals are
-    /// those of `prepare_input`, `prepare_close` and `prepare_ask`. `Command` exactly where it is another command, which is told before
-    /// memory is asked for. Nothing is taken, and nothing is fired. It costs what preparing the step costs.
+    /// those of `prepare_input`, `prepare_close` and `prepare_ask`. `Command` exactly where it is another command, which it reports
+    /// before it asks for memory. Nothing is taken, and nothing is fired. It costs what preparing the step costs.
     pub fn foresee(&self, alloc: Global, command: &Command) -> Result<Record, Fault>
         ensures answer { Answered (λ r. Foresees self.now.world (command_of command.now) (adds r)) (λ f. Foresees self.now.world (command_of command.now) (refuses f)) result }
 
-        // What it is refused for whatever memory is left is told whatever memory is left.
+        // Where memory runs out, it still reports what the command is refused for anyway.
         ensures anyway { (f : fault_spec) → Foresees self.now.world (command_of command.now) (refuses f) → IsNotObeyedAnyway self.now.world (command_of command.now) f → result ≡ Err f }
         ensures other { Foresees self.now.world (command_of command.now) (refuses Fault.Command) → result ≡ Err Fault.Command }
     {

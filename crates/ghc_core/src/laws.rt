@@ -21,7 +21,7 @@ pub fn reachable_keeps()
     ensures { ReachableKeeps }
 {}
 
-/// In a reachable world an event has one answer at most, want of memory apart.
+/// In a reachable world an event has one answer at most, unless memory is refused.
 pub fn events_have_one_answer()
     ensures { EventsHaveOneAnswer }
 {}
@@ -46,7 +46,7 @@ pub fn still_holds_as_next()
     ensures { StillHoldsAsNext }
 {}
 
-/// In a reachable world each proper event has an answer other than want of memory.
+/// In a reachable world each proper event has an answer other than F1.
 pub fn events_have_an_answer()
     ensures { EventsHaveAnAnswer }
 {}

@@ -146,8 +146,8 @@ impl Core {
     /// The core of a query on which a history is loaded: its steps are taken one after the other from the query's state, each
     /// under its own number, and each fires once. Then the journal has an entry for each of them, the shelf is empty, no goal is
     /// noted, and each is untried but for stream goals. `History` tells the line of the first step that is not possible, where the
-    /// first step stands on line 3; else it fails for want of memory alone. It costs what firing and applying the steps costs, and
-    /// a look-up or two for each goal of the query.
+    /// first step stands on line 3. Else it fails only where memory is refused. It costs what firing and applying the steps costs,
+    /// and a look-up or two for each goal of the query.
     pub fn load(
         alloc: Global,
         program: Program,

@@ -24,7 +24,7 @@ use crate::reply::Reply;
 use ghc_term::{Fault, GoalName};
 use std::alloc::{AllocError, Global};
 
-// What is told of the change, with memory for the numbers of steps that are taken away.
+// The reply to the change, with memory for the numbers of steps that are taken away.
 fn change_told(alloc: Global, change: &Change) -> Result<Reply, AllocError>
     ensures { IfOk result (λ reply. reply_of reply ≡ told_of change.now) }
 {
@@ -57,8 +57,8 @@ impl Core {
         ensures answer { Obeys (Unit {0}) self.old.world (command_of command.now) (reply_of result) self.new.world }
         ensures entry { AddsOneAtMost self.old.world self.new.world }
 
-        // No want of memory hides that the stream is not there or its tail bound, that the step is not there, has a consequence or lacks
-        // its goal, that what is named is not known, that there is no room for an ask, or that the first number of an order is not kept.
+        // Where memory runs out, it still reports these: the stream is not there or its tail is bound; the step is not there, has a
+        // consequence or lacks its goal; what is named is not known; an ask has no room; an order's first number is not kept.
         ensures anyway { (f : fault_spec) → IsNotObeyedAnyway self.old.world (command_of command.now) f → reply_of result ≡ refused f }
         ensures stays { IsRefusal (reply_of result) → Stays self.old self.new }
 

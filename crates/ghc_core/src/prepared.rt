@@ -22,8 +22,8 @@ impl Core {
     pub fn prepare_command(&mut self, alloc: Global, command: &Command) -> Result<Change, Fault>
         ensures answer { Answered (IsAskedFor self.old.world (command_of command.now)) (Fails self.old.world (command_of command.now)) result }
 
-        // No want of memory hides that the stream is not there or its tail bound, that the step is not there, has a consequence or lacks
-        // its goal, that what is named is not known, that there is no room for an ask, or that the first number of an order is not kept.
+        // Where memory runs out, it still reports these: the stream is not there or its tail is bound; the step is not there, has a
+        // consequence or lacks its goal; what is named is not known; an ask has no room; an order's first number is not kept.
         ensures anyway { (f : fault_spec) → IsNotObeyedAnyway self.old.world (command_of command.now) f → result ≡ Err f }
         ensures stays { Stays self.old self.new }
         ensures counted { CountsInObeying self.old.world (command_of command.now) self.old.meter self.new.meter }

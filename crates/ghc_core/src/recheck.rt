@@ -45,7 +45,7 @@ fn is_same(alloc: Global, left: &Proposal, right: &Proposal) -> Result<bool, All
     left.effect().same(alloc, right.effect())
 }
 
-// What an attempt's refusal says of a proposal: it is stale, but for want of memory.
+// What an attempt's refusal says of a proposal: it is stale, unless memory was refused.
 fn stale_unless_memory(fault: Fault) -> Fault
     ensures { ((fault ≡ Fault.Memory) × (result ≡ Fault.Memory)) ⊎ ((fault ≢ Fault.Memory) × (result ≡ Fault.Stale)) }
 {

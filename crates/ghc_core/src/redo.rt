@@ -87,10 +87,10 @@ fn fires(
 impl Core {
     /// Finds what it takes to take the shelved step of this number again, at the end of the record, with the effect recorded:
     /// `NotShelved` exactly where it is not on the shelf; else `NoGoal` exactly where the goal that it consumed is not there; else
-    /// `NoVariable` exactly where it names a variable that is neither the query's nor made by a kept step; these are told before
-    /// memory is asked for, and fire nothing. Then it is fired once: `Changed` exactly where it would not do now what was recorded
-    /// (one that asks for goals would); else `Full` exactly where 1,000,000 steps are kept; else it fails for want of memory alone.
-    /// But for the meter the core stays as it is. A look-up is made for each variable that it names.
+    /// `NoVariable` exactly where it names a variable that is neither the query's nor made by a kept step. It reports these before
+    /// it asks for memory, and fires nothing for them. Then it fires the step once: `Changed` exactly where it would not do now
+    /// what was recorded (one that asks for goals would). Else `Full` exactly where 1,000,000 steps are kept. Else it fails only
+    /// where memory is refused. But for the meter the core stays as it is. A look-up is made for each variable that it names.
     pub fn prepare_redo(&mut self, alloc: Global, number: u32) -> Result<Addition, Fault>
         ensures found { IfOk result (λ step. CanChange self.old.world (comes Coming.Shelved step)) }
         ensures step { IfOk result (λ step. step.number ≡ number) }

@@ -12,7 +12,7 @@ pub enum Reply {
     Stepped(u32),
     /// The goal was tried, and this is what it can do.
     Noted(GoalName, Verdict),
-    /// The steps of these numbers were taken away; they are told in recorded order.
+    /// The steps of these numbers, in recorded order, were taken away.
     Undone(Vec<u32>),
     /// The record was put into the order.
     Arranged,

@@ -36,7 +36,7 @@ fn first_unknown(program: &Program, spies: &[Predicate]) -> Option<usize>
 
 impl Core {
     // Carries out the entries, one after another. `History` tells the line of the first one that is refused, where the first entry
-    // stands on this line; else it fails for want of memory alone.
+    // stands on this line. Else it fails only where memory is refused.
     fn carry_out_each(
         &mut self,
         alloc: Global,
@@ -62,10 +62,9 @@ impl Core {
 
     /// The core of a query on which a chronicle is carried out: its opening is loaded, as `load` does; then its entries are carried
     /// out, one after another, as the commands and commits did that they tell, each step under the next number; no goal is noted.
-    /// `History` tells the line of the first step of the opening that is not possible; or else of the first entry that no event
-    /// enters; or else of the first predicate that is spied and has no clause; else it fails for want of memory alone. The spies
-    /// stay with the chronicle. It costs what loading the opening and carrying out the entries cost, and two look-ups for each
-    /// of the spies.
+    /// `History` tells the line of the first step of the opening that is not possible; else of the first entry that no event
+    /// enters; else of the first spied predicate without a clause. Else it fails only where memory is refused. The spies stay with
+    /// the chronicle. It costs what loading the opening and carrying out the entries cost, and two look-ups for each of the spies.
     pub fn resume(
         alloc: Global,
         program: Program,

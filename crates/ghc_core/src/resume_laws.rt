@@ -12,12 +12,12 @@ pub fn carried_out_is_legal()
     ensures { CarriedOutIsLegal }
 {}
 
-/// What is told of a reachable world is carried out again, and leaves the same world, whole, and nothing else.
+/// The chronicle of a reachable world is carried out again, and leaves the same world, whole, and nothing else.
 pub fn what_is_told_is_carried_out()
     ensures { WhatIsToldIsCarriedOut }
 {}
 
-/// What was carried out is told again as it was.
+/// A chronicle that was carried out is written again as it was.
 pub fn what_is_carried_out_is_told()
     ensures { WhatIsCarriedOutIsTold }
 {}

@@ -68,7 +68,7 @@ impl Rollback {
         }
     }
 
-    // What it takes to roll this kept step back: what `consequences` costs. It fails for want of memory alone.
+    // What it takes to roll this kept step back. It fails only where memory is refused. It costs what `consequences` costs.
     fn of(alloc: Global, records: &Records, step: Removal) -> Result<Rollback, AllocError>
         requires kept { In step records.now.held }
         ensures first { IfOk result (λ gone. gone.first ≡ step) }
@@ -159,9 +159,9 @@ impl Core {
         self.journal.put(entry_for(how, number));
     }
 
-    /// Finds what it takes to roll the step of this number back: `NotKept` exactly where the step is not kept, which is told before
-    /// memory is asked for; else it fails for want of memory alone. It costs a look-up for each direct dependence on the step or
-    /// on a consequence, and puts the consequences in order.
+    /// Finds what it takes to roll the step of this number back: `NotKept` exactly where the step is not kept, which it reports
+    /// before it asks for memory. Else it fails only where memory is refused. It costs a look-up for each direct dependence on the
+    /// step or on a consequence, and puts the consequences in order.
     pub fn prepare_rollback(&self, alloc: Global, number: u32) -> Result<Rollback, Fault>
         ensures found { IfOk result (λ gone. CanChange self.now.world (goes Going.Together gone)) }
         ensures step { IfOk result (λ gone. gone.first.number ≡ number) }
@@ -183,8 +183,8 @@ impl Core {
     /// Rolls the step of this number back: it and its consequences are taken away, all or none, and their records go to the shelf.
     /// What they bound is unbound, the goals that they made are gone, and those that they consumed and did not make are there again.
     /// The reply is their numbers in recorded order. Nothing is fired or tried. `NotKept` exactly where the step is not kept, which
-    /// is told before memory is asked for, whose want is the one refusal else. A refused rollback changes nothing. It costs some
-    /// look-ups for each goal, read and binding of the steps that are taken away, however many steps are kept.
+    /// it reports before it asks for memory. Else it fails only where memory is refused. A refused rollback changes nothing. It
+    /// costs some look-ups for each goal, read and binding of the steps that are taken away, however many steps are kept.
     pub fn rollback(&mut self, alloc: Global, number: u32) -> Result<Vec<u32>, Fault>
         ensures ok { IfOk result (λ ns. Obeys ⊥ self.old.world (roll number) (undone ns.items) self.new.world) }
         ensures fault { IfErr result (λ f. (f ≡ Fault.Memory) ⊎ ((f ≡ Fault.NotKept) × IsNotKept self.old.world.kept number)) }

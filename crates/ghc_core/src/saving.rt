@@ -14,7 +14,7 @@ use ghc_records::{History, Records, Step};
 use ghc_term::{Fault, Limit};
 use std::alloc::{AllocError, Global};
 
-// Puts the step of the record at this place behind the others, if there is one.
+// Puts the step of the record at this place after the others, if there is one.
 fn push_at(records: &Records, place: usize, steps: &mut Vec<Step>) -> Result<(), AllocError>
     ensures { OnOk result (KeepsSlot step_of records.now.slots place steps.old.items steps.new.items) }
 {
@@ -38,7 +38,7 @@ fn steps_of(alloc: Global, records: &Records) -> Result<Vec<Step>, AllocError>
     Ok(steps)
 }
 
-// Puts the number of the record at this place behind the others, if there is one.
+// Puts the number of the record at this place after the others, if there is one.
 fn push_number_at(records: &Records, place: usize, numbers: &mut Vec<u32>) -> Result<(), AllocError>
     ensures { OnOk result (KeepsSlot (λ r. r.number) records.now.slots place numbers.old.items numbers.new.items) }
 {
@@ -83,7 +83,7 @@ fn ask_for_goals(records: &Records) -> bool
 }
 
 impl Core {
-    /// The numbers of the kept steps, in recorded order: one step for each place of the record. It fails for want of memory alone.
+    /// The numbers of the kept steps, in recorded order: one step for each place of the record. It fails only where memory is refused.
     pub fn kept_numbers(&self, alloc: Global) -> Result<Vec<u32>, AllocError>
         ensures { IfOk result (λ ns. ns.items ≡ numbers self.now.world.kept) }
     {
@@ -97,8 +97,8 @@ impl Core {
     }
 
     /// The history of the steps that the core keeps: two steps for each place of the record. `Limit` of the version exactly where a
-    /// kept step asks for goals, which is told before memory is asked for; else it fails for want of memory, or where a count of
-    /// handles is full.
+    /// kept step asks for goals, which it reports before it asks for memory. Else it fails only where memory is refused or a count
+    /// of handles is full.
     pub fn history(&self, alloc: Global) -> Result<History, Fault>
         ensures history { IfOk result (λ history. history ≡ history_of self.now.world) }
         ensures form { IfOk result (λ _. IsHistory (history_of self.now.world)) }

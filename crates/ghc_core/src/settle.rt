@@ -67,8 +67,8 @@ impl Core {
     }
 
     /// Tries a goal from scratch, also where it has a note, and leaves it with its note: one try. `NoGoal` exactly where no such
-    /// goal is there or it is a stream goal, which is told before memory is asked for and counts no try; else its want is the one
-    /// refusal, and no note changes. It costs the try, and some look-ups for each variable that it looks at.
+    /// goal is there or it is a stream goal, which it reports before it asks for memory, and without a try. Else it fails only
+    /// where memory is refused, and then no note changes. It costs the try, and some look-ups for each variable that it looks at.
     pub fn note(&mut self, alloc: Global, goal: GoalName) -> Result<(), Fault>
         ensures answer { Answered (λ _. IsNoted self.old.world goal self.old.notes self.new.notes) (λ f. Notes ⊥ self.old.world goal (refused f)) result }
         ensures no_goal { IsNoCandidate self.old.world goal → (result ≡ Err Fault.NoGoal) × (self.new.meter ≡ self.old.meter) }

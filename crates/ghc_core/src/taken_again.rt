@@ -31,7 +31,7 @@ pub(crate) enum Outcome {
     Refused,
 }
 
-// Fails where the fault is want of memory.
+// Fails where the fault is `Memory`.
 fn for_another_cause(fault: Fault) -> Result<(), AllocError>
     ensures { OnOk result (fault ≢ fault_spec.Memory) }
 {

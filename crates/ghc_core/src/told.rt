@@ -45,7 +45,7 @@ fn entry_told(alloc: Global, entry: &Entry) -> Result<WrittenEntry, AllocError>
     }
 }
 
-// Puts the entry of the journal at this place behind the others.
+// Puts the entry of the journal at this place after the others.
 fn push_told(
     alloc: Global,
     journal: &Journal,
@@ -62,7 +62,7 @@ fn push_told(
     Ok(())
 }
 
-// The entries of the journal behind the first so many, as a chronicle has them: one step for each, and as many as an order is long.
+// The entries of the journal after the first so many, as a chronicle has them: one step for each, and as many as an order is long.
 fn entries_told(
     alloc: Global,
     journal: &Journal,
@@ -79,7 +79,7 @@ fn entries_told(
 }
 
 impl Core {
-    /// What the core began with: the steps that were loaded, and the number that the next step got behind them.
+    /// What the core began with: the steps that were loaded, and the number that the next step got after them.
     pub fn opening(&self) -> &History
         ensures { result.now ≡ opening_of self.now.world }
     {
@@ -87,8 +87,8 @@ impl Core {
     }
 
     /// The chronicle that tells the whole of the core, with these predicates spied: what it began with, all entries of its journal
-    /// behind that, and the number that the next step gets. It takes one step for each step of the opening and each entry, and for
-    /// each number of an order. It fails for want of memory, or where a count of handles is full.
+    /// after that, and the number that the next step gets. It takes one step for each step of the opening and each entry, and for
+    /// each number of an order. It fails only where memory is refused or a count of handles is full.
     pub fn chronicle(&self, alloc: Global, spies: Vec<Predicate>) -> Result<Chronicle, AllocError>
         ensures { IfOk result (λ chronicle. chronicle ≡ chronicle_of_world self.now.world spies.items) }
     {

@@ -22,8 +22,8 @@ use std::alloc::Global;
 
 impl Core {
     /// Finds what it takes to undo the step of this number: `NotKept` exactly where the step is not kept; else `HasConsequence`,
-    /// with the first consequence in recorded order, exactly where it has one; else it fails for want of memory alone, where a
-    /// count of handles is full. It costs a look-up for each step that depends directly on this one.
+    /// with the first consequence in recorded order, exactly where it has one. Else it fails only where a count of handles is full,
+    /// with `Memory`. It costs a look-up for each step that depends directly on this one.
     pub fn prepare_undo(&self, alloc: Global, number: u32) -> Result<Rollback, Fault>
         ensures found { IfOk result (λ gone. CanChange self.now.world (goes Going.Alone gone)) }
         ensures step { IfOk result (λ gone. gone.first.number ≡ number) }
@@ -45,9 +45,9 @@ impl Core {
     /// Undoes the step of this number: what it bound is unbound, the goals that it made are gone, the goal that it consumed is
     /// there again, and its record goes to the shelf. Untried are then the goal put back and those that looked at what is unbound,
     /// beside those that were. `NotKept` exactly where the step is not kept; else `HasConsequence`, with
-    /// the first consequence in recorded order, exactly where it has one; these come before memory is asked for, whose want is the
-    /// one refusal else. A refused undo changes nothing. It costs some look-ups for each goal, read and binding of the step,
-    /// however many steps are kept: what `prepare_undo` and `apply` cost.
+    /// the first consequence in recorded order, exactly where it has one. It reports these before it asks for memory. Else it fails
+    /// only where memory is refused. A refused undo changes nothing. It costs what `prepare_undo` costs, and some look-ups for each
+    /// goal, read and binding of the step, however many steps are kept.
     ///
     /// The rule is that of Danos and Krivine (2004): an action may be undone exactly when all its consequences have been.
     pub fn undo(&mut self, alloc: Global, number: u32) -> Result<(), Fault>

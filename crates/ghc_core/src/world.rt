@@ -28,7 +28,7 @@ pub struct World {
     meter: Meter,
 }
 
-// Puts the reply behind the others, where there is room for it.
+// Puts the reply after the others, where there is room for it.
 fn put_reply(replies: &mut Vec<Reply>, reply: Reply)
     requires { vec_len replies.old < vec_capacity replies.old }
     ensures items { replies.new.items ≡ replies.old.items ++ reply ∷ [] }
@@ -137,8 +137,8 @@ impl World {
 
     /// Meets the event, and replies: the world and the hands that are left are those that the event leaves by its definition, the
     /// notes those that it leaves, and the journal has one entry more at most. A refused event changes nothing but the counts, and
-    /// the hand of a commit. `Command` is told where a hand is asked that is not there, `Stale` where one
-    /// commits that holds nothing. It costs what the call of the core costs, and a look-up for the hand.
+    /// the hand of a commit. `Command` where a hand is asked that is not there, `Stale` where one commits that holds nothing. It
+    /// costs what the call of the core costs, and a look-up for the hand.
     pub fn answer(&mut self, alloc: Global, event: &Event) -> Reply
         ensures met { Meets self.old (event_of event.now) (reply_of result) self.new }
         ensures entry { AddsOneAtMost self.old.core.world self.new.core.world }

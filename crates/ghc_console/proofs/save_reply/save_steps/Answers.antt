@@ -12,7 +12,7 @@ returns-in-Err c = if_ok c.refused.result c.refused.ensures.text c.refused.ensur
       | inr q ↦ subst (RepliesToSaveSteps c.args.core.now.world) (sym (told ∙ ap refusal q.0)) (has_asked q.1)
     ])
 
--- a history that was added to no text is told
+-- a history that was added to no text is the reply
 told : {T E : Type 0} (r : Result T E) (w : World) (old new text : List ℕ) → ¬ AskForGoals w.kept → new ≡ (if is_ok r then old ++ text else old) → old ≡ [] → text ≡ history_text (history_of w)
     → OnOk r (RepliesToSaveSteps w new)
 told (Ok t) w old new text none e empty is = subst (RepliesToSaveSteps w) (sym (e ∙ (λ i. empty i ++ is i))) (tells_history none)

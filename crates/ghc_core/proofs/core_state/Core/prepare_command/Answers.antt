@@ -3,7 +3,7 @@ use Rattle.ghc_core.proofs.Counted.{redo_counted}
 use Rattle.ghc_core.proofs.CertainRefusals.{undo_cannot_fail, one_undo_refusal}
 use Rattle.ghc_core.proofs.core_state.Core.prepare_command.Goals as goal
 
--- a fault is told alike in place of another result, and where there is a result, none is told
+-- a fault is the same in place of another result, and where there is a result, there is none
 alike : {A B E : Type 0} {e f : E} → ◌≡◌ {A = Result A E} (Err e) (Err f) → ◌≡◌ {A = Result B E} (Err e) (Err f)
 alike p = cc
 
