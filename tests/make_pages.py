@@ -22,7 +22,7 @@ CHANGES = [
     ("crates/ghc_term/src/fault.rt", '"F7 no goal"', '"F7 no such goal"', "docs/FORMATS.md is another"),
     ("crates/ghc_reader/src/limits.rt", "MOST_CLAUSES: usize = 10_000", "MOST_CLAUSES: usize = 20_000", "MOST_CLAUSES is 20000, and"),
     ("crates/ghc_core/specs/Refusals.antt", "IsToldWhere Fault.NotKept", "IsToldWhere Fault.NoGoal", "FORMATS: `undo` is refused with"),
-    ("crates/ghc_core/src/undo_laws.rt", "fn undo_takes_step_away", "fn undo_takes_a_step_away", "no contract of `undo_takes_step_away`"),
+    ("crates/ghc_core/src/laws/undo_laws.rt", "fn undo_takes_step_away", "fn undo_takes_a_step_away", "no contract of `undo_takes_step_away`"),
     ("crates.txt", "ghc_unify: ghc_term", "ghc_unify:", "docs/made/crates.svg is another"),
     ("README.md", "ghcdb promises no order", "ghcdb promises" + " no" * 50 + " order", "README has a sentence of"),
 ]

@@ -24,8 +24,8 @@ pub use Rattle.ghc_console.specs.declared.answered.Answered.{Answered}
 pub use Rattle.ghc_console.specs.declared.answered.Answered.TheVariants.{Asks, Ends, Lists, Told}
 pub use Rattle.ghc_console.specs.declared.command.LineCommand.{LineCommand}
 pub use Rattle.ghc_console.specs.declared.command.LineCommand.TheVariants.{Ask, Goals, Input, Keep, Leap, Nothing, Obey, Quit, Records, Save, SaveSteps, Shelf, Show, Skip, Spy, Step, Unknown, Unspy, Who, Why}
-pub use Rattle.ghc_console.specs.declared.line_buffer.Gathered.{Gathered}
-pub use Rattle.ghc_console.specs.declared.reading.Line.{Line}
+pub use Rattle.ghc_console.specs.declared.devices.line_buffer.Gathered.{Gathered}
+pub use Rattle.ghc_console.specs.declared.devices.reading.Line.{Line}
 pub use Rattle.ghc_core.proofs.Moving.{opening_stays}
 pub use Rattle.ghc_core.specs.Answers.{Fails}
 pub use Rattle.ghc_core.specs.Change.{CanChange, IsBoundBy}
@@ -38,9 +38,9 @@ pub use Rattle.ghc_core.specs.Playing.{empty_hands}
 pub use Rattle.ghc_core.specs.Proposes.{IsCommitOf, StepFails}
 pub use Rattle.ghc_core.specs.Settling.{AreKept}
 pub use Rattle.ghc_core.specs.World.{Hands, World}
-pub use Rattle.ghc_core.specs.declared.change.Change.{Change}
-pub use Rattle.ghc_core.specs.declared.change.Change.TheVariants.{Comes}
-pub use Rattle.ghc_core.specs.declared.change.Coming.{Coming}
+pub use Rattle.ghc_core.specs.declared.changes.Change.{Change}
+pub use Rattle.ghc_core.specs.declared.changes.Change.TheVariants.{Comes}
+pub use Rattle.ghc_core.specs.declared.changes.Coming.{Coming}
 pub use Rattle.ghc_core.specs.declared.reply.Reply.TheVariants.{Refused}
 pub use Rattle.ghc_depend.specs.Depend.{IsNotKept}
 pub use Rattle.ghc_fire.specs.Meter.{one_more}

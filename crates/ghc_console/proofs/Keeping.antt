@@ -4,8 +4,8 @@ use Rattle.std.specs.Prelude.{MatchOption}
 use Rattle.std.proofs.lemmas.List.{take-append-drop}
 use Rattle.ghc_term.specs.declared.fault.Fault.TheVariants as fault
 use Rattle.ghc_term.specs.declared.goal_name.GoalName.{GoalName}
-use Rattle.ghc_core.specs.declared.change.Change.TheVariants.{Goes as goes}
-use Rattle.ghc_core.specs.declared.change.Going.{Going}
+use Rattle.ghc_core.specs.declared.changes.Change.TheVariants.{Goes as goes}
+use Rattle.ghc_core.specs.declared.changes.Going.{Going}
 use Rattle.ghc_records.specs.Orders.{Picks, nothing, take as taken, leave}
 use Rattle.ghc_records.proofs.OrderLemmas.{number_in, number_of, picks_once}
 use Rattle.ghc_records.proofs.PickLemmas.{picks_in, picks_has}

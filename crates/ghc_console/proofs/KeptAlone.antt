@@ -6,8 +6,8 @@ use Rattle.ghc_core.proofs.Reaching.{reached_good}
 use Rattle.ghc_core.proofs.Replayed.{replayed}
 use Rattle.ghc_core.specs.Core.{IsStanding}
 use Rattle.ghc_core.specs.Reached.{by_change}
-use Rattle.ghc_core.specs.declared.change.Change.TheVariants.{Goes as goes}
-use Rattle.ghc_core.specs.declared.change.Going.{Going}
+use Rattle.ghc_core.specs.declared.changes.Change.TheVariants.{Goes as goes}
+use Rattle.ghc_core.specs.declared.changes.Going.{Going}
 use Rattle.ghc_core.specs.Gone.{all_gone}
 use Rattle.ghc_records.specs.Orders.{Picks, nothing, take, leave}
 use Rattle.ghc_records.specs.Record.{State}

@@ -1,6 +1,6 @@
 -- Lemmas on rows, and on a part of a buffer.
 use Rattle.ghc_console.proofs.CitedWords.{◌≡◌, ◌≢◌, ℕ, ◌+◌, ◌-◌, ◌<◌, ◌≤◌, true, false, cond, eqb, All, Option, None, Some, List, [], ◌∷◌, ◌++◌, length, map, take, drop, refl, sym, ap, ◌∙◌, arith, inl, inr, rules, append-nil, ◌⊎◌, drop-drop, drop-take, length-take, All-head, All-tail, Consumes, IsAtEnd, sum_by-append, onto, rows_of, line_feeds, line_of, lines_of, HasGathered, IsMadeOf, IsNextLine, TakesFront, TakesLine, Gathered, Line}
-use Rattle.ghc_console.specs.declared.reading.Line.TheVariants as line
+use Rattle.ghc_console.specs.declared.devices.reading.Line.TheVariants as line
 
 -- what is left of a window into a buffer
 pub window : (buf : List ℕ) (start len k : ℕ) → k ≤ len → take (len - k) (drop (start + k) buf) ≡ drop k (take len (drop start buf))

@@ -4,8 +4,8 @@ use Rattle.std.specs.Fmt.{decimal}
 use Rattle.ghc_term.specs.declared.fault.Fault.{Fault}
 use Rattle.ghc_records.specs.Record.{numbers}
 use Rattle.ghc_depend.specs.Depend.{IsNotKept}
-use Rattle.ghc_core.specs.declared.change.Change.TheVariants.{Goes as goes}
-use Rattle.ghc_core.specs.declared.change.Going.{Going}
+use Rattle.ghc_core.specs.declared.changes.Change.TheVariants.{Goes as goes}
+use Rattle.ghc_core.specs.declared.changes.Going.{Going}
 use Rattle.ghc_core.specs.Gone.{Gone, all_gone}
 use Rattle.ghc_core.specs.Change.{CanChange, Changes}
 use Rattle.ghc_core.specs.World.{World}

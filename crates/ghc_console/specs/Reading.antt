@@ -2,11 +2,11 @@
 use Rattle.std.specs.Prelude.{◌≡◌, ◌≢◌, ℕ, ◌+◌, ◌<◌, ◌≤◌, ◌⊎◌, Option, None, Some, IfSome, ⊤, Bool, true, false, List, [], ◌∷◌, ◌++◌, length, All}
 use Rattle.std.specs.Io.KnownBytes.{IsAtEnd}
 use Rattle.ghc_console.specs.Lines.{Row, line_feeds, line_of, lines_of}
-use Rattle.ghc_console.specs.declared.line_buffer.State.{State}
-use Rattle.ghc_console.specs.declared.line_buffer.State.TheVariants.{Whole, TooLong, NoMemory}
-use Rattle.ghc_console.specs.declared.line_buffer.Gathered.{Gathered}
-use Rattle.ghc_console.specs.declared.reading.Line.{Line}
-use Rattle.ghc_console.specs.declared.reading.Line.TheVariants as line
+use Rattle.ghc_console.specs.declared.devices.line_buffer.State.{State}
+use Rattle.ghc_console.specs.declared.devices.line_buffer.State.TheVariants.{Whole, TooLong, NoMemory}
+use Rattle.ghc_console.specs.declared.devices.line_buffer.Gathered.{Gathered}
+use Rattle.ghc_console.specs.declared.devices.reading.Line.{Line}
+use Rattle.ghc_console.specs.declared.devices.reading.Line.TheVariants as line
 
 -- The most bytes of a line.
 abbrev pub line_limit : ℕ

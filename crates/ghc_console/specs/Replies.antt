@@ -27,8 +27,8 @@ use Rattle.ghc_core.specs.Events.{Command}
 use Rattle.ghc_core.specs.Events as command
 use Rattle.ghc_core.specs.CommandCode.{command_of as core_command_of}
 use Rattle.ghc_core.specs.Proposes.{AttemptAnswers, IsCommitOf}
-use Rattle.ghc_core.specs.declared.change.Change.{Change}
-use Rattle.ghc_core.specs.declared.change.Change.TheVariants.{Comes as comes, Goes as goes, Reorders as reorders}
+use Rattle.ghc_core.specs.declared.changes.Change.{Change}
+use Rattle.ghc_core.specs.declared.changes.Change.TheVariants.{Comes as comes, Goes as goes, Reorders as reorders}
 use Rattle.ghc_core.specs.Gone.{all_gone}
 use Rattle.ghc_core.specs.Change.{Changes}
 use Rattle.ghc_core.specs.Answers.{Fails}

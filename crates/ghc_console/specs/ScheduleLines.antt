@@ -5,8 +5,8 @@ use Rattle.std.specs.Str.{bytes_eq}
 use Rattle.ghc_term.specs.declared.goal_name.GoalName.{GoalName}
 use Rattle.ghc_core.specs.declared.event.Event.TheVariants as event
 use Rattle.ghc_console.specs.Words.{goal_name_of, is_printable, number_of, words_of}
-use Rattle.ghc_console.specs.declared.schedule_line.ScheduleLine.{ScheduleLine}
-use Rattle.ghc_console.specs.declared.schedule_line.ScheduleLine.TheVariants.{Nothing, Event, AsConsole, Unknown}
+use Rattle.ghc_console.specs.declared.schedules.line.ScheduleLine.{ScheduleLine}
+use Rattle.ghc_console.specs.declared.schedules.line.ScheduleLine.TheVariants.{Nothing, Event, AsConsole, Unknown}
 
 -- The hand asks for a step of the goal, with a clause chosen or not, where the words named hand and goal.
 abbrev pub propose_with : Option ℕ → Option GoalName → Option ℕ → ScheduleLine

@@ -22,8 +22,8 @@ use Rattle.ghc_console.specs.Replies.{undone_text}
 use Rattle.ghc_console.specs.ScheduleLines.{schedule_line_of}
 use Rattle.ghc_console.specs.declared.command.LineCommand.{LineCommand}
 use Rattle.ghc_console.specs.declared.command.LineCommand.TheVariants.{Nothing as nothing, Step as step, Obey as obey, Show as show, Records as records, Goals as goals, Why as why, Who as who, Explain as explain, ExplainGoal as explain_goal, Keep as keep, KeepGoal as keep_goal, Shelf as shelf, Save as save, SaveSteps as save_steps, Spy as spy, Unspy as unspy, Input as input, Ask as ask, Leap as leap, Skip as skip, Quit as quit, Unknown as unknown}
-use Rattle.ghc_console.specs.declared.schedule_line.ScheduleLine.{ScheduleLine}
-use Rattle.ghc_console.specs.declared.schedule_line.ScheduleLine.TheVariants as line
+use Rattle.ghc_console.specs.declared.schedules.line.ScheduleLine.{ScheduleLine}
+use Rattle.ghc_console.specs.declared.schedules.line.ScheduleLine.TheVariants as line
 
 -- the line that tells a reply: `held W`, `step N`, `noted G`, `undone N,N`, `arranged`, or why the event is refused
 abbrev pub reply_text : Reply → List ℕ

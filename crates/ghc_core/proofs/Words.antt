@@ -28,10 +28,10 @@ pub use Rattle.ghc_core.specs.Settling.{AreKept, AreNoted, IsNoteOf, IsNoted, tr
 pub use Rattle.ghc_core.specs.inner.StreamGoals.{TellStreams, all_told_back, first_made, name_of, opened, renamed, stream_of, told, told_back, with_name}
 pub use Rattle.ghc_core.specs.Streams.{IsStreamAt, IsStreamStep, StreamFails}
 pub use Rattle.ghc_core.specs.World.{Hands, HasRoom, IsFull, IsHand, IsKnown, IsNextStep, IsReplay, Opens, Proposal, World, emptied, no_hands, with_hand, with_step}
-pub use Rattle.ghc_core.specs.declared.change.Change.{Change}
-pub use Rattle.ghc_core.specs.declared.change.Change.TheVariants.{Comes, Goes, Reorders}
-pub use Rattle.ghc_core.specs.declared.change.Coming.{Coming}
-pub use Rattle.ghc_core.specs.declared.change.Going.{Going}
+pub use Rattle.ghc_core.specs.declared.changes.Change.{Change}
+pub use Rattle.ghc_core.specs.declared.changes.Change.TheVariants.{Comes, Goes, Reorders}
+pub use Rattle.ghc_core.specs.declared.changes.Coming.{Coming}
+pub use Rattle.ghc_core.specs.declared.changes.Going.{Going}
 pub use Rattle.ghc_depend.proofs.Arranging.{neighbours_lawful}
 pub use Rattle.ghc_depend.proofs.Causes.{at_split, place_at}
 pub use Rattle.ghc_depend.proofs.ComingBack.{both_distinct, come_back}

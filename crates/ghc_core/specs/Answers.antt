@@ -12,10 +12,10 @@ use Rattle.ghc_records.specs.Record.{Record, numbers}
 use Rattle.ghc_depend.specs.Depend.{IsNotKept}
 use Rattle.ghc_depend.specs.Lawful.{IsUnlawful}
 use Rattle.ghc_core.specs.Arrangement.{Arrangement}
-use Rattle.ghc_core.specs.declared.change.Change.{Change}
-use Rattle.ghc_core.specs.declared.change.Change.TheVariants.{Comes as comes, Goes as goes, Reorders as reorders}
-use Rattle.ghc_core.specs.declared.change.Coming.{Coming}
-use Rattle.ghc_core.specs.declared.change.Going.{Going}
+use Rattle.ghc_core.specs.declared.changes.Change.{Change}
+use Rattle.ghc_core.specs.declared.changes.Change.TheVariants.{Comes as comes, Goes as goes, Reorders as reorders}
+use Rattle.ghc_core.specs.declared.changes.Coming.{Coming}
+use Rattle.ghc_core.specs.declared.changes.Going.{Going}
 use Rattle.ghc_core.specs.Gone.{Gone, all_gone}
 use Rattle.ghc_core.specs.World.{Proposal, Hands, IsHand, with_hand, emptied, World}
 use Rattle.ghc_core.specs.Change.{CanChange, Changes}

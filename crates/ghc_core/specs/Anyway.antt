@@ -17,7 +17,7 @@ use Rattle.ghc_core.specs.Refusals.{IsToldWhere, OrElse, UndoFails, RedoFails}
 
 -- A hand is not given a proposal: there is no such hand; or else there is no such goal, or no such clause.
 pub record IsNotProposedAnyway (w : World) (hands : Hands) (h : ℕ) (g : GoalName) (choice : Option ℕ) (f : Fault) : Type 0 where
-  pub first : OrElse (IsToldWhere Fault.Command (¬ IsHand hands h)) 
+  pub first : OrElse (IsToldWhere Fault.Command (¬ IsHand hands h))
       (λ e. ((e ≡ Fault.NoGoal) × AttemptAnswers w g choice (attempt.refused Fault.NoGoal)) ⊎ ((e ≡ Fault.NoClause) × AttemptAnswers w g choice (attempt.refused Fault.NoClause))) f
 
 -- The hand holds nothing, or the goal of what it holds is not there any more.

@@ -1,6 +1,6 @@
 -- The change for which a command asks in a world.
 use Rattle.ghc_core.specs.World.{World}
-use Rattle.ghc_core.specs.declared.change.Change.{Change}
+use Rattle.ghc_core.specs.declared.changes.Change.{Change}
 use Rattle.ghc_core.specs.Change.{CanChange}
 use Rattle.ghc_core.specs.Events.{Command}
 use Rattle.ghc_core.specs.Answers.{Asks}

@@ -4,7 +4,7 @@ use Rattle.std.specs.FinSet as set
 use Rattle.ghc_term.specs.declared.fault.Fault.{Fault}
 use Rattle.ghc_hooks.specs.Notes.{AreLeft}
 use Rattle.ghc_core.specs.Core.{Core, Stays}
-use Rattle.ghc_core.specs.declared.change.Change.{Change}
+use Rattle.ghc_core.specs.declared.changes.Change.{Change}
 use Rattle.ghc_core.specs.Change.{CanChange, Changes, IsBoundBy}
 use Rattle.ghc_core.specs.Events.{Event, propose, commit, note, command, Reply, refused}
 use Rattle.ghc_core.specs.Answers.{Answers}

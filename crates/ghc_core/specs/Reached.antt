@@ -5,7 +5,7 @@ use Rattle.ghc_reader.specs.Written.{AreApart}
 use Rattle.ghc_flat.specs.Clause.{Query}
 use Rattle.ghc_flat.specs.Flat.{IsProgram, IsQuery}
 use Rattle.ghc_records.specs.Journal.{Opening}
-use Rattle.ghc_core.specs.declared.change.Change.{Change}
+use Rattle.ghc_core.specs.declared.changes.Change.{Change}
 use Rattle.ghc_core.specs.World.{World, Opens}
 use Rattle.ghc_core.specs.Change.{CanChange, Changes}
 

@@ -24,7 +24,7 @@ IsStreamAt w k g s = finite.get w.state.goals g ≡ Some (stream k s)
 pub record StreamFails (w : World) (k : ℕ) (f : Fault) : Type 0 where
   pub first : OrElse (IsToldWhere Fault.NoStream ((g : GoalName) (s : VarName) → ¬ IsStreamAt w k g s))
       (OrElse (IsToldWhere Fault.TailBound ((g : GoalName) × (s : VarName) × (e : Tree) × IsStreamAt w k g s × EndsIn (value_at w.state.store) s e × IsValue e))
-        (IsToldWhere Fault.Full (IsFull w))) f
+      (IsToldWhere Fault.Full (IsFull w))) f
 
 -- The record is that of the act on stream k.
 abbrev pub IsOfStream : ℕ → Act → Record → Type 0

@@ -1,6 +1,6 @@
 // Commands to a core.
 
-use crate::order::Order;
+use crate::changes::order::Order;
 use ghc_fire::Ask;
 use ghc_term::Ground;
 

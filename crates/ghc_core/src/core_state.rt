@@ -1,7 +1,7 @@
 // The core of a debugger: a program and a query, the state of the run, and its record.
 ghost use Rattle.std.specs.Prelude.{◌≡◌, ◌≤◌, [], IfOk};
 
-use crate::carrying::mark_made;
+use crate::changes::carrying::mark_made;
 use crate::stream_goals::StreamGoals;
 use ghc_fire::Meter;
 use ghc_flat::Program;

@@ -1,6 +1,13 @@
 // Laws about the definitions, each as the contract of a function.
 ghost use Rattle.ghc_core.specs.Laws.{ReachableIsOrderly, ReachableIsWellMade, ReachableIsNamed, ReachableKeeps, EventsHaveOneAnswer, EventsLeadWhereChangesLead, CommitIsExact, StepIsExact, StreamStepIsExact, EventsHaveAnAnswer, StillHoldsAsNext};
 
+pub(crate) mod facts;
+pub(crate) mod history_laws;
+pub(crate) mod load_laws;
+pub(crate) mod resume_laws;
+pub(crate) mod undo_laws;
+pub(crate) mod world_laws;
+
 /// A reachable world keeps no number twice, has an acyclic store, and one goal a stream.
 pub fn reachable_is_orderly()
     ensures { ReachableIsOrderly }

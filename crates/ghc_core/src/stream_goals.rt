@@ -2,7 +2,7 @@
 ghost use Rattle.std.specs.Prelude.{◌≡◌, length, IfOk};
 ghost use Rattle.ghc_core.specs.inner.StreamGoals.{told, told_back, opened, renamed, stream_of, first_made as first_made_by};
 
-use crate::carrying::is_stream;
+use crate::changes::carrying::is_stream;
 use ghc_records::Record;
 use ghc_term::{Goal, GoalName, GoalView};
 use std::alloc::{AllocError, Global};

@@ -3,7 +3,7 @@ use Rattle.ghc_pool.proofs.Words.{◌≡◌, ◌≢◌, ◌<◌, ◌⊎◌, refl
 use Rattle.std.specs.FinMap as finite
 use Rattle.ghc_core.specs.Events as events
 use Rattle.ghc_core.specs.Proposes as asking
-use Rattle.ghc_pool.specs.declared.meet.Met.TheVariants.{Stop as stop}
+use Rattle.ghc_pool.specs.declared.runs.meet.Met.TheVariants.{Stop as stop}
 use Rattle.ghc_pool.proofs.Taking.{step_of_one}
 
 -- each note is where it was

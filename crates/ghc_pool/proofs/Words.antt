@@ -17,7 +17,7 @@ pub use Rattle.ghc_core.specs.Legal.{Begins, IsAnswered, IsReceipt, Leaves, Rece
 pub use Rattle.ghc_core.specs.Proposes.{AttemptAnswers, IsCommitOf, IsReduction, IsStepOf, StepFails, StillHolds}
 pub use Rattle.ghc_core.specs.Settling.{AreKept, IsNoted}
 pub use Rattle.ghc_core.specs.World.{Hands, HasRoom, IsFull, Proposal, World, no_hands, with_step}
-pub use Rattle.ghc_core.specs.declared.change.Change.{Change}
+pub use Rattle.ghc_core.specs.declared.changes.Change.{Change}
 pub use Rattle.ghc_core.specs.declared.reply.Reply.{Reply}
 pub use Rattle.ghc_depend.proofs.Finding.{own_made, same_value}
 pub use Rattle.ghc_depend.proofs.Placing.{results_of}
@@ -62,8 +62,8 @@ pub use Rattle.ghc_pool.specs.declared.answer.Answer.TheVariants.{Noted, Starved
 pub use Rattle.ghc_pool.specs.declared.answer.RoundStop.{RoundStop}
 pub use Rattle.ghc_pool.specs.declared.answer.RoundStop.TheVariants.{Clash, Full, Limit, Memory, Spied}
 pub use Rattle.ghc_pool.specs.declared.craft.Decided.{Decided}
-pub use Rattle.ghc_pool.specs.declared.meet.Met.{Met}
-pub use Rattle.ghc_pool.specs.declared.meet.Met.TheVariants.{Passed, Stepped}
+pub use Rattle.ghc_pool.specs.declared.runs.meet.Met.{Met}
+pub use Rattle.ghc_pool.specs.declared.runs.meet.Met.TheVariants.{Passed, Stepped}
 pub use Rattle.ghc_pool.specs.declared.mode.Mode.{Mode}
 pub use Rattle.ghc_pool.specs.declared.rounds.rule.Hand.{Hand}
 pub use Rattle.ghc_pool.specs.declared.rounds.victim.Victim.{Victim}
@@ -72,7 +72,7 @@ pub use Rattle.ghc_pool.specs.declared.rounds.working.Job.{Job}
 pub use Rattle.ghc_pool.specs.declared.scope.Scope.{Scope}
 pub use Rattle.ghc_pool.specs.declared.scope.Scope.TheVariants.{Any, Of}
 pub use Rattle.ghc_pool.specs.declared.stop.Stop.{Stop}
-pub use Rattle.ghc_pool.specs.declared.survey.Standing.TheVariants.{Failed, Idle, Ready}
+pub use Rattle.ghc_pool.specs.declared.runs.survey.Standing.TheVariants.{Failed, Idle, Ready}
 pub use Rattle.ghc_records.specs.Journal.{Entry, Item, Opening, entered, history, step_of, took}
 pub use Rattle.ghc_records.specs.Record.{Record}
 pub use Rattle.ghc_records.specs.inner.RecordCode.{opening_code}

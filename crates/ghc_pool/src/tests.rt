@@ -9,7 +9,7 @@ ghost use Rattle.std.specs.Vec.{vec_len};
 
 use crate::answer::{Answer, RoundStop};
 use crate::craft::{Craft, Decided};
-use crate::rounds::together::{Ended, work_together};
+use crate::rounds::threads::{Ended, work_together};
 use ghc_core::Reply;
 use ghc_shared::Receipt;
 use ghc_term::GoalName;

@@ -28,8 +28,8 @@ use Rattle.ghc_core.proofs.Moving.{reachable_reached}
 use Rattle.ghc_core.proofs.Replayed.{replayed}
 use Rattle.ghc_core.specs.Answers.{does, to_roll}
 use Rattle.ghc_core.specs.Change.{Changes}
-use Rattle.ghc_core.specs.declared.change.Change.TheVariants.{Goes as goes}
-use Rattle.ghc_core.specs.declared.change.Going.{Going}
+use Rattle.ghc_core.specs.declared.changes.Change.TheVariants.{Goes as goes}
+use Rattle.ghc_core.specs.declared.changes.Going.{Going}
 use Rattle.ghc_core.specs.Gone.{Gone}
 use Rattle.ghc_core.specs.Proposes.{AttemptAnswers, IsStepOf}
 use Rattle.ghc_core.specs.Reached.{by_change}

@@ -7,8 +7,8 @@ pub use Rattle.ghc_core.specs.Change.{CanChange, Changes, IsBoundBy}
 pub use Rattle.ghc_core.specs.Core.{IsStanding}
 pub use Rattle.ghc_core.specs.Gone.{all_gone}
 pub use Rattle.ghc_core.specs.World.{IsReplay, World}
-pub use Rattle.ghc_core.specs.declared.change.Change.{Change}
-pub use Rattle.ghc_core.specs.declared.change.Change.TheVariants.{Comes, Goes, Reorders}
+pub use Rattle.ghc_core.specs.declared.changes.Change.{Change}
+pub use Rattle.ghc_core.specs.declared.changes.Change.TheVariants.{Comes, Goes, Reorders}
 pub use Rattle.ghc_depend.proofs.Ahead.{all_behind, behind_ranked, in_inserted}
 pub use Rattle.ghc_depend.proofs.Causes.{at_split}
 pub use Rattle.ghc_depend.proofs.Finding.{makes_at, own, own_made, same_value}

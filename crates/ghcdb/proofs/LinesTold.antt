@@ -23,10 +23,10 @@ use Rattle.ghc_console.specs.AskedFor.{IsReadAskFor}
 use Rattle.ghcdb.proofs.AsksTold.{can_be_asked}
 use Rattle.ghc_records.specs.Journal.{Step, Entry}
 use Rattle.ghc_records.specs.Record.{Record}
-use Rattle.ghc_core.specs.declared.change.Change.{Change}
-use Rattle.ghc_core.specs.declared.change.Change.TheVariants.{Comes as comes, Goes as goes}
-use Rattle.ghc_core.specs.declared.change.Coming.{Coming}
-use Rattle.ghc_core.specs.declared.change.Going.{Going}
+use Rattle.ghc_core.specs.declared.changes.Change.{Change}
+use Rattle.ghc_core.specs.declared.changes.Change.TheVariants.{Comes as comes, Goes as goes}
+use Rattle.ghc_core.specs.declared.changes.Coming.{Coming}
+use Rattle.ghc_core.specs.declared.changes.Going.{Going}
 use Rattle.ghc_core.specs.declared.command.Command.{Command as Given}
 use Rattle.ghc_core.specs.declared.command.Command.TheVariants as core
 use Rattle.ghc_core.specs.Answers.{Asks, to_give, to_close, to_undo, to_roll, to_redo, to_arrange, to_ask}

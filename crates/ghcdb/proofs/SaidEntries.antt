@@ -16,10 +16,10 @@ use Rattle.ghc_records.specs.EntryText.{IsNamed}
 use Rattle.ghc_records.specs.Journal.{took, step_of}
 use Rattle.ghc_records.specs.Record.{State, Record, Fires}
 use Rattle.ghc_depend.proofs.Results.{firing}
-use Rattle.ghc_core.specs.declared.change.Change.{Change}
-use Rattle.ghc_core.specs.declared.change.Change.TheVariants.{Comes as comes, Goes as goes, Reorders as reorders}
-use Rattle.ghc_core.specs.declared.change.Coming.{Coming}
-use Rattle.ghc_core.specs.declared.change.Going.{Going}
+use Rattle.ghc_core.specs.declared.changes.Change.{Change}
+use Rattle.ghc_core.specs.declared.changes.Change.TheVariants.{Comes as comes, Goes as goes, Reorders as reorders}
+use Rattle.ghc_core.specs.declared.changes.Coming.{Coming}
+use Rattle.ghc_core.specs.declared.changes.Going.{Going}
 use Rattle.ghc_core.specs.Change.{CanChange}
 use Rattle.ghc_core.specs.Reached.{Reaches}
 use Rattle.ghc_core.proofs.Resuming.{entered_by}

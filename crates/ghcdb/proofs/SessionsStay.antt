@@ -6,10 +6,10 @@ use Rattle.std.specs.Ordering.{eq_by_cmp}
 use Rattle.std.specs.FinSet as set
 use Rattle.ghc_term.specs.declared.goal_name.GoalName.{GoalName}
 use Rattle.ghc_records.specs.Record.{Record}
-use Rattle.ghc_core.specs.declared.change.Change.{Change}
-use Rattle.ghc_core.specs.declared.change.Change.TheVariants.{Comes as comes, Goes as goes, Reorders as reorders}
-use Rattle.ghc_core.specs.declared.change.Coming.{Coming}
-use Rattle.ghc_core.specs.declared.change.Going.{Going}
+use Rattle.ghc_core.specs.declared.changes.Change.{Change}
+use Rattle.ghc_core.specs.declared.changes.Change.TheVariants.{Comes as comes, Goes as goes, Reorders as reorders}
+use Rattle.ghc_core.specs.declared.changes.Coming.{Coming}
+use Rattle.ghc_core.specs.declared.changes.Going.{Going}
 use Rattle.ghc_core.specs.Change.{CanChange, Changes}
 use Rattle.ghc_core.specs.Events.{Command}
 use Rattle.ghc_core.specs.Reached.{Reaches, by_change}

@@ -10,10 +10,10 @@ use Rattle.ghc_records.specs.Numbers.{kept_limit}
 use Rattle.ghc_records.specs.Orders.{AreDistinct}
 use Rattle.ghc_records.specs.Record.{Record}
 use Rattle.ghc_records.proofs.TurnLemmas.{next_more, turn_more}
-use Rattle.ghc_core.specs.declared.change.Change.{Change}
-use Rattle.ghc_core.specs.declared.change.Change.TheVariants.{Comes as comes, Goes as goes, Reorders as reorders}
-use Rattle.ghc_core.specs.declared.change.Coming.{Coming}
-use Rattle.ghc_core.specs.declared.change.Going.{Going}
+use Rattle.ghc_core.specs.declared.changes.Change.{Change}
+use Rattle.ghc_core.specs.declared.changes.Change.TheVariants.{Comes as comes, Goes as goes, Reorders as reorders}
+use Rattle.ghc_core.specs.declared.changes.Coming.{Coming}
+use Rattle.ghc_core.specs.declared.changes.Going.{Going}
 use Rattle.ghc_core.specs.Change.{CanChange, Changes}
 use Rattle.ghc_core.specs.Reached.{Reaches, by_change}
 use Rattle.ghc_core.proofs.Loading.{step_numbers}

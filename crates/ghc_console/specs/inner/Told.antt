@@ -1,7 +1,7 @@
 -- What is known of a core after a change, before its goals were tried again.
 use Rattle.ghc_hooks.specs.Notes.{NotesByGoal, AreLeft}
 use Rattle.ghc_core.specs.World.{World}
-use Rattle.ghc_core.specs.declared.change.Change.{Change}
+use Rattle.ghc_core.specs.declared.changes.Change.{Change}
 use Rattle.ghc_core.specs.Change.{CanChange, Changes, IsBoundBy}
 use Rattle.ghc_trace.specs.Disturbed.{Disturbed, AreDisturbed}
 use Rattle.ghc_trace.specs.Laws.{IsSettled, Brings}

@@ -13,8 +13,8 @@ use Rattle.ghc_core.specs.World.{World, with_step}
 use Rattle.ghc_core.specs.Core.{Core}
 use Rattle.ghc_core.specs.Settling.{AreKept, IsNoted}
 use Rattle.ghc_trace.specs.Spies.{Spies}
-use Rattle.ghc_pool.specs.declared.meet.Met.{Met}
-use Rattle.ghc_pool.specs.declared.meet.Met.TheVariants.{Stepped as stepped, Stop as stop, Passed as passed}
+use Rattle.ghc_pool.specs.declared.runs.meet.Met.{Met}
+use Rattle.ghc_pool.specs.declared.runs.meet.Met.TheVariants.{Stepped as stepped, Stop as stop, Passed as passed}
 use Rattle.ghc_pool.specs.Runs.{IsInQuestion, HasMetNoFailure, IsRunStep}
 
 -- Since this number, which is no less than 1, each kept step took a goal in question.

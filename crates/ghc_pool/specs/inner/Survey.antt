@@ -4,8 +4,8 @@ use Rattle.ghc_term.specs.declared.goal_name.GoalName.{GoalName}
 use Rattle.ghc_term.specs.Lists.{In}
 use Rattle.ghc_core.specs.World.{World}
 use Rattle.ghc_pool.specs.declared.stop.Stop.{Stop}
-use Rattle.ghc_pool.specs.declared.survey.Standing.{Standing}
-use Rattle.ghc_pool.specs.declared.survey.Standing.TheVariants.{Idle as idle, Ready as by_ready, Failed as by_failed}
+use Rattle.ghc_pool.specs.declared.runs.survey.Standing.{Standing}
+use Rattle.ghc_pool.specs.declared.runs.survey.Standing.TheVariants.{Idle as idle, Ready as by_ready, Failed as by_failed}
 use Rattle.ghc_pool.specs.Runs.{HasFailed, IsReady}
 
 -- What the goal named g is: neither ready and in question nor failed and so, or one of these.

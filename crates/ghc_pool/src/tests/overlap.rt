@@ -1,7 +1,7 @@
 // Two workers of a run work side by side: while one of them holds a proposal, a submit of the other is answered.
 use crate::gate::Gate;
 use crate::mode::Mode;
-use crate::running_together::run_together;
+use crate::runs::run::run_together;
 use crate::stop::{Report, Stop};
 use crate::tests::unifications::two;
 use crate::workers::Workers;

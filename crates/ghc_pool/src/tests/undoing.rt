@@ -5,8 +5,8 @@ ghost use Rattle.ghc_shared.specs.inner.Calls.{code_of};
 
 use crate::gate::Gate;
 use crate::mode::Mode;
+use crate::rounds::round::round;
 use crate::scope::Scope;
-use crate::shared_round::round;
 use crate::tests::unifications::{core_of, counts, goal};
 use ghc_core::{Command, Core, Reply};
 use ghc_fire::Meter;

@@ -1,7 +1,7 @@
 use Rattle.ghc_shared.proofs.Words.{◌≡◌, sym, subst, Ok, Err, Fault, no_hands, emptied, note, stepped, refused, reply_of, Answers, IsRefusedAnyway, note_refused_anyway, obeyed_answers, noted_answers, holding, hands_of, event_of}
 use Rattle.std.proofs.Common.{inl, inr, refl}
-use Rattle.ghc_core.specs.declared.change.Change.TheVariants.{Comes as comes}
-use Rattle.ghc_core.specs.declared.change.Coming.{Coming}
+use Rattle.ghc_core.specs.declared.changes.Change.TheVariants.{Comes as comes}
+use Rattle.ghc_core.specs.declared.changes.Coming.{Coming}
 use Rattle.ghc_shared.proofs.Answering.{commits, gives_up, submit_counts, told_gone}
 use Rattle.ghc_shared.proofs.telling.reply_to.Goals as goal
 

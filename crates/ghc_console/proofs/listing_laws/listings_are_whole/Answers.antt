@@ -1,5 +1,0 @@
-use Rattle.ghc_console.proofs.WholeListings.{are_whole}
-use Rattle.ghc_console.proofs.listing_laws.listings_are_whole.Goals as goal
-
-pub returns : goal.returns
-returns c = are_whole

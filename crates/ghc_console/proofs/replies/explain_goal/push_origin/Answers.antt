@@ -1,0 +1,31 @@
+use Rattle.ghc_console.proofs.CitedWords.{◌≡◌, ◌++◌, List, ℕ, sym, subst, ap, ◌∙◌, string_bytes}
+use Rattle.ghc_term.specs.Lists.{In}
+use Rattle.ghc_trace.specs.declared.holding.Holder.{Holder}
+use Rattle.ghc_trace.specs.Explaining.{AreHolderLines, AreStepLines}
+use Rattle.ghc_console.specs.Explaining.{tells_origin, steps_line}
+use Rattle.ghc_console.proofs.ExplainReplies.{joined, reaching_there, told_kept}
+use Rattle.ghc_console.proofs.replies.explain_goal.push_origin.Goals as goal
+
+pub push_holders-requires-clause-there : goal.push_holders-requires-clause-there
+push_holders-requires-clause-there c h i =
+    reaching_there c.args.core.now.world.state h ((c.in_ok-held.ensures.1 h).0 (subst (λ (l : List Holder). In h l) c.as_slice.ensures.value i)).2
+
+pub push_steps-requires : goal.push_steps-requires
+push_steps-requires c n i =
+    let told = c.in_ok-slice.ensures in
+    told_kept c.args.core.now.world.kept told.0 c.in_ok-slice.slice.items told.2.0 told.3 n (subst (λ (l : List ℕ). In n l) c.as_slice-2.ensures.value i)
+
+pub returns : goal.returns
+returns c =
+    let w = c.args.core.now.world in
+    let slice = c.in_ok-slice.slice.items in
+    let held = c.in_ok-push_holders.ensures in
+    let steps = c.in_ok-push_steps.ensures in
+    let last = steps_line slice w.kept in
+    let old = string_bytes c.args.reply.now in (
+      held.0 ++ (steps.0 ++ last),
+      tells_origin held.0 steps.0 slice c.in_ok-held.held.items c.in_ok-held.ensures (subst (λ (l : List Holder). AreHolderLines w l held.0) c.as_slice.ensures.value held.1)
+          c.in_ok-slice.ensures (subst (λ (l : List ℕ). AreStepLines w l steps.0) c.as_slice-2.ensures.value steps.1),
+      c.in_ok-push_steps_line.ensures ∙ ap (λ ns. string_bytes c.push_steps.new.out ++ steps_line ns w.kept) c.as_slice-3.ensures.value
+          ∙ ap (λ t. t ++ last) (steps.2 ∙ ap (λ t. t ++ steps.0) held.2) ∙ joined old held.0 steps.0 last,
+    )

@@ -1,0 +1,81 @@
+// The listing of the records, which is written line by line.
+ghost use Rattle.std.specs.Prelude.{◌≡◌, ◌∷◌, [], map, OnOk, string_bytes};
+ghost use Rattle.std.specs.Io.KnownBytes.{Keeps};
+ghost use Rattle.ghc_records.specs.StepText.{record_text};
+ghost use Rattle.ghc_console.specs.inner.Device.{Counts};
+ghost use Rattle.ghc_console.specs.inner.WritesTold.{WritesSlot, WritesTold};
+ghost use Rattle.ghc_console.specs.TextLines.{lined};
+ghost use Rattle.ghc_console.specs.Listings.{records_listed};
+
+use crate::devices::device::{Broken, Device, write_all};
+use crate::devices::made_line::write_made;
+use ghc_records::{Record, Records, push_record};
+use std::alloc::AllocError;
+
+// The line of a record.
+fn tell_record(taken: &Record, line: &mut String) -> Result<(), AllocError>
+    requires { string_bytes line.old ≡ [] }
+    ensures { OnOk result (string_bytes line.new ≡ lined (record_text taken.now)) }
+{
+    push_record(taken, line)?;
+    line.push_str("\n")
+}
+
+// Writes the line of the record at this place, if there is one.
+fn write_record_at<D: Device>(
+    device: &mut D,
+    records: &Records,
+    place: usize,
+    line: &mut String,
+) -> Result<(), Broken>
+    ensures told { WritesSlot records.now.slots place (D.written device.old) (D.written device.new) result }
+    ensures unread { Keeps (D.unread device.old) (D.unread device.new) }
+    ensures count { Counts (D.failures device.old) (D.failures device.new) result }
+    ensures earlier { D.earlier device.new ≡ D.earlier device.old }
+    ensures latest { D.latest device.new ≡ D.latest device.old }
+{
+    let Some(taken) = records.at(place) else {
+        return Ok(());
+    };
+    line.clear();
+    let made = tell_record(taken, line);
+    write_made(device, made, line)
+}
+
+// Writes the lines of the records.
+fn write_each<D: Device>(device: &mut D, records: &Records, line: &mut String) -> Result<(), Broken>
+    ensures told { WritesTold (map lined (map record_text records.now.held)) (D.written device.old) (D.written device.new) result }
+    ensures unread { Keeps (D.unread device.old) (D.unread device.new) }
+    ensures count { Counts (D.failures device.old) (D.failures device.new) result }
+    ensures earlier { D.earlier device.new ≡ D.earlier device.old }
+    ensures latest { D.latest device.new ≡ D.latest device.old }
+{
+    // Called for its clause on the slots, which the proof cites.
+    let _count = records.len();
+    for place in 0..records.places() {
+        match write_record_at(device, records, place, line) {
+            Ok(()) => (),
+            Err(Broken) => return Err(Broken),
+        }
+    }
+    Ok(())
+}
+
+/// Writes the records, a line each, or `none`, one at a time, in place of what stands in the text. Where memory is refused for a
+/// line, the refusal stands in its place. It costs two steps for each place of the record, and memory for one line.
+pub(crate) fn write_records<D: Device>(
+    device: &mut D,
+    records: &Records,
+    line: &mut String,
+) -> Result<(), Broken>
+    ensures told { WritesTold (map lined (records_listed records.now.held)) (D.written device.old) (D.written device.new) result }
+    ensures unread { Keeps (D.unread device.old) (D.unread device.new) }
+    ensures count { Counts (D.failures device.old) (D.failures device.new) result }
+    ensures earlier { D.earlier device.new ≡ D.earlier device.old }
+    ensures latest { D.latest device.new ≡ D.latest device.old }
+{
+    if records.len() == 0 {
+        return write_all(device, b"none\n");
+    }
+    write_each(device, records, line)
+}

@@ -1,5 +1,0 @@
-use Rattle.ghc_core.proofs.Played.{stale_play}
-use Rattle.ghc_core.proofs.facts.second_hand_is_stale.Goals as goal
-
-pub returns : goal.returns
-returns c = stale_play

@@ -1,5 +1,0 @@
-use Rattle.ghc_core.proofs.Returning.{roll_takes}
-use Rattle.ghc_core.proofs.undo_laws.roll_takes_steps_away.Goals as goal
-
-pub returns : goal.returns
-returns c = roll_takes

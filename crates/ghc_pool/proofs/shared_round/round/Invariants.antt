@@ -1,7 +1,0 @@
-use Rattle.ghc_pool.proofs.shared_round.round.Given as goal
-
-abbrev pub ghosts-work_together-L-Limited : goal.ghosts-work_together-L-Limited
-ghosts-work_together-L-Limited g a = record { limit = a.limit }
-
-abbrev pub ghosts-work_together-L-Ledger : goal.ghosts-work_together-L-Ledger
-ghosts-work_together-L-Ledger g a = record { name = a.blank.name; parts = a.blank.parts }
