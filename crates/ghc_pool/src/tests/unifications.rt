@@ -120,7 +120,8 @@ fn worked_off<N: Naming + Send + Sync, R: Threads + Wait + Abort + Sync>(
     ) else {
         return None;
     };
-    Some((shared.close(passes), report))
+    let core = shared.close(passes);
+    Some((core, report))
 }
 
 // All is taken, both goals by a step, and nothing is left; the journal comes again where a new core is given its events.
