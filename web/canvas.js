@@ -166,7 +166,7 @@ const Canvas = (() => {
   /** All that can be chosen of what is shown, in the order of the picture: the steps, then the goals. */
   const choices = () => [...[...canvas.view.marks.keys()].map((step) => ({ step })), ...[...canvas.view.goals.keys()].map((goal) => ({ goal }))];
 
-  /** What is told of a step or of an arrow of the picture. */
+  /** What the picture says of a step or of an arrow. */
   function wordsFor(element) {
     const { graph } = Talk.run, { step, from, to } = element.dataset;
     if (step !== undefined) return Picture.tellStep(Talk.run, graph.byNumber.get(Number(step)));

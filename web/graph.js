@@ -332,7 +332,7 @@ const Graph = (() => {
       return number === undefined ? undefined : this.byNumber.get(number).binds.find((binding) => binding.variable === variable).term;
     }
 
-    /** Where the step that consumed a goal is told: NONE if none did; undefined if the goal was not made by a kept step or the query. */
+    /** The place of the step that consumed a goal: NONE if none did; undefined if the goal was not made by a kept step or the query. */
     consumerOf(goal) {
       const [maker, place] = nameParts(goal);
       return this.consumerAt(maker, place);
@@ -463,7 +463,7 @@ const Graph = (() => {
 
     /**
      * Takes steps away from anywhere: `to` tells for each index where its step stands then, or NONE; `first` is the first that goes. No step
-     * that stays depends on one that goes. All that is behind moves up; yields now and then.
+     * that stays depends on one that goes. All that comes later moves up; yields now and then.
      */
     *remove(to, first) {
       for (let index = first; index < this.count; index++) if (to[index] === NONE) this.forgetStep(index);

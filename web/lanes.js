@@ -383,7 +383,7 @@ const Lanes = ((Graph, Terms) => {
     return (looks.find(({ isLarge, fits }) => isLarge && fits) || scrolled[0] || looks[looks.length - 1]).sizes;
   }
 
-  /** What stands behind a goal that is there: `labels` is `long`, `name` or `none`. */
+  /** What stands after a goal that is there: `labels` is `long`, `name` or `none`. */
   function goalLabel(goal, labels) {
     if (labels === "none") return "";
     if (labels === "name") return goal.name;

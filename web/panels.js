@@ -66,7 +66,7 @@ const Panels = (() => {
     find("redo-all").hidden = shelf.length < 2;
   }
 
-  /** What is told of the step that is chosen. */
+  /** What the panel says of the step that is chosen. */
   function showDetail(chosen) {
     const area = find("detail"), step = chosen && Talk.run.graph.byNumber.get(chosen.step);
     if (!step) {

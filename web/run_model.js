@@ -19,7 +19,7 @@ const RunModel = ((Graph, Lanes) => {
     }
 
     /**
-     * Follows what the worker tells. Steps have gone (`gone`, their numbers); or the first `kept` steps stay, all behind them go, and those of
+     * Follows what the worker tells. Steps have gone (`gone`, their numbers); or the first `kept` steps stay, all later ones go, and those of
      * `lines` come. Beside it stand the lines of `goals` and `shelf`, one after the other, of the values, and texts. It yields how many steps
      * are read, each time that it may pause; `isWhole` is false until it has ended.
      */
@@ -52,7 +52,7 @@ const RunModel = ((Graph, Lanes) => {
       return all;
     }
 
-    /** Takes away all steps behind the first ones. */
+    /** Takes away all steps after the first ones. */
     *cut(kept) {
       const { graph, lanes } = this;
       lanes.cut(graph, kept);

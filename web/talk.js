@@ -59,7 +59,7 @@ const Talk = (() => {
     });
   }
 
-  /** Does one thing after another; while one takes long, the page is told. */
+  /** Does one thing after another; while one takes long, the page hears of it. */
   function queued(line, does) {
     last = last.then(async () => {
       talk.busy = { line, since: performance.now(), memory: 0, read: 0, canStop: line !== "" && Service.canStop() };

@@ -64,7 +64,7 @@ const Told = (() => {
       this.count += countLines(lines);
     }
 
-    /** Takes the place of what was told, by the reply to `records`. Gives how many lines stay, and the text behind them. */
+    /** Takes the reply to `records` in place of what is there. Gives how many lines stay, and the text after them. */
     replace(reply) {
       const now = stepsOf(reply), same = commonLength(this.bytes, now), start = same === 0 ? 0 : now.lastIndexOf(LINE_END, same - 1) + 1;
       const kept = countLines(now, start), come = now.slice(start);
@@ -75,7 +75,7 @@ const Told = (() => {
     }
 
     /**
-     * Adds what the reply to `since N` tells, N being the number of the last step. Gives the text behind it; null where the reply does not
+     * Adds what the reply to `since N` tells, N being the number of the last step. Gives the text after it; null where the reply does not
      * begin with the last line as it was told.
      */
     addSince(reply) {

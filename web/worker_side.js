@@ -4,7 +4,7 @@ const WorkerSide = ((Graph, Asking, Told) => {
 
   const MOST_WITH_TEXTS = 3000; // steps; the goals of a longer run are not asked for
   const MOST_LINES_READ = 300000; // bytes; a longer reply is handed on as it is
-  const EVERY = 8192, LEAST_PAUSE = 150; // requests for memory, milliseconds: how often it is told that a line is still at work
+  const EVERY = 8192, LEAST_PAUSE = 150; // requests for memory, milliseconds: how often it says that a line is still at work
   const NOTHING = new Uint8Array(0);
 
   /** What the console's commands do to the record: add steps at its end, take steps away, or look at it alone. All others are looked at anew. */
@@ -41,7 +41,7 @@ const WorkerSide = ((Graph, Asking, Told) => {
       return { refusal: refused ? start.trim() : "", look: refused ? null : this.look(), goalForms: [...this.goalForms] };
     }
 
-    /** What is to be shown, by the whole record: how many of its steps stay, the lines of those that have come, and all that is told beside it. */
+    /** What is to be shown, by the whole record: how many of its steps stay, the lines of those that have come, and all else that is shown. */
     look() {
       return this.changed(this.told.replace(this.session.bytes("records")));
     }
@@ -62,7 +62,7 @@ const WorkerSide = ((Graph, Asking, Told) => {
       return { gone, kept, come, ...this.beside(), texts: this.newTexts(come) };
     }
 
-    /** What is told beside the record: the bytes of the replies to `goals` and `shelf`, and the lines of values. */
+    /** What is shown beside the record: the bytes of the replies to `goals` and `shelf`, and the lines of values. */
     beside() {
       const values = Asking.variablesOf(this.given.query).flatMap((name) => this.session.line(`show ${name}`));
       return { goals: this.session.bytes("goals"), shelf: this.session.bytes("shelf"), values };
@@ -93,7 +93,7 @@ const WorkerSide = ((Graph, Asking, Told) => {
       let last = null;
       for (const line of lines) {
         if (this.session.hasEnded) break;
-        if (line.trim() === "quit") last = this.look(); // behind it nothing can be asked
+        if (line.trim() === "quit") last = this.look(); // after it nothing can be asked
         const bytes = this.session.bytes(line), reply = bytes.length > MOST_LINES_READ ? bytes : linesOf(bytes);
         if (reply !== bytes) Asking.addCalls(this.texts, reply);
         replies.push(reply);
