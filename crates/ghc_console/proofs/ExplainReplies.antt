@@ -5,6 +5,7 @@ use Rattle.std.specs.FinMap as finite
 use Rattle.ghc_term.specs.declared.fault.Fault.TheVariants as fault
 use Rattle.ghc_term.specs.declared.limit.Limit.TheVariants as limit
 use Rattle.ghc_term.specs.Lists.{In}
+use Rattle.ghc_records.proofs.OrderLemmas.{number_of}
 use Rattle.ghc_records.specs.Orders.{Picks}
 use Rattle.ghc_records.specs.Record.{State, numbers}
 use Rattle.ghc_depend.proofs.Picking.{picks_in}
@@ -16,16 +17,10 @@ use Rattle.ghc_term.specs.declared.goal_name.GoalName.{GoalName}
 use Rattle.ghc_trace.specs.GoalLines.{IsTooLong}
 use Rattle.ghc_console.specs.Explaining.{RepliesToExplain, RepliesToExplainGoal, goal_is_too_long, too_long_to_explain}
 
--- each of the numbers is that of a record
-of_number : (rs : List Record) (n : ℕ) → In n (numbers rs) → (r : Record) × In r rs × (r.number ≡ n)
-of_number [] n i = absurd i
-of_number (r ∷ rs) n (inl e) = (r, inl refl, sym e)
-of_number (r ∷ rs) n (inr i) = let q = of_number rs n i in (q.0, inr q.1, q.2)
-
 -- the steps of a slice are kept
 pub told_kept : (kept : List Record) {D : Record → Type 0} (found : List Record) (told : List ℕ) → Picks D kept found → numbers found ≡ told → (n : ℕ) → In n told → (r : Record) × IsKeptAs kept n r
 told_kept kept found told picked is n i =
-    let q = of_number found n (subst (λ ns. In n ns) (sym is) i) in
+    let q = number_of found n (subst (λ ns. In n ns) (sym is) i) in
     (q.0, ((picks_in kept found q.0 picked q.1).0, q.2))
 
 -- a holder's goal is there

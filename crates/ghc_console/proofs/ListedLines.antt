@@ -1,6 +1,6 @@
 -- The lines of listings: how far their writing has come, and what they tell.
 use Rattle.ghc_console.proofs.CitedWords.{◌≡◌, ◌≢◌, ◌⊎◌, ◌≤◌, ◌<◌, ℕ, ◌+◌, List, [], ◌∷◌, ◌++◌, codes, length, map, take, drop, refl, sym, ap, ◌∙◌, subst, inl, inr, arith, slice_get, slice_get_within, append_assoc, append-nil, map-append, drop_of_length-le, Option, Some, None, Result, Ok, Err, Appends, Appends-nil, WritesFront, WritesTold, AreLinesTold, and_line, no_line, lined, Record, record_text, SlotList, StandsIn, held_in, rank, rank_end, rank_gap, rank_next, rank_stands, rank_zero, records_listed, History, Entry, Predicate, chronicle_of, chronicle_lines, chronicle_heading, opening_line, entries_line, spies_line, end_line, step_text, entry_text, chronicle_predicate_text}
-use Rattle.ghc_records.proofs.ChronicleWritten.{there}
+use Rattle.ghc_core.proofs.SavedSteps.{drop_at}
 use Rattle.ghc_console.proofs.RunLines.{Going, going_broken, going_end, going_last, going_on, going_start, one_told}
 
 -- lines whose text was written
@@ -22,14 +22,6 @@ front_then xs ys a b c first more =
 -- A call failed in the lines in front.
 pub front_less : (xs ys : List (List ℕ)) (a b : Option (List ℕ)) → WroteFront xs a b → WroteFront (xs ++ ys) a b
 front_less xs ys a b first = going_broken (xs ++ ys) xs ys a a b first.0 first.2.0 (going_start (xs ++ ys) a) first.1 first.2.1
-
--- the thing at a place, before those after it
-pub drop_there : {A : Type 0} (xs : List A) (i : ℕ) (x : A) → slice_get xs i ≡ Some x → drop i xs ≡ x ∷ drop (i + 1) xs
-drop_there xs i x e =
-    let t = there xs i (slice_get_within xs i x e) in
-    let both : Some t.0 ≡ Some x = sym t.1 ∙ e in
-    let same : t.0 ≡ x = cc in
-    t.2 ∙ ap (λ z. z ∷ drop (i + 1) xs) same
 
 -- the lines of things
 abbrev pub lines_of_each : {A : Type 0} → (A → List ℕ) → List A → List (List ℕ)
@@ -74,11 +66,11 @@ module _ (ss : SlotList) where
   pub slot_on : (i : ℕ) (a b c : Option (List ℕ)) → Going (lines_of_each record_text (held_in ss)) (lines_from ss i) a b → WroteSlot ss i b c → Going (lines_of_each record_text (held_in ss)) (lines_from ss (i + 1)) a c
   slot_on i a b c g (inl t) =
       subst (λ k. Going all (from_rank k) a c) (sym (rank_next ss i t.0 t.1))
-      (lines_on record_text all (held_in ss) (rank ss i) t.0 a b c (drop_there (held_in ss) (rank ss i) t.0 (rank_stands ss i t.0 t.1)) g t.2)
+      (lines_on record_text all (held_in ss) (rank ss i) t.0 a b c (drop_at (held_in ss) (rank ss i) t.0 (rank_stands ss i t.0 t.1)) g t.2)
   slot_on i a b c g (inr t) = subst (λ k. Going all (from_rank k) a c) (sym (rank_gap ss i t.0)) (going_on all [] (from_rank (rank ss i)) a b c t.1.0 g t.1.1 t.1.2)
 
   pub slot_broken : (i : ℕ) (a b c : Option (List ℕ)) → Going (lines_of_each record_text (held_in ss)) (lines_from ss i) a b → WroteSlotFront ss i b c → WroteFront (lines_of_each record_text (held_in ss)) a c
-  slot_broken i a b c g (inl t) = lines_broken record_text all (held_in ss) (rank ss i) t.0 a b c (drop_there (held_in ss) (rank ss i) t.0 (rank_stands ss i t.0 t.1)) g t.2
+  slot_broken i a b c g (inl t) = lines_broken record_text all (held_in ss) (rank ss i) t.0 a b c (drop_at (held_in ss) (rank ss i) t.0 (rank_stands ss i t.0 t.1)) g t.2
   slot_broken i a b c g (inr t) = going_broken all [] (from_rank (rank ss i)) a b c t.1.0 t.1.2.0 g t.1.1 t.1.2.1
 
   pub slots_done : (i : ℕ) (a b : Option (List ℕ)) → length ss ≤ i → Going (lines_of_each record_text (held_in ss)) (lines_from ss i) a b → Wrote (lines_of_each record_text (held_in ss)) a b

@@ -1,6 +1,6 @@
 -- Lemmas on words that name variables by numbers.
 use Rattle.ghc_console.proofs.CitedWords.{◌≡◌, ◌≢◌, ℕ, ◌+◌, All, Option, Some, None, inl, inr, List, [], ◌∷◌, ◌++◌, eqb, take, drop, refl, sym, ap, ◌∙◌, slice_split-cons_yes, slice_split, numbered_of, variable_numbered, variable_of_parts, number_of}
-use Rattle.ghc_console.proofs.WordLemmas.{IsOnePartOrNone, split-first, split-last, one_part_or_none, no_number}
+use Rattle.ghc_console.proofs.WordLemmas.{IsOnePartOrNone, split-first, only_piece, one_part_or_none, no_number}
 
 -- after a first bar, the parts are those of what stands there
 at_bar : (numbers : List ℕ) → numbered_of (95 ∷ numbers) ≡ variable_of_parts ([] ∷ slice_split (λ b. eqb b 95) numbers)
@@ -26,4 +26,4 @@ two_bars numbers i e plain =
 
 -- without a second bar there is no variable
 pub one_bar : (numbers : List ℕ) → All (λ b. b ≢ 95) numbers → numbered_of (95 ∷ numbers) ≡ None
-one_bar numbers plain = at_bar numbers ∙ ap (λ l. variable_of_parts ([] ∷ l)) (split-last 95 numbers plain)
+one_bar numbers plain = at_bar numbers ∙ ap (λ l. variable_of_parts ([] ∷ l)) (only_piece 95 numbers plain)

@@ -1,6 +1,6 @@
 -- Lemmas on words that name predicates.
 use Rattle.ghc_console.proofs.CitedWords.{◌≡◌, ◌≢◌, ℕ, ◌+◌, true, false, cond, eqb, zero, suc, All, Option, Some, None, inl, inr, List, [], ◌∷◌, ◌++◌, take, drop, refl, sym, ap, ◌∙◌, arith, false≢true, slice_split, IsAscii, is_name, predicate_named, predicate_of, predicate_of_parts, number_of}
-use Rattle.ghc_console.proofs.WordLemmas.{IsOnePartOrNone, ascii_names, split-first, split-last, one_part_or_none, no_number}
+use Rattle.ghc_console.proofs.WordLemmas.{IsOnePartOrNone, ascii_names, split-first, only_piece, one_part_or_none, no_number}
 
 -- the part before the first stroke, and all after it
 pub at_stroke : (word : List ℕ) (i : ℕ) → word ≡ take i word ++ 47 ∷ drop (i + 1) word → All (λ b. b ≢ 47) (take i word)
@@ -15,7 +15,7 @@ at_stroke word i e plain =
 
 -- without a stroke there is no predicate
 pub no_stroke : (word : List ℕ) → All (λ b. b ≢ 47) word → predicate_of word ≡ None
-no_stroke word plain = ap predicate_of_parts (split-last 47 word plain)
+no_stroke word plain = ap predicate_of_parts (only_piece 47 word plain)
 
 -- a word that is no name names none
 pub no_name : (word : List ℕ) (arity : Option ℕ) → is_name word ≡ false → predicate_named word arity ≡ None

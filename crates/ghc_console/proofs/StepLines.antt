@@ -1,7 +1,7 @@
 -- The lines that say `step`, a space and the name of a goal, and nothing else.
 use Rattle.ghc_console.proofs.CitedWords.{◌≡◌, ◌≢◌, ℕ, Bool, true, false, cond, eqb, leb, not, ◌&&◌, ◌||◌, All, Option, Some, None, List, [], ◌∷◌, ◌++◌, filter, get_or, length, take, drop, suc, refl, sym, ap, ap₂, subst, ◌∙◌, arith, bytes_eq, codes, IfSome, is_ascii_digit, AllPass, join_with_byte, list_all, slice_split, digits_value, ne_eqb, All-append, All-cons, join_with_byte-slice_split, AllPass-from_list_all, list_all-from_AllPass, bytes_eq-Decides, GoalName, goal_name_of, goal_named, goal_of_parts, is_printable, number_of, words_of, command_of, command_of_words, step_with, Step, Unknown}
 use Rattle.std.proofs.lemmas.List.{take-append-drop}
-use Rattle.ghc_console.proofs.WordLemmas.{filled, split-last}
+use Rattle.ghc_console.proofs.WordLemmas.{filled, only_piece}
 
 -- a byte of the name of a goal: a digit or a point
 abbrev is_goal_byte : ℕ → Bool
@@ -46,7 +46,7 @@ bytes_of_goal word g e = subst (AllPass is_goal_byte) (join_with_byte-slice_spli
 -- the words of the line are `step` and that word
 step_words : (byte : ℕ) (bytes : List ℕ) → All (λ b. b ≢ 32) (byte ∷ bytes) → words_of (codes "step " ++ (byte ∷ bytes)) ≡ codes "step" ∷ (byte ∷ bytes) ∷ []
 step_words byte bytes plain =
-    ap (λ parts. filter filled (codes "step" ∷ parts)) (split-last 32 (byte ∷ bytes) plain)
+    ap (λ parts. filter filled (codes "step" ∷ parts)) (only_piece 32 (byte ∷ bytes) plain)
     ∙ ap (λ t. codes "step" ∷ cond (not t) ((byte ∷ bytes) ∷ []) []) (ne_eqb (suc (length bytes)) 0 (λ e. omega (arith, e)))
 
 -- such a line says the step

@@ -3,15 +3,12 @@ use Rattle.ghc_console.proofs.CitedWords.{◌≡◌, ◌≢◌, ◌⊎◌, ◌<�
 use Rattle.ghc_term.specs.declared.fault.Fault.TheVariants as fault
 use Rattle.ghc_term.specs.declared.limit.Limit.TheVariants as limit
 use Rattle.ghc_console.specs.Replies.{Takes}
+pub use Rattle.ghc_trace.proofs.CausePlaces.{on_ok}
 
 -- What is known of an answer leads to more about it.
 pub if_ok : {T E : Type 0} (r : Result T E) {P Q R : T → Type 0} → IfOk r P → IfOk r Q → ((t : T) → P t → Q t → R t) → IfOk r R
 if_ok (Ok t) p q f = f t p q
 if_ok (Err e) p q f = tt
-
-pub on_ok : {T E : Type 0} (r : Result T E) {P Q : Type 0} → OnOk r P → (P → Q) → OnOk r Q
-on_ok (Ok t) p f = f p
-on_ok (Err e) p f = tt
 
 -- What holds in each case leads to more about both.
 pub either : {T E : Type 0} (r : Result T E) {P R : T → Type 0} {Q S : Type 0} → IfOk r P → OnErr r Q → ((t : T) → P t → R t) → (Q → S) → MatchResult r R (λ _. S)

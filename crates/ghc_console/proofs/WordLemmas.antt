@@ -1,6 +1,7 @@
 -- Lemmas on words, numbers and names of goals.
 use Rattle.ghc_console.proofs.CitedWords.{◌≡◌, ◌≢◌, ℕ, ◌+◌, ◌-◌, ◌*◌, ◌≤◌, Bool, true, false, cond, eqb, All, Option, Some, None, inl, inr, ◌⊎◌, List, [], ◌&&◌, ◌<◌, not, leb, zero, suc, length, filter, get_or, take, drop, ◌∷◌, ◌++◌, refl, sym, ap, ◌∙◌, arith, rules, eq-eqb, eqb-true, false≢true, ne_eqb, take_rest, drop-drop, slice_split-cons_no, slice_split-cons_yes, slice_split_at, slice_split_none, digit_value, is_ascii_digit, list_all, slice_split, onto_first, digits_value, digits_value_after, IsAscii, is_name_byte, goal_name_of, goal_named, goal_of_parts, is_variable, number_of, words_of}
 use Rattle.std.proofs.Math.Seq.{drop-cons}
+pub use Rattle.ghc_records.proofs.CutLemmas.{only_piece}
 
 -- the test that finds a byte says no of every other
 pub none_passes : (wanted : ℕ) (bytes : List ℕ) → All (λ b. b ≢ wanted) bytes → All (λ b. eqb b wanted ≡ false) bytes
@@ -9,10 +10,6 @@ none_passes wanted bytes h = λ k e m. ne_eqb _ wanted (h k e m)
 -- the part up to the first of the wanted bytes
 pub split-first : (wanted : ℕ) (part rest : List ℕ) → All (λ b. b ≢ wanted) part → slice_split (λ b. eqb b wanted) (part ++ wanted ∷ rest) ≡ part ∷ slice_split (λ b. eqb b wanted) rest
 split-first wanted part rest h = slice_split_at (λ b. eqb b wanted) part wanted rest (none_passes wanted part h) (eq-eqb wanted wanted refl)
-
--- the last part
-pub split-last : (wanted : ℕ) (part : List ℕ) → All (λ b. b ≢ wanted) part → slice_split (λ b. eqb b wanted) part ≡ part ∷ []
-split-last wanted part h = slice_split_none (λ b. eqb b wanted) part (none_passes wanted part h)
 
 -- more digits make no smaller number
 pub value_after_le : (n : ℕ) (bytes : List ℕ) → n ≤ digits_value_after 10 n bytes
@@ -59,7 +56,7 @@ words_on rest line word behind i empty e plain h front back is =
 
 -- where the rest has no blank, it is the last word, or none is left
 pub last_word : (rest line : List ℕ) (empty : Bool) → All (λ b. b ≢ 32) rest → words_of rest ≡ words_of line → eqb (length rest) 0 ≡ empty → words_of line ≡ cond empty [] (rest ∷ [])
-last_word rest line empty plain h is = sym h ∙ ap (filter filled) (split-last 32 rest plain) ∙ one_word rest empty is
+last_word rest line empty plain h is = sym h ∙ ap (filter filled) (only_piece 32 rest plain) ∙ one_word rest empty is
 
 -- Bytes are one part, or they have the wanted byte and are no number.
 abbrev pub IsOnePartOrNone : ℕ → List ℕ → Type 0
@@ -113,7 +110,7 @@ goal_at_point word i e plain =
 
 -- without a point there is no goal
 pub no_point : (word : List ℕ) → All (λ b. b ≢ 46) word → goal_name_of word ≡ None
-no_point word plain = ap goal_of_parts (split-last 46 word plain)
+no_point word plain = ap goal_of_parts (only_piece 46 word plain)
 
 -- the bytes of names are ASCII
 ascii_name : (b : ℕ) → is_name_byte b ≡ true → b < 128

@@ -1,5 +1,6 @@
 -- What is known of workers when passes come back.
 use Rattle.ghc_pool.proofs.Words.{◌≡◌, ℕ, zero, suc, ◌+◌, ◌<◌, ◌++◌, List, [], ◌∷◌, length, set, refl, sym, ap, ◌∙◌, subst, arith, append-nil, vec_capacity, vec_len, Vec, Global, RowsId, worker_deque, worker_view, stealer_deque, view, GoalName, Hand, Victim, Worker, weigh, Work, work_of, works, over, stolen_of, deques, IsVictim, AreVictims, stolen, IsAbsorbed, own_deques, all_victims, IsReady, AreReady, HaveParts, HavePartsFrom, HaveGivenBack, AreReleased}
+use Rattle.ghc_pool.proofs.Openings.{length-deques}
 use lib.ListN.{get_or}
 
 pub over_set : (f : Worker → ℕ) (ws : List Worker) (i : ℕ) (d w : Worker) (a b : ℕ) → i < length ws → f w + a ≡ f (get_or ws i d) + b → over f (set ws i w) + a ≡ over f ws + b
@@ -73,10 +74,6 @@ deque_at (w ∷ ws) (suc j) d (x ∷ ds) more e len is = let r = deque_at ws j d
 deques-append : (vs : List Victim) (v : Victim) (more : List (RowsId × Global)) → deques (vs ++ v ∷ []) ++ more ≡ deques vs ++ stealer_deque v.thief ∷ more
 deques-append [] v more = refl
 deques-append (u ∷ vs) v more = ap (λ l. stealer_deque u.thief ∷ l) (deques-append vs v more)
-
-length-deques : (vs : List Victim) → length (deques vs) ≡ length vs
-length-deques [] = refl
-length-deques (v ∷ vs) = ap suc (length-deques vs)
 
 victims_cut : (vs : List Victim) (v : Victim) → AreVictims (vs ++ v ∷ []) → AreVictims vs × IsVictim v
 victims_cut [] v h = (tt, h.0)

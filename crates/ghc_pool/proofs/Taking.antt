@@ -38,7 +38,3 @@ more_workers workers spies root w a v b steps at_start = at_start
 more_workers workers spies root w a v b steps (and_tries {notes = m} tried s kept) = and_tries tried (more_workers workers spies root w a v m steps s) (λ _. kept refl)
 more_workers workers spies root w a v b steps (and_step {steps = front} {v = x} {notes = m} r left s step spared) =
     and_step r left (more_workers workers spies root w a x m front s) (step_of_more workers spies root x m r step) (λ _. spared refl)
-
--- where a new step has room the world is not full
-pub not_full : (w : World) → HasRoom w → ¬ IsFull w
-not_full w room full = let next = room.0 in let kept = room.1 in elim full [ inl f ↦ omega (arith, f, next) | inr f ↦ omega (arith, f, kept) ]

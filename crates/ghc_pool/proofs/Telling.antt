@@ -289,10 +289,6 @@ told_count tells (s ∷ ss) [] ps told = absurd told
 told_count tells (s ∷ ss) (k ∷ ks) [] told = absurd told
 told_count tells (s ∷ ss) (k ∷ ks) (p ∷ ps) told = ap suc (told_count tells ss ks ps told.1)
 
-pub works_count : (ws : List Worker) → length (works ws) ≡ length ws
-works_count [] = refl
-works_count (w ∷ ws) = ap suc (works_count ws)
-
 -- what a proposal says of its goal
 module _ (opened : Gv) (spies : Spies) (g : GoalName) (p : Proposal) where
   pub spied_goal : (w : World) × IsProposal opened w g None (Ok p) → IsSpied spies p.consumed → IsSpiedGoal opened spies g

@@ -3,7 +3,8 @@ use mir.Syntax.{named}
 use denote.Param.{param}
 use denote.Param.Send.{sendable}
 use Rattle.ghc_pool.proofs.Crosses.{deciding_sync}
-use Rattle.ghc_pool.proofs.Telling.{told_count, works_count, few_made}
+use Rattle.ghc_pool.proofs.Drained.{length-works}
+use Rattle.ghc_pool.proofs.Telling.{told_count, few_made}
 use Rattle.ghc_pool.proofs.rounds.round.round.Goals as goal
 
 pub work_together-requires-send-P : goal.work_together-requires-send-P
@@ -18,7 +19,7 @@ take_apart-requires g c =
     let workers = ended.1.workers in
     let passes = c.args.passes in
     let count = told_count _ passes.items (works workers.items) ended.0.items c.in-Ok-work_together.ensures.tells in
-    record { room = (c.in-Ok.ensures.items, omega (arith, c.in-Ok.ensures.capacity, c.len.ensures, count, works_count workers.items, workers.ok.0, passes.ok.0)) }
+    record { room = (c.in-Ok.ensures.items, omega (arith, c.in-Ok.ensures.capacity, c.len.ensures, count, length-works workers.items, workers.ok.0, passes.ok.0)) }
 
 pub returns-in-Ok-work_together-clause-made : goal.returns-in-Ok-work_together-clause-made
 returns-in-Ok-work_together-clause-made g c =

@@ -1,7 +1,7 @@
 use Rattle.ghc_pool.proofs.Words.{sym, subst, ◌∙◌, GoalName, In, starved, is_full}
 use Rattle.ghc_pool.proofs.Standings.{none_untried, are_met}
 use Rattle.ghc_pool.proofs.Surveyed.{no_stop, goes_on, spied_holds, quiet_holds, stopped_holds, some_member, empty_is, empty_not}
-use Rattle.ghc_pool.proofs.Taking.{not_full}
+use Rattle.ghc_core.proofs.Stepping.{room_or_full}
 use Rattle.ghc_pool.proofs.runs.survey.survey.Goals as goal
 
 pub returns-in_default-clause-stop : goal.returns-in_default-clause-stop
@@ -32,7 +32,7 @@ returns-then-is_empty-clause-stop c limit taken =
     let ready = c.in-Ok-ready_ones.ready.items in
     let among = are_met core.world core.notes core.untried c.stands.ensures.orderly.acyclic c.stands.ensures.exact c.requires c.args.root c.in-Ok.goals.items c.deref.result.now c.deref.ensures.value c.in-Ok.ensures in
     quiet_holds c.args.spies.now c.args.root core.world c.deref.result.now among ready c.in-Ok-ready_ones.ensures.listed (Unit {0}) limit taken core.notes
-    (none_untried core.world core.notes core.untried c.stands.ensures.orderly.acyclic c.stands.ensures.exact c.requires) (not_full core.world (c.is_full.ensures.room c.if-is_full.false)) (empty_is ready _ c.in-Ok-ready_ones.ready.ok.0 (sym c.is_empty.ensures ∙ c.if-is_empty.true))
+    (none_untried core.world core.notes core.untried c.stands.ensures.orderly.acyclic c.stands.ensures.exact c.requires) (room_or_full core.world (c.is_full.ensures.room c.if-is_full.false)) (empty_is ready _ c.in-Ok-ready_ones.ready.ok.0 (sym c.is_empty.ensures ∙ c.if-is_empty.true))
 
 pub returns-clause-ready : goal.returns-clause-ready
 returns-clause-ready c =
@@ -41,7 +41,7 @@ returns-clause-ready c =
     let among = are_met core.world core.notes core.untried c.stands.ensures.orderly.acyclic c.stands.ensures.exact c.requires c.args.root c.in-Ok.goals.items c.deref.result.now c.deref.ensures.value c.in-Ok.ensures in
     let unspied = λ (g : GoalName) (i : In g ready). c.in_default-first_spied.ensures.none g (subst (In g) (sym c.deref-2.ensures.value) i) in
     let one = some_member ready (empty_not ready _ c.in-Ok-ready_ones.ready.ok.0 (sym c.is_empty.ensures ∙ c.if-is_empty.false)) in
-    goes_on c.args.spies.now c.args.root core.world c.deref.result.now among ready c.in-Ok-ready_ones.ensures.listed unspied (not_full core.world (c.is_full.ensures.room c.if-is_full.false)) one.0 one.1
+    goes_on c.args.spies.now c.args.root core.world c.deref.result.now among ready c.in-Ok-ready_ones.ensures.listed unspied (room_or_full core.world (c.is_full.ensures.room c.if-is_full.false)) one.0 one.1
 
 pub returns-clause-each : goal.returns-clause-each
 returns-clause-each c g i = c.in-Ok-ready_ones.ensures.listed.each g i
