@@ -61,23 +61,23 @@ fn push_by_way_of(place: &mut [u8], number: u32, out: &mut String) -> Result<(),
 fn push_many_digits(number: u32, out: &mut String) -> Result<(), AllocError>
     ensures { string_bytes out.new ≡ (if is_ok result then string_bytes out.old ++ decimal number else string_bytes out.old) }
 {
-    if number < 100_000 {
-        return push_by_way_of(&mut [0; 5], number, out);
-    }
-    if number < 1_000_000 {
-        return push_by_way_of(&mut [0; 6], number, out);
-    }
     let mut digits = Buffer::new();
     out.push_str(digits.format(number))
 }
 
-// Writes the digits of a number. Up to four of them go into room that is there, which takes no frame.
+// Writes the digits of a number. Up to six of them go into room that is there, which takes no frame.
 #[inline(never)]
 fn push_digits(number: u32, out: &mut String) -> Result<(), AllocError>
     ensures { string_bytes out.new ≡ (if is_ok result then string_bytes out.old ++ decimal number else string_bytes out.old) }
 {
-    if number >= 10_000 || out.capacity() - out.len() < 4 {
+    if number >= 1_000_000 || out.capacity() - out.len() < 6 {
         return push_many_digits(number, out);
+    }
+    if number >= 100_000 {
+        return push_by_way_of(&mut [0; 6], number, out);
+    }
+    if number >= 10_000 {
+        return push_by_way_of(&mut [0; 5], number, out);
     }
     if number >= 1_000 {
         return push_by_way_of(&mut [0; 4], number, out);
@@ -98,15 +98,25 @@ pub fn push_number(number: u32, out: &mut String) -> Result<(), AllocError>
     push_digits(number, out)
 }
 
-// Writes an integer at the end of `out`, which stays as it was where memory is refused. Its buffer is no part of the caller's
-// frame, which is paid for at each entry.
+// Writes an integer that is negative or large at the end of `out`, which stays as it was where memory is refused. Its buffer is no
+// part of the caller's frame, which is paid for at each entry.
 #[inline(never)]
+fn push_other_integer(k: i64, out: &mut String) -> Result<(), AllocError>
+    ensures { string_bytes out.new ≡ (if is_ok result then string_bytes out.old ++ signed_decimal k else string_bytes out.old) }
+{
+    let mut digits = Buffer::new();
+    out.push_str(digits.format(k))
+}
+
+// Writes an integer at the end of `out`, which stays as it was where memory is refused.
 pub(crate) fn push_integer(k: i64, out: &mut String) -> Result<(), AllocError>
     ensures text { OnOk result (string_bytes out.new ≡ string_bytes out.old ++ signed_decimal k) }
     ensures begun { StartsWith (string_bytes out.new) (string_bytes out.old) }
 {
-    let mut digits = Buffer::new();
-    out.push_str(digits.format(k))
+    if k < 0 || k > u32::MAX as i64 {
+        return push_other_integer(k, out);
+    }
+    push_number(k as u32, out)
 }
 
 /// Writes a variable at the end of `out`, as `_0_1`. Where memory is refused a part of it may stand there.
