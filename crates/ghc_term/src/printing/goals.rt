@@ -11,7 +11,7 @@ ghost use Rattle.ghc_term.specs.inner.Pieces.{StartsIn, piece_text};
 use crate::appending::{push_number, push_variable};
 use crate::goal::Goal;
 use crate::goal_view::GoalView;
-use crate::printing::pieces::{Piece, push_leaf, push_sides, push_structure};
+use crate::printing::pieces::{Piece, push_leaf, push_piece, push_sides, push_structure};
 use crate::store::Store;
 use crate::term::Term;
 use crate::var_name::VarName;
@@ -40,7 +40,8 @@ fn push_stream<'a>(
     }
 }
 
-// Writes the left side of a goal and the mark after it, or leaves them where it is a structure. The right side is left.
+// Writes the left side of a goal, the mark after it and the beginning of the right side, or leaves them where the left one is a
+// structure.
 fn push_equation<'a>(
     left: &'a Term,
     mark: &'a str,
@@ -52,13 +53,13 @@ fn push_equation<'a>(
     ensures text { IfOk result (λ _. StartsIn (value_at store.now.held) (λ r. term_text (r left.now) ++ (mark.now ++ piece_text r right.entry)) pieces.old.items pieces.new.items (string_bytes out.old) (string_bytes out.new)) }
     ensures begun { StartsWith (string_bytes out.new) (string_bytes out.old) }
 {
+    store.acyclic();
     let last = store.end(left);
     if !push_leaf(last, out)? {
         return push_sides(Piece::Term(left), mark, right, pieces);
     }
     out.push_str(mark)?;
-    pieces.push(right)?;
-    Ok(())
+    push_piece(right, store, pieces, out)
 }
 
 // Writes the beginning of a goal.

@@ -3,9 +3,9 @@ ghost use Rattle.std.specs.Prelude.{◌≡◌, ◌≢◌, ◌↔◌, ◌<◌, �
 ghost use Rattle.std.specs.Io.{StartsWith};
 ghost use Rattle.ghc_term.specs.Store.{value_at};
 ghost use Rattle.ghc_term.specs.Tree.{Tree, node, trees, cons, nil};
-ghost use Rattle.ghc_term.specs.Text.{IsNoCell, term_text, rest_text, arguments_text, further_text};
+ghost use Rattle.ghc_term.specs.Text.{IsNoCell, barred, term_text, rest_text, arguments_text, further_text};
 ghost use Rattle.ghc_term.specs.Resolved.{all_resolved};
-ghost use Rattle.ghc_term.specs.inner.Pieces.{IsLeaf, Unfolds, UnfoldsIn, piece_text, piece_size, term_size, rest_size, arguments_size};
+ghost use Rattle.ghc_term.specs.inner.Pieces.{Advances, IsLeaf, Unfolds, UnfoldsIn, piece_text, piece_size, term_size, rest_size, arguments_size};
 
 use crate::appending::{push_integer, push_mark, push_variable};
 use crate::expr::Expr;
@@ -15,6 +15,9 @@ use crate::store::Store;
 use crate::term::Term;
 use crate::view::TermView;
 use std::alloc::AllocError;
+
+// So many bytes of a list are written at most before the text is looked at for its length, but for a last leaf.
+const STRETCH: usize = 4_096;
 
 // Something that is still to be written.
 #[derive(Clone, Copy)]
@@ -86,25 +89,62 @@ pub(crate) fn push_leaf(term: &Term, out: &mut String) -> Result<bool, AllocErro
     }
 }
 
-// Writes a term inside another one, if it leads to a variable, an integer or an atom. A structure is left.
-fn push_inner<'a>(
+// Writes the bar, the end of a list that ends in no list, and the closing bracket. A structure is left, and the bracket.
+fn push_tail<'a>(
+    end: &'a Term,
+    pieces: &mut Vec<Piece<'a>>,
+    out: &mut String,
+) -> Result<(), AllocError>
+    ensures text { IfOk result (λ _. (r : Tree → Tree) (w : Tree → ℕ) → (IsLeaf end.now → r end.now ≡ end.now)
+        → Advances r w (barred (term_text (r end.now))) (rest_size w end.now) pieces.old.items pieces.new.items (string_bytes out.old) (string_bytes out.new)) }
+    ensures begun { StartsWith (string_bytes out.new) (string_bytes out.old) }
+{
+    push_mark('|', out)?;
+    if push_leaf(end, out)? {
+        return push_mark(']', out);
+    }
+    pieces.push(Piece::Mark("]"))?;
+    pieces.push(Piece::Term(end))?;
+    Ok(())
+}
+
+// Writes the rest of a list up to the first structure in it, which is left, and no more than a stretch of it.
+fn push_rest<'a>(
     term: &'a Term,
     store: &'a Store,
     pieces: &mut Vec<Piece<'a>>,
     out: &mut String,
 ) -> Result<(), AllocError>
-    ensures text { IfOk result (λ _. UnfoldsIn (value_at store.now.held) (λ r. term_text (r term.now)) (λ w. suc (term_size w term.now)) pieces.old.items pieces.new.items (string_bytes out.old) (string_bytes out.new)) }
+    ensures text { IfOk result (λ _. UnfoldsIn (value_at store.now.held) (λ r. rest_text (r term.now)) (λ w. rest_size w term.now) pieces.old.items pieces.new.items (string_bytes out.old) (string_bytes out.new)) }
     ensures begun { StartsWith (string_bytes out.new) (string_bytes out.old) }
 {
-    let last = store.end(term);
-    if push_leaf(last, out)? {
-        return Ok(());
+    store.acyclic();
+    let enough = out.len().saturating_add(STRETCH);
+    let mut left = term;
+    loop {
+        let end = store.end(left);
+        if is_nil(end) {
+            return push_mark(']', out);
+        }
+        let Some((head, tail)) = cell(end) else {
+            return push_tail(end, pieces, out);
+        };
+        push_mark(',', out)?;
+        let first = store.end(head);
+        if !push_leaf(first, out)? {
+            pieces.push(Piece::Rest(tail))?;
+            pieces.push(Piece::Term(first))?;
+            return Ok(());
+        }
+        if out.len() > enough {
+            pieces.push(Piece::Rest(tail))?;
+            return Ok(());
+        }
+        left = tail;
     }
-    pieces.push(Piece::Term(last))?;
-    Ok(())
 }
 
-// Writes the mark in front of a list's head, and the head. What is left of the head is left, and the rest of the list.
+// Writes the mark in front of a list's head, the head, and the rest up to the first structure, which is left.
 fn push_cell<'a>(
     mark: char,
     head: &'a Term,
@@ -118,8 +158,13 @@ fn push_cell<'a>(
     ensures begun { StartsWith (string_bytes out.new) (string_bytes out.old) }
 {
     push_mark(mark, out)?;
+    let end = store.end(head);
+    if push_leaf(end, out)? {
+        return push_rest(tail, store, pieces, out);
+    }
     pieces.push(Piece::Rest(tail))?;
-    push_inner(head, store, pieces, out)
+    pieces.push(Piece::Term(end))?;
+    Ok(())
 }
 
 // Writes the mark in front of an argument, and the argument and the further ones up to the first structure, which is left.
@@ -224,32 +269,6 @@ fn push_term<'a>(
         TermView::Atom(name) => out.push_str(name.as_str()),
         TermView::Struct(name, arguments) => push_structure(name, arguments, store, pieces, out),
     }
-}
-
-// Writes the beginning of the rest of a list.
-fn push_rest<'a>(
-    term: &'a Term,
-    store: &'a Store,
-    pieces: &mut Vec<Piece<'a>>,
-    out: &mut String,
-) -> Result<(), AllocError>
-    ensures text { IfOk result (λ _. UnfoldsIn (value_at store.now.held) (λ r. rest_text (r term.now)) (λ w. rest_size w term.now) pieces.old.items pieces.new.items (string_bytes out.old) (string_bytes out.new)) }
-    ensures begun { StartsWith (string_bytes out.new) (string_bytes out.old) }
-{
-    let end = store.end(term);
-    if is_nil(end) {
-        return push_mark(']', out);
-    }
-    if let Some((head, tail)) = cell(end) {
-        return push_cell(',', head, tail, store, pieces, out);
-    }
-    push_mark('|', out)?;
-    if push_leaf(end, out)? {
-        return push_mark(']', out);
-    }
-    pieces.push(Piece::Mark("]"))?;
-    pieces.push(Piece::Term(end))?;
-    Ok(())
 }
 
 // Writes the beginning of a piece, which was taken from the pieces.
