@@ -12,6 +12,7 @@ pub mod GoalPlaces
 pub mod GoalShape
 pub mod GoalShown
 pub mod Known
+pub mod Lookup
 pub mod Measure
 pub mod NameHash
 pub mod Overlay

@@ -1,16 +1,17 @@
 // The texts of terms and goals, as they are written or with their variables replaced.
 ghost use Rattle.std.specs.Prelude.{◌≡◌, ◌++◌, ◌+◌, ◌<◌, ◌≤◌, ◌⊎◌, List, ℕ, length, IfOk, IfErr, OnOk, is_ok, if◌then◌else◌, string_bytes};
-ghost use Rattle.std.specs.FinMap as finite;
 ghost use Rattle.std.specs.Io.{StartsWith};
 ghost use Rattle.ghc_term.specs.Store.{value_at};
 ghost use Rattle.ghc_term.specs.Tree.{Tree};
 ghost use Rattle.ghc_term.specs.Text.{term_text};
 ghost use Rattle.ghc_term.specs.GoalText.{goal_text, IsGoalTextOf};
 ghost use Rattle.ghc_term.specs.Resolved.{IsTextOf, IsResolution};
+ghost use Rattle.ghc_term.specs.inner.Lookup.{held_in};
 ghost use Rattle.ghc_term.specs.inner.Pieces.{pieces_text};
 
 mod expressions;
 mod goals;
+mod lookup;
 mod pieces;
 
 use crate::appending::{end_of, or_cut_back};
@@ -18,6 +19,7 @@ use crate::fault::Fault;
 use crate::goal::Goal;
 use crate::limit::Limit;
 use crate::printing::goals::push_goal;
+use crate::printing::lookup::Lookup;
 use crate::printing::pieces::{Piece, push_piece};
 use crate::store::Store;
 use crate::term::Term;
@@ -28,39 +30,35 @@ pub const PRINT_LIMIT: usize = 1_048_576;
 
 // Writes pieces, of which the last one comes first. More than `limit` bytes in all are refused.
 fn write_pieces<'a>(
-    store: &'a Store,
+    lookup: &Lookup<'a>,
     limit: usize,
     mut pieces: Vec<Piece<'a>>,
     out: &mut String,
 ) -> Result<(), Fault>
-    ensures text { IfOk result (λ _. (r : Tree → Tree) → IsResolution (value_at store.now.held) r → string_bytes out.new ≡ string_bytes out.old ++ pieces_text r pieces.entry.items) }
+    ensures text { IfOk result (λ _. (r : Tree → Tree) → IsResolution (value_at (held_in lookup.now)) r → string_bytes out.new ≡ string_bytes out.old ++ pieces_text r pieces.entry.items) }
     ensures begun { StartsWith (string_bytes out.new) (string_bytes out.old) }
     ensures short { IfOk result (λ _. length (string_bytes out.new) ≤ limit) }
     ensures refused { IfErr result (λ fault. (fault ≡ Fault.Memory) ⊎ (fault ≡ Fault.Limit Limit.Print)) }
-    ensures too_long { result ≡ Err (Fault.Limit Limit.Print) → (r : Tree → Tree) → IsResolution (value_at store.now.held) r → limit < length (string_bytes out.old) + length (pieces_text r pieces.entry.items) }
+    ensures too_long { result ≡ Err (Fault.Limit Limit.Print) → (r : Tree → Tree) → IsResolution (value_at (held_in lookup.now)) r → limit < length (string_bytes out.old) + length (pieces_text r pieces.entry.items) }
 {
-    store.acyclic();
+    lookup.acyclic();
     loop {
         if out.len() > limit {
             return Err(Fault::Limit(Limit::Print));
         }
         match pieces.pop() {
-            Some(piece) => push_piece(piece, store, &mut pieces, out)?,
+            Some(piece) => push_piece(piece, lookup, &mut pieces, out)?,
             None => return Ok(()),
         }
     }
 }
 
 // Writes pieces, of which the last one comes first, as they are written. Where memory is refused a part may stand there.
-fn write_written<'a>(
-    nothing: &'a Store,
-    pieces: Vec<Piece<'a>>,
-    out: &mut String,
-) -> Result<(), AllocError>
-    ensures text { IfOk result (λ _. nothing.now.held ≡ finite.empty → string_bytes out.new ≡ string_bytes out.old ++ pieces_text (λ t. t) pieces.entry.items) }
+fn write_written(pieces: Vec<Piece<'_>>, out: &mut String) -> Result<(), AllocError>
+    ensures text { IfOk result (λ _. string_bytes out.new ≡ string_bytes out.old ++ pieces_text (λ t. t) pieces.entry.items) }
     ensures begun { StartsWith (string_bytes out.new) (string_bytes out.old) }
 {
-    match write_pieces(nothing, usize::MAX, pieces, out) {
+    match write_pieces(&Lookup::Nowhere, usize::MAX, pieces, out) {
         Ok(()) => Ok(()),
         Err(_fault) => Err(AllocError),
     }
@@ -78,7 +76,7 @@ pub fn print(alloc: Global, term: &Term, store: &Store) -> Result<String, Fault>
     let mut pieces = Vec::new(alloc);
     pieces.push(Piece::Term(term))?;
     let mut out = String::new(alloc);
-    match write_pieces(store, PRINT_LIMIT, pieces, &mut out) {
+    match write_pieces(&Lookup::In(store), PRINT_LIMIT, pieces, &mut out) {
         Ok(()) => Ok(out),
         Err(fault) => Err(fault),
     }
@@ -94,8 +92,8 @@ pub fn print_goal(alloc: Global, goal: &Goal, store: &Store) -> Result<String, F
     store.acyclic();
     let mut pieces = Vec::new(alloc);
     let mut out = String::new(alloc);
-    push_goal(goal, store, &mut pieces, &mut out)?;
-    match write_pieces(store, PRINT_LIMIT, pieces, &mut out) {
+    push_goal(goal, &Lookup::In(store), &mut pieces, &mut out)?;
+    match write_pieces(&Lookup::In(store), PRINT_LIMIT, pieces, &mut out) {
         Ok(()) => Ok(out),
         Err(fault) => Err(fault),
     }
@@ -106,10 +104,9 @@ fn write_term(term: &Term, out: &mut String) -> Result<(), AllocError>
     ensures text { OnOk result (string_bytes out.new ≡ string_bytes out.old ++ term_text term.now) }
     ensures begun { StartsWith (string_bytes out.new) (string_bytes out.old) }
 {
-    let nothing = Store::new(*out.allocator());
     let mut pieces = Vec::new(*out.allocator());
-    push_piece(Piece::Term(term), &nothing, &mut pieces, out)?;
-    write_written(&nothing, pieces, out)
+    push_piece(Piece::Term(term), &Lookup::Nowhere, &mut pieces, out)?;
+    write_written(pieces, out)
 }
 
 // Writes a goal as it is written. Where memory is refused a part of it may stand there.
@@ -117,10 +114,9 @@ fn write_goal(goal: &Goal, out: &mut String) -> Result<(), AllocError>
     ensures text { OnOk result (string_bytes out.new ≡ string_bytes out.old ++ goal_text goal.now) }
     ensures begun { StartsWith (string_bytes out.new) (string_bytes out.old) }
 {
-    let nothing = Store::new(*out.allocator());
     let mut pieces = Vec::new(*out.allocator());
-    push_goal(goal, &nothing, &mut pieces, out)?;
-    write_written(&nothing, pieces, out)
+    push_goal(goal, &Lookup::Nowhere, &mut pieces, out)?;
+    write_written(pieces, out)
 }
 
 /// Writes a term as it is written at the end of `out`, which stays as it was where memory is refused. The cost is that of

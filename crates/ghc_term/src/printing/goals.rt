@@ -6,13 +6,14 @@ ghost use Rattle.ghc_term.specs.Store.{value_at};
 ghost use Rattle.ghc_term.specs.Tree.{variable};
 ghost use Rattle.ghc_term.specs.Text.{term_text};
 ghost use Rattle.ghc_term.specs.GoalText.{goal_text_by};
+ghost use Rattle.ghc_term.specs.inner.Lookup.{held_in};
 ghost use Rattle.ghc_term.specs.inner.Pieces.{StartsIn, piece_text};
 
 use crate::appending::{push_number, push_variable};
 use crate::goal::Goal;
 use crate::goal_view::GoalView;
+use crate::printing::lookup::Lookup;
 use crate::printing::pieces::{Piece, push_leaf, push_piece, push_sides, push_structure};
-use crate::store::Store;
 use crate::term::Term;
 use crate::var_name::VarName;
 use std::alloc::AllocError;
@@ -21,17 +22,17 @@ use std::alloc::AllocError;
 fn push_stream<'a>(
     number: u32,
     tail: VarName,
-    store: &'a Store,
+    lookup: &Lookup<'a>,
     pieces: &mut Vec<Piece<'a>>,
     out: &mut String,
 ) -> Result<(), AllocError>
-    ensures text { IfOk result (λ _. StartsIn (value_at store.now.held) (λ r. codes "instream " ++ (decimal number ++ (codes " " ++ term_text (r (variable tail))))) pieces.old.items pieces.new.items (string_bytes out.old) (string_bytes out.new)) }
+    ensures text { IfOk result (λ _. StartsIn (value_at (held_in lookup.now)) (λ r. codes "instream " ++ (decimal number ++ (codes " " ++ term_text (r (variable tail))))) pieces.old.items pieces.new.items (string_bytes out.old) (string_bytes out.new)) }
     ensures begun { StartsWith (string_bytes out.new) (string_bytes out.old) }
 {
     out.push_str("instream ")?;
     push_number(number, out)?;
     out.push_str(" ")?;
-    match store.get(tail) {
+    match lookup.get(tail) {
         Some(value) => {
             pieces.push(Piece::Term(value))?;
             Ok(())
@@ -46,41 +47,41 @@ fn push_equation<'a>(
     left: &'a Term,
     mark: &'a str,
     right: Piece<'a>,
-    store: &'a Store,
+    lookup: &Lookup<'a>,
     pieces: &mut Vec<Piece<'a>>,
     out: &mut String,
 ) -> Result<(), AllocError>
-    ensures text { IfOk result (λ _. StartsIn (value_at store.now.held) (λ r. term_text (r left.now) ++ (mark.now ++ piece_text r right.entry)) pieces.old.items pieces.new.items (string_bytes out.old) (string_bytes out.new)) }
+    ensures text { IfOk result (λ _. StartsIn (value_at (held_in lookup.now)) (λ r. term_text (r left.now) ++ (mark.now ++ piece_text r right.entry)) pieces.old.items pieces.new.items (string_bytes out.old) (string_bytes out.new)) }
     ensures begun { StartsWith (string_bytes out.new) (string_bytes out.old) }
 {
-    store.acyclic();
-    let last = store.end(left);
+    lookup.acyclic();
+    let last = lookup.end(left);
     if !push_leaf(last, out)? {
         return push_sides(Piece::Term(left), mark, right, pieces);
     }
     out.push_str(mark)?;
-    push_piece(right, store, pieces, out)
+    push_piece(right, lookup, pieces, out)
 }
 
 // Writes the beginning of a goal.
 pub(crate) fn push_goal<'a>(
     goal: &'a Goal,
-    store: &'a Store,
+    lookup: &Lookup<'a>,
     pieces: &mut Vec<Piece<'a>>,
     out: &mut String,
 ) -> Result<(), AllocError>
-    ensures text { IfOk result (λ _. StartsIn (value_at store.now.held) (λ r. goal_text_by r goal.now) pieces.old.items pieces.new.items (string_bytes out.old) (string_bytes out.new)) }
+    ensures text { IfOk result (λ _. StartsIn (value_at (held_in lookup.now)) (λ r. goal_text_by r goal.now) pieces.old.items pieces.new.items (string_bytes out.old) (string_bytes out.new)) }
     ensures begun { StartsWith (string_bytes out.new) (string_bytes out.old) }
 {
-    store.acyclic();
+    lookup.acyclic();
     match goal.view() {
-        GoalView::Call(name, arguments) => push_structure(name, arguments, store, pieces, out),
+        GoalView::Call(name, arguments) => push_structure(name, arguments, lookup, pieces, out),
         GoalView::Unify(left, right) => {
-            push_equation(left, " = ", Piece::Term(right), store, pieces, out)
+            push_equation(left, " = ", Piece::Term(right), lookup, pieces, out)
         }
         GoalView::Assign(left, value) => {
-            push_equation(left, " := ", Piece::Expr(value), store, pieces, out)
+            push_equation(left, " := ", Piece::Expr(value), lookup, pieces, out)
         }
-        GoalView::Stream(number, tail) => push_stream(number, tail, store, pieces, out),
+        GoalView::Stream(number, tail) => push_stream(number, tail, lookup, pieces, out),
     }
 }

@@ -5,13 +5,14 @@ ghost use Rattle.ghc_term.specs.Store.{value_at};
 ghost use Rattle.ghc_term.specs.Tree.{Tree, node, trees, cons, nil};
 ghost use Rattle.ghc_term.specs.Text.{IsNoCell, barred, term_text, rest_text, arguments_text, further_text};
 ghost use Rattle.ghc_term.specs.Resolved.{all_resolved};
+ghost use Rattle.ghc_term.specs.inner.Lookup.{held_in};
 ghost use Rattle.ghc_term.specs.inner.Pieces.{Advances, IsLeaf, Unfolds, UnfoldsIn, piece_text, piece_size, term_size, rest_size, arguments_size};
 
 use crate::appending::{push_integer, push_mark, push_variable};
 use crate::expr::Expr;
 use crate::name::Name;
 use crate::printing::expressions::{push_expression, push_operand};
-use crate::store::Store;
+use crate::printing::lookup::Lookup;
 use crate::term::Term;
 use crate::view::TermView;
 use std::alloc::AllocError;
@@ -111,18 +112,18 @@ fn push_tail<'a>(
 // Writes the rest of a list up to the first structure in it, which is left, and no more than a stretch of it.
 fn push_rest<'a>(
     term: &'a Term,
-    store: &'a Store,
+    lookup: &Lookup<'a>,
     pieces: &mut Vec<Piece<'a>>,
     out: &mut String,
 ) -> Result<(), AllocError>
-    ensures text { IfOk result (λ _. UnfoldsIn (value_at store.now.held) (λ r. rest_text (r term.now)) (λ w. rest_size w term.now) pieces.old.items pieces.new.items (string_bytes out.old) (string_bytes out.new)) }
+    ensures text { IfOk result (λ _. UnfoldsIn (value_at (held_in lookup.now)) (λ r. rest_text (r term.now)) (λ w. rest_size w term.now) pieces.old.items pieces.new.items (string_bytes out.old) (string_bytes out.new)) }
     ensures begun { StartsWith (string_bytes out.new) (string_bytes out.old) }
 {
-    store.acyclic();
+    lookup.acyclic();
     let enough = out.len().saturating_add(STRETCH);
     let mut left = term;
     loop {
-        let end = store.end(left);
+        let end = lookup.end(left);
         if is_nil(end) {
             return push_mark(']', out);
         }
@@ -130,7 +131,7 @@ fn push_rest<'a>(
             return push_tail(end, pieces, out);
         };
         push_mark(',', out)?;
-        let first = store.end(head);
+        let first = lookup.end(head);
         if !push_leaf(first, out)? {
             pieces.push(Piece::Rest(tail))?;
             pieces.push(Piece::Term(first))?;
@@ -149,18 +150,18 @@ fn push_cell<'a>(
     mark: char,
     head: &'a Term,
     tail: &'a Term,
-    store: &'a Store,
+    lookup: &Lookup<'a>,
     pieces: &mut Vec<Piece<'a>>,
     out: &mut String,
 ) -> Result<(), AllocError>
     requires { mark < 128 }
-    ensures text { IfOk result (λ _. UnfoldsIn (value_at store.now.held) (λ r. mark ∷ (term_text (r head.now) ++ rest_text (r tail.now))) (λ w. suc (term_size w head.now + rest_size w tail.now)) pieces.old.items pieces.new.items (string_bytes out.old) (string_bytes out.new)) }
+    ensures text { IfOk result (λ _. UnfoldsIn (value_at (held_in lookup.now)) (λ r. mark ∷ (term_text (r head.now) ++ rest_text (r tail.now))) (λ w. suc (term_size w head.now + rest_size w tail.now)) pieces.old.items pieces.new.items (string_bytes out.old) (string_bytes out.new)) }
     ensures begun { StartsWith (string_bytes out.new) (string_bytes out.old) }
 {
     push_mark(mark, out)?;
-    let end = store.end(head);
+    let end = lookup.end(head);
     if push_leaf(end, out)? {
-        return push_rest(tail, store, pieces, out);
+        return push_rest(tail, lookup, pieces, out);
     }
     pieces.push(Piece::Rest(tail))?;
     pieces.push(Piece::Term(end))?;
@@ -172,18 +173,18 @@ fn push_argument<'a>(
     mark: char,
     argument: &'a Term,
     further: &'a [Term],
-    store: &'a Store,
+    lookup: &Lookup<'a>,
     pieces: &mut Vec<Piece<'a>>,
     out: &mut String,
 ) -> Result<(), AllocError>
     requires { mark < 128 }
-    ensures text { IfOk result (λ _. UnfoldsIn (value_at store.now.held) (λ r. mark ∷ (term_text (r argument.now) ++ further_text (all_resolved r further.now))) (λ w. suc (term_size w argument.now + arguments_size w further.now)) pieces.old.items pieces.new.items (string_bytes out.old) (string_bytes out.new)) }
+    ensures text { IfOk result (λ _. UnfoldsIn (value_at (held_in lookup.now)) (λ r. mark ∷ (term_text (r argument.now) ++ further_text (all_resolved r further.now))) (λ w. suc (term_size w argument.now + arguments_size w further.now)) pieces.old.items pieces.new.items (string_bytes out.old) (string_bytes out.new)) }
     ensures begun { StartsWith (string_bytes out.new) (string_bytes out.old) }
 {
     push_mark(mark, out)?;
-    let end = store.end(argument);
+    let end = lookup.end(argument);
     if push_leaf(end, out)? {
-        return push_further(further, store, pieces, out);
+        return push_further(further, lookup, pieces, out);
     }
     pieces.push(Piece::Further(further))?;
     pieces.push(Piece::Term(end))?;
@@ -209,16 +210,16 @@ pub(crate) fn push_sides<'a>(
 pub(crate) fn push_structure<'a>(
     name: &Name,
     arguments: &'a [Term],
-    store: &'a Store,
+    lookup: &Lookup<'a>,
     pieces: &mut Vec<Piece<'a>>,
     out: &mut String,
 ) -> Result<(), AllocError>
-    ensures text { IfOk result (λ _. UnfoldsIn (value_at store.now.held) (λ r. name.now ++ arguments_text (all_resolved r arguments.now)) (λ w. arguments_size w arguments.now) pieces.old.items pieces.new.items (string_bytes out.old) (string_bytes out.new)) }
+    ensures text { IfOk result (λ _. UnfoldsIn (value_at (held_in lookup.now)) (λ r. name.now ++ arguments_text (all_resolved r arguments.now)) (λ w. arguments_size w arguments.now) pieces.old.items pieces.new.items (string_bytes out.old) (string_bytes out.new)) }
     ensures begun { StartsWith (string_bytes out.new) (string_bytes out.old) }
 {
     out.push_str(name.as_str())?;
     match arguments {
-        [first, further @ ..] => push_argument('(', first, further, store, pieces, out),
+        [first, further @ ..] => push_argument('(', first, further, lookup, pieces, out),
         [] => Ok(()),
     }
 }
@@ -226,11 +227,11 @@ pub(crate) fn push_structure<'a>(
 // Writes further arguments and the closing parenthesis, up to the first structure, which is left.
 fn push_further<'a>(
     arguments: &'a [Term],
-    store: &'a Store,
+    lookup: &Lookup<'a>,
     pieces: &mut Vec<Piece<'a>>,
     out: &mut String,
 ) -> Result<(), AllocError>
-    ensures text { IfOk result (λ _. UnfoldsIn (value_at store.now.held) (λ r. further_text (all_resolved r arguments.now)) (λ w. arguments_size w arguments.now) pieces.old.items pieces.new.items (string_bytes out.old) (string_bytes out.new)) }
+    ensures text { IfOk result (λ _. UnfoldsIn (value_at (held_in lookup.now)) (λ r. further_text (all_resolved r arguments.now)) (λ w. arguments_size w arguments.now) pieces.old.items pieces.new.items (string_bytes out.old) (string_bytes out.new)) }
     ensures begun { StartsWith (string_bytes out.new) (string_bytes out.old) }
 {
     let mut left = arguments;
@@ -239,7 +240,7 @@ fn push_further<'a>(
             return push_mark(')', out);
         };
         push_mark(',', out)?;
-        let last = store.end(next);
+        let last = lookup.end(next);
         if !push_leaf(last, out)? {
             pieces.push(Piece::Further(further))?;
             pieces.push(Piece::Term(last))?;
@@ -252,39 +253,39 @@ fn push_further<'a>(
 // Writes the beginning of a term.
 fn push_term<'a>(
     term: &'a Term,
-    store: &'a Store,
+    lookup: &Lookup<'a>,
     pieces: &mut Vec<Piece<'a>>,
     out: &mut String,
 ) -> Result<(), AllocError>
-    ensures text { IfOk result (λ _. UnfoldsIn (value_at store.now.held) (λ r. term_text (r term.now)) (λ w. term_size w term.now) pieces.old.items pieces.new.items (string_bytes out.old) (string_bytes out.new)) }
+    ensures text { IfOk result (λ _. UnfoldsIn (value_at (held_in lookup.now)) (λ r. term_text (r term.now)) (λ w. term_size w term.now) pieces.old.items pieces.new.items (string_bytes out.old) (string_bytes out.new)) }
     ensures begun { StartsWith (string_bytes out.new) (string_bytes out.old) }
 {
-    let end = store.end(term);
+    let end = lookup.end(term);
     if let Some((head, tail)) = cell(end) {
-        return push_cell('[', head, tail, store, pieces, out);
+        return push_cell('[', head, tail, lookup, pieces, out);
     }
     match end.view() {
         TermView::Var(x) => push_variable(x, out),
         TermView::Int(k) => push_integer(k, out),
         TermView::Atom(name) => out.push_str(name.as_str()),
-        TermView::Struct(name, arguments) => push_structure(name, arguments, store, pieces, out),
+        TermView::Struct(name, arguments) => push_structure(name, arguments, lookup, pieces, out),
     }
 }
 
 // Writes the beginning of a piece, which was taken from the pieces.
 pub(crate) fn push_piece<'a>(
     piece: Piece<'a>,
-    store: &'a Store,
+    lookup: &Lookup<'a>,
     pieces: &mut Vec<Piece<'a>>,
     out: &mut String,
 ) -> Result<(), AllocError>
-    ensures text { IfOk result (λ _. UnfoldsIn (value_at store.now.held) (λ r. piece_text r piece.entry) (λ w. piece_size w piece.entry) pieces.old.items pieces.new.items (string_bytes out.old) (string_bytes out.new)) }
+    ensures text { IfOk result (λ _. UnfoldsIn (value_at (held_in lookup.now)) (λ r. piece_text r piece.entry) (λ w. piece_size w piece.entry) pieces.old.items pieces.new.items (string_bytes out.old) (string_bytes out.new)) }
     ensures begun { StartsWith (string_bytes out.new) (string_bytes out.old) }
 {
     match piece {
-        Piece::Term(term) => push_term(term, store, pieces, out),
-        Piece::Rest(term) => push_rest(term, store, pieces, out),
-        Piece::Further(arguments) => push_further(arguments, store, pieces, out),
+        Piece::Term(term) => push_term(term, lookup, pieces, out),
+        Piece::Rest(term) => push_rest(term, lookup, pieces, out),
+        Piece::Further(arguments) => push_further(arguments, lookup, pieces, out),
         Piece::Mark(mark) => out.push_str(mark),
         Piece::Expr(expression) => push_expression(expression, pieces),
         Piece::Operand(expression) => push_operand(expression, pieces, out),

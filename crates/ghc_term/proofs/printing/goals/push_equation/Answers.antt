@@ -1,4 +1,5 @@
 use Rattle.ghc_term.proofs.Words.{◌≡◌, ◌++◌, [], refl, ap, ◌∙◌, string_bytes, if◌then◌else◌, arith, common_steps, IfOk-weaker, term_text, piece_text}
+use Rattle.ghc_term.specs.inner.Lookup.{held_in}
 use Rattle.ghc_term.proofs.Pieces.{starts, anywhere, behind, through}
 use Rattle.ghc_term.proofs.Resolving.{same_leaf, measure, is_measure}
 use Rattle.ghc_term.proofs.printing.goals.push_equation.Goals as goal
@@ -13,7 +14,7 @@ returns-then-not-branch-clause-text c =
 
 pub returns-clause-text : goal.returns-clause-text
 returns-clause-text c =
-    let held = c.args.store.now.held in
+    let held = held_in c.args.lookup.now in
     let last = c.end-last.result.now in
     let before = string_bytes c.args.out.now in
     let written : string_bytes c.push_leaf.new.out ≡ before ++ term_text last = c.in_ok-push_leaf.ensures.text ∙ ap (λ b. before ++ (if b then term_text last else [])) c.if-not-branch.false in

@@ -1,4 +1,5 @@
 use Rattle.ghc_term.proofs.Words.{◌++◌, sym, ap, ◌∙◌, string_bytes, IfOk-weaker, goal_text_by, pieces_text}
+use Rattle.ghc_term.specs.inner.Lookup.{held_in}
 use Rattle.ghc_term.proofs.Pieces.{starts}
 use Rattle.ghc_term.proofs.Resolving.{measure, is_measure}
 use Rattle.ghc_term.proofs.printing.goals.push_goal.Goals as goal
@@ -6,7 +7,7 @@ use Rattle.ghc_term.proofs.printing.goals.push_goal.Goals as goal
 pub returns-in-Call-clause-text : goal.returns-in-Call-clause-text
 returns-in-Call-clause-text c =
     IfOk-weaker c.push_structure.result _ _ (λ _ u r g.
-    starts r _ _ _ _ _ _ _ _ (ap (goal_text_by r) (sym c.in-Call.ensures)) (u r (measure c.args.store.now.held) g (is_measure c.args.store.now.held c.acyclic.ensures))) c.push_structure.ensures.text
+    starts r _ _ _ _ _ _ _ _ (ap (goal_text_by r) (sym c.in-Call.ensures)) (u r (measure (held_in c.args.lookup.now)) g (is_measure (held_in c.args.lookup.now) c.acyclic.ensures))) c.push_structure.ensures.text
 
 pub returns-in-Unify-clause-text : goal.returns-in-Unify-clause-text
 returns-in-Unify-clause-text c =

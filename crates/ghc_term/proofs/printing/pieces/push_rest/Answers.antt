@@ -1,4 +1,5 @@
 use Rattle.ghc_term.proofs.Words.{◌≡◌, ◌≢◌, ◌++◌, [], ◌∷◌, true, false, refl, sym, append-nil, append_assoc, ap, ◌∙◌, arith, string_bytes, codes, if◌then◌else◌, IfOk-weaker, common_steps, term_text, rest_text, nil}
+use Rattle.ghc_term.specs.inner.Lookup.{held_in}
 use Rattle.ghc_term.specs.inner.Pieces.{rest_size}
 use Rattle.ghc_term.proofs.Pieces.{as_said, behind, wrote, resumed, left_one, left_two, if_written}
 use Rattle.ghc_term.proofs.Texts.{rest_barred, no_new_nil, no_new_cell}
@@ -64,7 +65,7 @@ returns-then-len-enough-clause-text c r w g m =
 
 pub loop-end-smaller : goal.loop-end-smaller
 loop-end-smaller c =
-    let s = c.args.store.now.held in
+    let s = held_in c.args.lookup.now in
     omega (arith, cell_room (measure s) (is_measure s c.acyclic.ensures) c.end-end.ensures.1 c.in-Some.head.now c.in-Some.tail.now c.in-Some.ensures)
 
 pub loop-end-preserved : goal.loop-end-preserved
