@@ -56,28 +56,39 @@ fn push_by_way_of(place: &mut [u8], number: u32, out: &mut String) -> Result<(),
     out.push_str(unsafe { str::from_utf8_unchecked(&place[start..]) })
 }
 
-// Writes the digits of a number that has many of them, or where there is little room.
+// Writes the digits of a number of any length, or where there is little room.
 #[inline(never)]
-fn push_many_digits(number: u32, out: &mut String) -> Result<(), AllocError>
+fn push_any_digits(number: u32, out: &mut String) -> Result<(), AllocError>
     ensures { string_bytes out.new ≡ (if is_ok result then string_bytes out.old ++ decimal number else string_bytes out.old) }
 {
     let mut digits = Buffer::new();
     out.push_str(digits.format(number))
 }
 
-// Writes the digits of a number. Up to six of them go into room that is there, which takes no frame.
+// Writes the digits of a number that has many of them. Five or six go into room that is there, which takes no frame.
 #[inline(never)]
-fn push_digits(number: u32, out: &mut String) -> Result<(), AllocError>
+fn push_many_digits(number: u32, out: &mut String) -> Result<(), AllocError>
     ensures { string_bytes out.new ≡ (if is_ok result then string_bytes out.old ++ decimal number else string_bytes out.old) }
 {
     if number >= 1_000_000 || out.capacity() - out.len() < 6 {
-        return push_many_digits(number, out);
+        return push_any_digits(number, out);
     }
     if number >= 100_000 {
         return push_by_way_of(&mut [0; 6], number, out);
     }
     if number >= 10_000 {
         return push_by_way_of(&mut [0; 5], number, out);
+    }
+    push_any_digits(number, out)
+}
+
+// Writes the digits of a number. Up to four of them go into room that is there, which takes no frame.
+#[inline(never)]
+fn push_digits(number: u32, out: &mut String) -> Result<(), AllocError>
+    ensures { string_bytes out.new ≡ (if is_ok result then string_bytes out.old ++ decimal number else string_bytes out.old) }
+{
+    if number >= 10_000 || out.capacity() - out.len() < 4 {
+        return push_many_digits(number, out);
     }
     if number >= 1_000 {
         return push_by_way_of(&mut [0; 4], number, out);
