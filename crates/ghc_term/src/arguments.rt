@@ -71,6 +71,7 @@ impl Arguments {
     }
 
     // The arguments in order.
+    #[inline(always)]
     pub(crate) fn as_slice(&self) -> &[Term]
         ensures { result.now ≡ items_of self.now }
     {

@@ -124,6 +124,7 @@ impl Goal {
     }
 
     /// The goal lent in parts: one step.
+    #[inline(always)]
     pub fn view(&self) -> GoalView<'_>
         ensures { shown result ≡ self.now }
     {

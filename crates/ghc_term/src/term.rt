@@ -17,9 +17,11 @@ pub struct Term {
     shape: Shape,
 }
 
+// Before the name of a variable stands a number that nothing reads. It takes no memory, and lets what each shape holds stand at the
+// same place, so that a term is moved as two words.
 #[cycle(term)]
 enum Shape {
-    Var(VarName),
+    Var(u32, VarName),
     Int(i64),
     Atom(Name),
     Struct(Arc<Structure>),
@@ -61,7 +63,7 @@ impl Term {
         ensures { result ≡ variable x }
     {
         Term {
-            shape: Shape::Var(x),
+            shape: Shape::Var(0, x),
         }
     }
 
@@ -140,7 +142,7 @@ impl Term {
         ensures { IfOk result (λ t. t ≡ self.now) }
     {
         match &self.shape {
-            Shape::Var(x) => Ok(Term::variable(*x)),
+            Shape::Var(_, x) => Ok(Term::variable(*x)),
             Shape::Int(k) => Ok(Term::integer(*k)),
             Shape::Atom(name) => Ok(Term::atom(name.share()?)),
             Shape::Struct(structure) => Ok(Term {
@@ -155,7 +157,7 @@ impl Term {
         ensures { IsTrue result ↔ IsClosed self.now }
     {
         match &self.shape {
-            Shape::Var(_) => false,
+            Shape::Var(_, _) => false,
             Shape::Int(_) => true,
             Shape::Atom(_) => true,
             Shape::Struct(structure) => structure.arguments.is_closed(),
@@ -163,12 +165,13 @@ impl Term {
     }
 
     /// The term lent in parts: one step.
+    #[inline(always)]
     pub fn view(&self) -> TermView<'_>
         ensures shown { shown result ≡ self.now }
         ensures arguments { HasArgument result }
     {
         match &self.shape {
-            Shape::Var(x) => TermView::Var(*x),
+            Shape::Var(_, x) => TermView::Var(*x),
             Shape::Int(k) => TermView::Int(*k),
             Shape::Atom(name) => TermView::Atom(name),
             Shape::Struct(structure) => {
@@ -196,7 +199,7 @@ impl Drop for Term {
         loop {
             let Term { shape } = self;
             match shape {
-                Shape::Var(_) => return,
+                Shape::Var(_, _) => return,
                 Shape::Int(_) => return,
                 Shape::Atom(_name) => return,
                 Shape::Struct(structure) => {

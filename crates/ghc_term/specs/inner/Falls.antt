@@ -22,7 +22,7 @@ most_items (Others _ ts) = omega (arith, most_height ts.items)
 
 -- The height of a term is above that of each argument in it.
 pub deep_height : (s : Shape) → max (deep-Shape s) 0 ≤ height (tree_of s)
-deep_height (Var x) = omega arith
+deep_height (Var _ x) = omega arith
 deep_height (Int k) = omega arith
 deep_height (Atom f) = omega arith
 deep_height (Struct s) = omega (arith, most_items s.value.arguments)

@@ -24,14 +24,14 @@ KnowsClosed a = IsTrue (closed_of a) ↔ AreClosed (trees (items_of a))
 
 -- the tree that one level of a term, with the arguments in it, stands for
 abbrev pub tree_of : Shape → Tree
-tree_of (Var x) = variable x
+tree_of (Var _ x) = variable x
 tree_of (Int k) = integer k
 tree_of (Atom f) = atom f
 tree_of (Struct s) = node s.value.name (trees (items_of s.value.arguments))
 
 -- a structure has at least one argument, and knows whether a variable stands in it
 abbrev pub IsWellMade : Shape → Type 0
-IsWellMade (Var x) = Unit {0}
+IsWellMade (Var _ x) = Unit {0}
 IsWellMade (Int k) = Unit {0}
 IsWellMade (Atom f) = Unit {0}
 IsWellMade (Struct s) = (items_of s.value.arguments ≢ []) × KnowsClosed s.value.arguments

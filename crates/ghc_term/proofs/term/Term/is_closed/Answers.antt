@@ -4,9 +4,9 @@ use Rattle.ghc_term.proofs.term.Term.is_closed.Goals as goal
 
 pub returns-in-Var : goal.returns-in-Var
 returns-in-Var c =
-    let here : variable c.in-Var.field-0 ≡ c.args.self.now = sym (ap tree_of c.in-Var.is) ∙ c.self.view_is in (
+    let here : variable c.in-Var.field-1 ≡ c.args.self.now = sym (ap tree_of c.in-Var.is) ∙ c.self.view_is in (
       λ no. let clash : false ≡ true = no in cc,
-      λ closed. absurd (subst IsClosed (sym here) closed c.in-Var.field-0 refl),
+      λ closed. absurd (subst IsClosed (sym here) closed c.in-Var.field-1 refl),
     )
 
 pub returns-in-Struct : goal.returns-in-Struct
