@@ -1,5 +1,5 @@
 -- The numbers of the clauses of a name and arity.
-use Rattle.ghc_flat.proofs.Words.{◌≡◌, ◌≢◌, ℕ, zero, suc, ◌+◌, ◌<◌, ◌≤◌, true, false, cond, ◌&&◌, List, [], ◌∷◌, ◌++◌, length, slice_index, inl, inr, refl, sym, ap, ◌∙◌, subst, arith, nat_eq, bytes_eq, Some, None, slice_get, IsStrictlyIncreasing, bytes_eq-Decides, and_parts, eq-eqb, eqb-true, length-map, map_push, In, WrittenClause, Clause, Program, AreMadeOf, HasClause, Index, IsIndexOf, numbers_at, AreNumbersFor, keys_of_program, keys_of_written, is_same_key, numbers_from}
+use Rattle.ghc_flat.proofs.Words.{◌≡◌, ◌≢◌, ℕ, zero, suc, ◌+◌, ◌<◌, ◌≤◌, true, false, cond, ◌&&◌, List, [], ◌∷◌, ◌++◌, length, slice_index, inl, inr, refl, sym, ap, ◌∙◌, subst, arith, nat_eq, bytes_eq, Some, None, slice_get, IsStrictlyIncreasing, bytes_eq-Decides, and_parts, eq-eqb, eqb-true, length-map, map_push, In, WrittenClause, Clause, Program, IsClause, AreMadeOf, HasClause, Index, IsIndexOf, numbers_at, AreNumbersFor, keys_of_program, keys_of_written, is_same_key, numbers_from}
 
 -- what the test of a key says
 pub same_key : (f : List ℕ) (n : ℕ) (p : List ℕ × ℕ) → is_same_key f n p ≡ true → (p.0 ≡ f) × (p.1 ≡ n)
@@ -7,6 +7,13 @@ same_key f n p e = let parts = and_parts (bytes_eq p.0 f) (nat_eq p.1 n) e in ((
 
 pub key_itself : (f : List ℕ) (n : ℕ) (p : List ℕ × ℕ) → p.0 ≡ f → p.1 ≡ n → is_same_key f n p ≡ true
 key_itself f n p e d = ap (λ b. b && nat_eq p.1 n) ((bytes_eq-Decides p.0 f).1 e) ∙ eq-eqb p.1 n d
+
+-- a number is that of one clause
+pub clause_once : (P : Program) {k : ℕ} {c d : Clause} → IsClause P k c → IsClause P k d → c ≡ d
+clause_once P {c = c} {d = d} p q =
+    let same : p.0 ≡ q.0 = omega (arith, p.1, q.1) in
+    let both : Some c ≡ Some d = sym p.2 ∙ ap (λ i. slice_get P i) same ∙ q.2 in
+    cc
 
 -- the numbers of one key more
 pub numbers_push : (ps : List (List ℕ × ℕ)) (k : ℕ) (p : List ℕ × ℕ) (f : List ℕ) (n : ℕ)
@@ -54,17 +61,15 @@ numbers_complete (d ∷ P) k f n j (suc i, c, e, at, name, arity) =
     ]
 
 -- each number is above k, and the next above it
-Climbs : ℕ → List ℕ → Type 0
+abbrev pub Climbs : ℕ → List ℕ → Type 0
 Climbs k [] = Unit {0}
 Climbs k (j ∷ js) = (k < j) × Climbs j js
 
-climbs_lower : (k m : ℕ) (js : List ℕ) → k ≤ m → Climbs m js → Climbs k js
-unfolding Climbs
+pub climbs_lower : (k m : ℕ) (js : List ℕ) → k ≤ m → Climbs m js → Climbs k js
 climbs_lower k m [] l c = tt
 climbs_lower k m (j ∷ js) l c = let above : m < j = c.0 in (omega (arith, l, above), c.1)
 
-numbers_climb : (ps : List (List ℕ × ℕ)) (k : ℕ) (f : List ℕ) (n : ℕ) → Climbs k (numbers_from k ps f n)
-unfolding Climbs
+pub numbers_climb : (ps : List (List ℕ × ℕ)) (k : ℕ) (f : List ℕ) (n : ℕ) → Climbs k (numbers_from k ps f n)
 numbers_climb [] k f n = tt
 numbers_climb (p ∷ ps) k f n =
     elim (is_same_key f n p) as (λ b. Climbs k (cond b ((k + 1) ∷ numbers_from (k + 1) ps f n) (numbers_from (k + 1) ps f n))) [
@@ -73,7 +78,6 @@ numbers_climb (p ∷ ps) k f n =
     ]
 
 climbs_increasing : (k : ℕ) (js : List ℕ) → Climbs k js → IsStrictlyIncreasing js
-unfolding Climbs
 climbs_increasing k (j ∷ h ∷ js) c zero l = c.1.0
 climbs_increasing k (j ∷ h ∷ js) c (suc i) l =
     let rest = climbs_increasing j (h ∷ js) c.1 i (omega arith) in

@@ -13,6 +13,7 @@ ghost use Rattle.ghc_flat.specs.inner.Index.{Knows, AreSound};
 
 use crate::clause::Clause;
 use crate::counting::count_terms;
+use crate::firsts::Firsts;
 use crate::guards::tests_of_guards;
 use crate::index::Index;
 use crate::program::Program;
@@ -47,8 +48,16 @@ pub fn judge(alloc: Global, source: Source, query: &Query) -> Result<Program, Re
         Ok(clauses) => clauses,
         Err(fault) => return Err(Refused::Program(fault)),
     };
+    let firsts = match Firsts::of(alloc, &clauses, &index) {
+        Ok(firsts) => firsts,
+        Err(_) => return Err(Refused::Program(Fault::Memory)),
+    };
     match check_calls(query.goals(), &index) {
-        Ok(()) => Ok(Program { clauses, index }),
+        Ok(()) => Ok(Program {
+            clauses,
+            index,
+            firsts,
+        }),
         Err(fault) => Err(Refused::of_query(fault)),
     }
 }

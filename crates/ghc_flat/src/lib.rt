@@ -1,9 +1,11 @@
 //! Programs of Flat GHC: tests, clauses and queries, and which of them are flat, linear and defined.
 #![tactic(auto)]
 
+mod candidates;
 mod checker;
 mod clause;
 mod counting;
+mod firsts;
 mod guards;
 mod index;
 mod laws;
@@ -11,6 +13,7 @@ mod program;
 mod refused;
 mod test;
 
+pub use candidates::Candidates;
 pub use checker::{check, judge};
 pub use clause::Clause;
 pub use laws::{check_is_exact, query_faults_are_told};

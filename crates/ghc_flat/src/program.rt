@@ -1,15 +1,18 @@
 // Programs: clauses in order, and which of them are for a call.
-ghost use Rattle.std.specs.Prelude.{◌≡◌, IfSome, IfNone};
+ghost use Rattle.std.specs.Prelude.{◌≡◌, IfSome, IfNone, option_copied};
 
+use crate::candidates::Candidates;
 use crate::clause::Clause;
+use crate::firsts::Firsts;
 use crate::index::Index;
-use ghc_term::Name;
+use ghc_term::{Name, Term};
 use std::marker::Model;
 
 /// A program: flat, linear and defined clauses, numbered from 1.
 pub struct Program {
     pub(crate) clauses: Vec<Clause>,
     pub(crate) index: Index,
+    pub(crate) firsts: Firsts,
 }
 
 impl Drop for Program {
@@ -17,6 +20,7 @@ impl Drop for Program {
         let Program {
             clauses: _clauses,
             index: _index,
+            firsts: _firsts,
         } = self;
     }
 }
@@ -32,16 +36,17 @@ impl Model for Program {
     ghost use Rattle.ghc_flat.specs.Flat.{IsProgram};
     ghost use Rattle.ghc_flat.specs.inner.Index.{IsIndexOf};
     ghost use Rattle.ghc_flat.specs.Numbers.{keys_of_program};
+    ghost use Rattle.ghc_flat.specs.inner.Firsts.{AreTablesOf};
 
     ghost view = { λ p. p.clauses.items };
 
-    ghost invariant = { λ p. IsProgram p.clauses.items × IsIndexOf (keys_of_program p.clauses.items) p.index };
+    ghost invariant = { λ p. IsProgram p.clauses.items × IsIndexOf (keys_of_program p.clauses.items) p.index × AreTablesOf p.clauses.items p.firsts.tables.entries };
 }
 
 impl Program {
     ghost use Rattle.ghc_flat.specs.Clause.{Clause as clause, IsClause};
     ghost use Rattle.ghc_flat.specs.Flat.{IsProgram};
-    ghost use Rattle.ghc_flat.specs.Numbers.{AreNumbersFor};
+    ghost use Rattle.ghc_flat.specs.Numbers.{AreNumbersFor, AreNumbersWith};
 
     /// Its clauses, in order.
     pub fn clauses(&self) -> &[Clause]
@@ -65,5 +70,13 @@ impl Program {
         ensures { AreNumbersFor self.now name.now arity result.now }
     {
         self.index.numbers(name, arity)
+    }
+
+    /// The numbers, in order, of the clauses that a call of the name with so many arguments can have where the first of these ends so: it
+    /// leaves out clauses that have another value there, where they are many. Two look-ups, or four.
+    pub fn candidates(&self, name: &Name, arity: usize, end: Option<&Term>) -> Candidates<'_>
+        ensures { AreNumbersWith self.now name.now arity (option_copied end.entry) result }
+    {
+        self.firsts.candidates(&self.index, name, arity, end)
     }
 }

@@ -1,4 +1,4 @@
-use Rattle.ghc_flat.proofs.Words.{sym, subst, inl, inr, refl, AreWellWritten, AreNarrow, Knows}
+use Rattle.ghc_flat.proofs.Words.{sym, subst, inl, inr, refl, AreWellWritten, AreNarrow, AreTablesOf, IsIndexOf, Knows, keys_of_program}
 use Rattle.ghc_flat.proofs.Numbers.{made_keys}
 use Rattle.ghc_flat.proofs.Clauses.{all_faultless}
 use Rattle.ghc_flat.proofs.Faults.{known_has, has_known, first_fault_as, first_call_as, faultless_as, calls_as, program_of, query_of}
@@ -9,6 +9,12 @@ check_clauses-requires c = subst AreWellWritten (sym c.into_clauses.ensures.same
 
 pub check_calls-requires : goal.check_calls-requires
 check_calls-requires c = subst AreNarrow (sym c.goals.ensures.same) c.goals.ensures.well_asked.limited.arguments
+
+pub of-requires-2 : goal.of-requires-2
+of-requires-2 c =
+    let is = rw c.clauses.ensures.same at c.in-Ok.ensures in
+    let made = rw c.into_clauses.ensures.same at c.in-Ok-check_clauses.ensures.made in
+    subst (λ cs. IsIndexOf (keys_of_program cs) c.in-Ok.index) (sym c.deref.ensures.value) (rw (made_keys c.args.source c.in-Ok-check_clauses.clauses.items made) at is)
 
 pub returns-in-Err-check_clauses-clause-refused : goal.returns-in-Err-check_clauses-clause-refused
 returns-in-Err-check_clauses-clause-refused c =
@@ -24,8 +30,11 @@ pub invariant_of-result : goal.invariant_of-result
 invariant_of-result c =
     let is = rw c.clauses.ensures.same at c.in-Ok.ensures in
     let made = rw c.into_clauses.ensures.same at c.in-Ok-check_clauses.ensures.made in
-    let program = program_of c.args.source c.in-Ok-check_clauses.clauses.items c.in-Ok.index is made c.in-Ok-check_clauses.ensures.defined in
-    (program, rw (made_keys c.args.source c.in-Ok-check_clauses.clauses.items made) at is)
+    let program = program_of c.args.source c.in-Ok-check_clauses.clauses.items c.in-Ok.index is made c.in-Ok-check_clauses.ensures.defined in (
+      program,
+      rw (made_keys c.args.source c.in-Ok-check_clauses.clauses.items made) at is,
+      subst (λ cs. AreTablesOf cs c.in-Ok-of.firsts.tables.entries) c.deref.ensures.value c.in-Ok-of.ensures,
+    )
 
 pub returns-in-Ok-check_calls-clause-accepted : goal.returns-in-Ok-check_calls-clause-accepted
 returns-in-Ok-check_calls-clause-accepted c =
