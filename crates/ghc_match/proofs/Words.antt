@@ -2,6 +2,7 @@
 pub use Rattle.ghc_flat.proofs.Counts.{all_list}
 pub use Rattle.ghc_flat.proofs.DistinctLemmas.{distinct_apart, distinct_left, distinct_right}
 pub use Rattle.ghc_flat.specs.Clause.{Clause}
+pub use Rattle.ghc_flat.specs.Numbers.{AreOther, BeginsOtherwise}
 pub use Rattle.ghc_flat.specs.Flat.{AreDistinct, IsLinear}
 pub use Rattle.ghc_flat.specs.Samples.{asked, both_atoms, store, v}
 pub use Rattle.ghc_flat.specs.Variables.{leaf_variables, variables, variables_of_all, variables_of_list, variables_of_test}
