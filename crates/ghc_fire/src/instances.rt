@@ -7,38 +7,31 @@ ghost use Rattle.ghc_fire.specs.Proposal.{numbered};
 ghost use Rattle.ghc_fire.specs.Asked.{called_by};
 ghost use Rattle.ghc_fire.specs.inner.Renaming.{AreBehindHead, replacement};
 
+mod bodies;
 mod expressions;
 mod leaves;
 mod renaming;
 mod terms;
 
+use crate::instances::bodies::replace_term;
 use crate::instances::expressions::replace_expression;
 use crate::instances::renaming::Renaming;
-use crate::instances::terms::replace_term;
 use crate::made::Made;
 use ghc_flat::Clause;
 use ghc_match::Stands;
 use ghc_term::{Goal, GoalView, VarName};
 use std::alloc::{AllocError, Global};
 
-// The call with its variables replaced, as the term that it is written as.
-fn replace_call(alloc: Global, goal: &Goal, by: Renaming<'_>) -> Result<Goal, AllocError>
-    requires { (f : List ℕ) × (ts : List Tree) × (goal.now ≡ call f ts) }
-    ensures { IfOk result (λ g. g ≡ replace_in_goal (replacement by.entry) goal.now) }
-{
-    let Some(term) = goal.as_term() else {
-        unreachable!();
-    };
-    Ok(Goal::written_as(replace_term(alloc, term, by)?))
-}
-
 // The goal with its variables replaced.
 #[inline(always)]
 fn replace_goal(alloc: Global, goal: &Goal, by: Renaming<'_>) -> Result<Goal, AllocError>
     ensures { IfOk result (λ g. g ≡ replace_in_goal (replacement by.entry) goal.now) }
 {
+    if let Some(term) = goal.as_term() {
+        return Ok(Goal::written_as(replace_term(alloc, term, by)?));
+    }
     match goal.view() {
-        GoalView::Call(_, _) => replace_call(alloc, goal, by),
+        GoalView::Call(_, _) => unreachable!(),
         GoalView::Unify(left, right) => {
             let left = replace_term(alloc, left, by)?;
             Ok(Goal::unify(left, replace_term(alloc, right, by)?))
@@ -72,6 +65,7 @@ fn replace_goals(alloc: Global, goals: &[Goal], by: Renaming<'_>) -> Result<Vec<
 }
 
 // The same, as a step makes them.
+#[inline(always)]
 fn replace_made(alloc: Global, goals: &[Goal], by: Renaming<'_>) -> Result<Made, AllocError>
     ensures { IfOk result (λ made. made ≡ map (replace_in_goal (replacement by.entry)) goals.now) }
 {

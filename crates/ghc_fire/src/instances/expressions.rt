@@ -3,8 +3,8 @@ ghost use Rattle.std.specs.Prelude.{◌≡◌, IfOk};
 ghost use Rattle.ghc_fire.specs.Instance.{replace_in_expression};
 ghost use Rattle.ghc_fire.specs.inner.Renaming.{replacement, operated};
 
+use crate::instances::bodies::replace_term;
 use crate::instances::renaming::Renaming;
-use crate::instances::terms::replace_term;
 use ghc_term::{Expr, ExprView, Operator};
 use std::alloc::{AllocError, Global};
 

@@ -1,7 +1,7 @@
 // What variables become in the goals that a step makes.
 ghost use Rattle.std.specs.Prelude.{◌≡◌, IfOk, MatchOption};
 ghost use Rattle.ghc_term.specs.Tree.{variable};
-ghost use Rattle.ghc_fire.specs.inner.Renaming.{replacement};
+ghost use Rattle.ghc_fire.specs.inner.Renaming.{renamed, replacement};
 
 use crate::effect::NO_STEP;
 use ghc_match::Stands;
@@ -23,6 +23,25 @@ pub enum Renaming<'a> {
     Called(&'a [VarName]),
 }
 
+// What the variable of a body becomes in the step of this number, where the head variables stand for what theta has: one look-up.
+#[inline(always)]
+pub fn body_variable(
+    x: VarName,
+    theta: &Stands<'_>,
+    head_variables: u32,
+    number: u32,
+) -> Result<Term, AllocError>
+    ensures { IfOk result (λ t. t ≡ renamed head_variables theta.now number x) }
+{
+    match theta.get(x) {
+        Some(term) => term.share(),
+        None => Ok(Term::variable(VarName {
+            step: number,
+            place: x.place.saturating_sub(head_variables),
+        })),
+    }
+}
+
 // What the variable becomes, if that may be another term: one look-up at most.
 #[inline(always)]
 pub fn replace_variable(x: VarName, by: Renaming<'_>) -> Result<Option<Term>, AllocError>
@@ -33,13 +52,7 @@ pub fn replace_variable(x: VarName, by: Renaming<'_>) -> Result<Option<Term>, Al
             theta,
             head_variables,
             number,
-        } => match theta.get(x) {
-            Some(term) => Ok(Some(term.share()?)),
-            None => Ok(Some(Term::variable(VarName {
-                step: number,
-                place: x.place.saturating_sub(head_variables),
-            }))),
-        },
+        } => Ok(Some(body_variable(x, theta, head_variables, number)?)),
         Renaming::Numbered(number) => {
             if x.step != NO_STEP {
                 return Ok(None);

@@ -140,8 +140,8 @@ fn replace_each(
 }
 
 // The term with its variables replaced. It goes once through the term, and shares each part that stays.
-#[inline(always)]
-pub fn replace_term(alloc: Global, term: &Term, by: Renaming<'_>) -> Result<Term, AllocError>
+#[inline(never)]
+pub fn replace_deep(alloc: Global, term: &Term, by: Renaming<'_>) -> Result<Term, AllocError>
     ensures { IfOk result (λ t. t ≡ replace (replacement by.entry) term.now) }
 {
     match replace_part(alloc, term, by)? {
