@@ -1,4 +1,4 @@
-// The goals under a variable, of which there is mostly one.
+// The goals under a variable, of which there are mostly one or two.
 ghost use Rattle.std.specs.Prelude.{◌≡◌, ◌∷◌, ◌↔◌, [], length, IfOk, IsTrue, OnOk, OnErr};
 ghost use Rattle.std.specs.FinSet as set;
 
@@ -8,7 +8,7 @@ use std::alloc::{AllocError, Global};
 use std::marker::Model;
 use std::slice;
 
-// A set of goals: one goal takes no memory, more are found by a look-up.
+// A set of goals: one or two take no memory, more are found by a look-up.
 #[derive(Drop)]
 pub struct FewGoals {
     held: Few,
@@ -18,7 +18,14 @@ pub struct FewGoals {
 enum Few {
     Nothing(Global),
     One(Global, GoalName),
+    Two(Global, Pair),
     More(Box<GoalSet>),
+}
+
+// Two goals.
+#[derive(Drop)]
+struct Pair {
+    goals: [GoalName; 2],
 }
 
 impl Model for FewGoals {
@@ -29,19 +36,35 @@ impl Model for FewGoals {
 
     ghost coded = { goal_names_code };
 
-    ghost use Rattle.ghc_hooks.specs.inner.FewGoals.{goals_held};
+    ghost use Rattle.ghc_hooks.specs.inner.FewGoals.{goals_held, HasEachOnce};
 
     ghost view = { λ f. goals_held f.held };
+
+    ghost invariant = { λ f. HasEachOnce f.held };
 }
 
-// The two goals.
-fn two(alloc: Global, first: GoalName, second: GoalName) -> Result<Box<GoalSet>, AllocError>
-    ensures { IfOk result (λ goals. goals.value.held ≡ set.insert (set.insert set.empty first) second) }
+// The three goals.
+fn three(
+    alloc: Global,
+    first: GoalName,
+    second: GoalName,
+    third: GoalName,
+) -> Result<Box<GoalSet>, AllocError>
+    ensures { IfOk result (λ goals. goals.value.held ≡ set.insert (set.insert (set.insert set.empty first) second) third) }
 {
     let mut goals = GoalSet::new(alloc);
     goals.insert(first)?;
     goals.insert(second)?;
+    goals.insert(third)?;
     Ok(Box::new(alloc, goals)?)
+}
+
+// The first and the second of two goals.
+fn parts(pair: &Pair) -> (GoalName, GoalName)
+    ensures { pair.now.goals ≡ result.0 ∷ result.1 ∷ [] }
+{
+    let [first, second] = pair.goals;
+    (first, second)
 }
 
 impl FewGoals {
@@ -62,6 +85,7 @@ impl FewGoals {
         match &self.held {
             Few::Nothing(_) => &[],
             Few::One(_, goal) => slice::from_ref(goal),
+            Few::Two(_, pair) => &pair.goals,
             Few::More(goals) => goals.members(),
         }
     }
@@ -73,11 +97,12 @@ impl FewGoals {
         match &self.held {
             Few::Nothing(_) => true,
             Few::One(_, _) => false,
+            Few::Two(_, _) => false,
             Few::More(goals) => goals.is_empty(),
         }
     }
 
-    // Adds the goal: one comparison or one look-up.
+    // Adds the goal: a comparison or two, or one look-up.
     pub fn insert(&mut self, goal: GoalName) -> Result<(), AllocError>
         ensures ok { OnOk result (self.new ≡ set.insert self.old goal) }
         ensures err { OnErr result (self.new ≡ self.old) }
@@ -88,7 +113,14 @@ impl FewGoals {
             }
             Few::One(alloc, other) => {
                 if *other != goal {
-                    self.held = Few::More(two(*alloc, *other, goal)?);
+                    let goals = [*other, goal];
+                    self.held = Few::Two(*alloc, Pair { goals });
+                }
+            }
+            Few::Two(alloc, pair) => {
+                let (first, second) = parts(pair);
+                if first != goal && second != goal {
+                    self.held = Few::More(three(*alloc, first, second, goal)?);
                 }
             }
             Few::More(goals) => {
@@ -98,7 +130,7 @@ impl FewGoals {
         Ok(())
     }
 
-    // Takes the goal out: one comparison or one look-up.
+    // Takes the goal out: a comparison or two, or one look-up.
     pub fn remove(&mut self, goal: GoalName)
         ensures { self.new ≡ set.remove self.old goal }
     {
@@ -107,6 +139,14 @@ impl FewGoals {
             Few::One(alloc, other) => {
                 if *other == goal {
                     self.held = Few::Nothing(*alloc);
+                }
+            }
+            Few::Two(alloc, pair) => {
+                let (first, second) = parts(pair);
+                if first == goal {
+                    self.held = Few::One(*alloc, second);
+                } else if second == goal {
+                    self.held = Few::One(*alloc, first);
                 }
             }
             Few::More(goals) => {
