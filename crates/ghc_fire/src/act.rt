@@ -47,15 +47,9 @@ impl Act {
             Act::ByClause(number) => Ok(Act::ByClause(*number)),
             Act::Unified => Ok(Act::Unified),
             Act::Assigned => Ok(Act::Assigned),
-            Act::Given(input) => match input.share() {
-                Ok(input) => Ok(Act::Given(input)),
-                Err(error) => Err(error),
-            },
+            Act::Given(input) => Ok(Act::Given(input.share()?)),
             Act::Closed => Ok(Act::Closed),
-            Act::Asked(asked) => match asked.share() {
-                Ok(asked) => Ok(Act::Asked(asked)),
-                Err(error) => Err(error),
-            },
+            Act::Asked(asked) => Ok(Act::Asked(asked.share()?)),
         }
     }
 }

@@ -99,10 +99,8 @@ fn propose_unification(
     ensures proposed { IfOk result (λ p. (P : program_spec) → UnificationAnswers P left.now right.now (value_at store.now.held) (proposes p.0 p.1)) }
     ensures fault { IfErr result (λ f. (f ≡ Fault.Memory) ⊎ ((P : program_spec) → UnificationAnswers P left.now right.now (value_at store.now.held) (refused f))) }
 {
-    match attempt_unification(alloc, store, left, right) {
-        Ok(effect) => Ok((Act::Unified, effect)),
-        Err(fault) => Err(fault),
-    }
+    let effect = attempt_unification(alloc, store, left, right)?;
+    Ok((Act::Unified, effect))
 }
 
 // The act of a step that assigns the value of the expression, with its effect.
@@ -116,10 +114,8 @@ fn propose_assignment(
     ensures proposed { IfOk result (λ p. (P : program_spec) → AssignmentAnswers P left.now value.now (value_at store.now.held) (proposes p.0 p.1)) }
     ensures fault { IfErr result (λ f. (f ≡ Fault.Memory) ⊎ ((P : program_spec) → AssignmentAnswers P left.now value.now (value_at store.now.held) (refused f))) }
 {
-    match attempt_assignment(alloc, store, left, value) {
-        Ok(effect) => Ok((Act::Assigned, effect)),
-        Err(fault) => Err(fault),
-    }
+    let effect = attempt_assignment(alloc, store, left, value)?;
+    Ok((Act::Assigned, effect))
 }
 
 // The act of the step of this number of the goal, with its effect.
