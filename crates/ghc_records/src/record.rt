@@ -132,9 +132,7 @@ impl Record {
     pub fn step(&self) -> Result<Step, AllocError>
         ensures { IfOk result (λ s. s ≡ step_of self.now) }
     {
-        match self.act().share() {
-            Ok(act) => Ok(Step::new(self.number(), self.goal(), act)),
-            Err(error) => Err(error),
-        }
+        let act = self.act().share()?;
+        Ok(Step::new(self.number(), self.goal(), act))
     }
 }
