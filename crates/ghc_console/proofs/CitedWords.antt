@@ -10,7 +10,8 @@ pub use Rattle.ghc_console.specs.ListingLaws.{ListingsAreWhole, SaysMemory}
 pub use Rattle.ghc_console.specs.Listings.{TellsListing, records_listed, records_text, saved_text, session_listed}
 pub use Rattle.ghc_console.specs.PredicateWords.{is_name, predicate_named, predicate_of, predicate_of_parts}
 pub use Rattle.ghc_console.specs.Reading.{AsksAtNeed, CountsGiven, HasGathered, IsMadeOf, IsNextLine, LineSays, TakesFirst, TakesFront, TakesLine, line_limit}
-pub use Rattle.ghc_console.specs.Replies.{Answers, IsFrontOf, IsObeyed, IsReply, RepliesToAsk, RepliesToGoals, RepliesToInput, RepliesToKeep, RepliesToSaveSteps, RepliesToShow, RepliesToSpy, RepliesToStep, RepliesToWho, RepliesToWhy, Settled, TellsChange, TellsSlot, asks, fails, full, goal_too_long, has_asked, is_spied, is_undefined, keeps, keeps_nothing, lined, lines_or_none, lists, names_nothing, no_goals, no_memory, no_variable, not_kept, numbers_text, obeys, print_limit, quits, reads, record_lines, refusal, refuses, replies, settled, shows, steps, steps_told, takes, tells_binders, tells_history, tells_reasons, text_lines, too_long, unasked, unread, unsettled}
+pub use Rattle.ghc_console.specs.Replies.{Answers, IsFrontOf, IsObeyed, IsReply, RepliesToAsk, RepliesToGoals, RepliesToInput, RepliesToKeep, RepliesToSaveSteps, RepliesToShow, RepliesToSpy, RepliesToStep, RepliesToWho, RepliesToWhy, Settled, TellsChange, TellsSlot, asks, fails, full, goal_too_long, has_asked, is_spied, is_undefined, keeps, keeps_nothing, lined, lines_or_none, lists, names_nothing, no_goals, no_memory, no_variable, not_kept, numbers_text, obeys, quits, reads, record_lines, refusal, refuses, replies, settled, shows, steps, steps_told, takes, tells_binders, tells_history, tells_reasons, text_lines, too_long, unasked, unread, unsettled}
+pub use Rattle.ghc_trace.specs.GoalLines.{AreGoalLines, HasTooLong, print_limit}
 pub use Rattle.ghc_console.specs.RunReplies.{AreLinesTold, IsAdded, IsLineTold, RepliesToSkip, TellsRun, and_line, last_of, mode_of, no_goal, no_line, run_lines, skips, step_line, stop_line}
 pub use Rattle.ghc_console.specs.ScheduleReplies.{Hears, IsAskedOf, IsDoneBy, IsGiven, PlaysCommand, does, reply_text, starves, told_text}
 pub use Rattle.ghc_console.specs.ScheduleText.{ArePlayedOut, BrokenOff, Schedule, WritesSchedule, hand_count, nothing_more, part_of_records, part_of_reply, then_begun, then_whole, told_at_end, with_hands}
@@ -85,7 +86,6 @@ pub use Rattle.ghc_term.specs.declared.var_name.VarName.{VarName}
 pub use Rattle.ghc_trace.proofs.Telling.{none_untried}
 pub use Rattle.ghc_trace.specs.Disturbed.{AreDisturbed, AreStuckOtherwise, Disturbed}
 pub use Rattle.ghc_trace.specs.GoalLaws.{LinesAreOfGoals}
-pub use Rattle.ghc_trace.specs.GoalLines.{AreGoalLines, HasTooLong}
 pub use Rattle.ghc_trace.specs.Laws.{Brings, IsSettled, NotesTellNews}
 pub use Rattle.ghc_trace.specs.News.{Standing, news_text}
 pub use Rattle.ghc_trace.specs.PortText.{port_text, ports_text}

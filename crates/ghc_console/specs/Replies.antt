@@ -6,6 +6,7 @@ use Rattle.ghc_term.specs.declared.var_name.VarName.{VarName}
 use Rattle.ghc_term.specs.declared.goal_name.GoalName.{GoalName}
 use Rattle.ghc_term.specs.declared.fault.Fault.{Fault}
 use Rattle.ghc_term.specs.declared.limit.Limit.TheVariants as limit
+use Rattle.ghc_trace.specs.GoalLines.{AreGoalLines, HasTooLong, print_limit}
 use Rattle.ghc_term.specs.Tree.{Tree, variable}
 use Rattle.ghc_term.specs.Goal.{Goal}
 use Rattle.ghc_term.specs.Store.{value_at}
@@ -37,7 +38,6 @@ use Rattle.ghc_core.specs.Load.{AskForGoals, history_of}
 use Rattle.ghc_trace.specs.Ports.{Port, ArePorts}
 use Rattle.ghc_trace.specs.PortText.{ports_text}
 use Rattle.ghc_trace.specs.News.{Standing, AreNews, news_text}
-use Rattle.ghc_trace.specs.GoalLines.{AreGoalLines, HasTooLong}
 use Rattle.ghc_trace.specs.declared.reasons.Reason.{Reason}
 use Rattle.ghc_trace.specs.ReasonText.{reason_text}
 use Rattle.ghc_trace.specs.Why.{AreReasonsTold}
@@ -57,10 +57,6 @@ use Rattle.ghc_console.specs.declared.command.LineCommand.{LineCommand}
 use Rattle.ghc_console.specs.declared.command.LineCommand.TheVariants.{Nothing as nothing, Step as step, Obey as obey, Show as show, Records as records, Since as since, Causes as causes, GoalOf as goal_of, Clauses as clauses, Goals as goals, Why as why, Who as who, Explain as explain, ExplainGoal as explain_goal, Keep as keep, KeepGoal as keep_goal, Shelf as shelf, Save as save, SaveSteps as save_steps, Spy as spy, Unspy as unspy, Input as input, Ask as ask, Leap as leap, Skip as skip, Quit as quit, Unknown as unknown}
 use Rattle.ghc_console.specs.Reading.{line_limit}
 use Rattle.ghc_console.specs.SessionState.{SessionState, HasClauseFor, LeavesSpies, predicate_text}
-
--- the most bytes of a printed term
-abbrev pub print_limit : ℕ
-print_limit = 1048576
 
 -- Settled w v front text: the world w was changed to the world v, of which the front of the text tells. After it come the lines of the goals that are stuck now in a new way, or F1 in place of these.
 pub data Settled (w v : World) (front : List ℕ) : List ℕ → Type 0 where

@@ -4,6 +4,7 @@ use Rattle.std.specs.Char.{is_ascii_digit, is_ascii_uppercase}
 use Rattle.std.specs.List.{list_all, slice_split}
 use Rattle.std.specs.Str.Parse.{digits_value}
 use Rattle.ghc_term.specs.InputTerm.{is_name_byte}
+use Rattle.ghc_reader.specs.Lexed.{greatest_number}
 use Rattle.ghc_term.specs.declared.goal_name.GoalName.{GoalName}
 
 -- A byte that a command may have.
@@ -28,10 +29,6 @@ from_space (byte ∷ bytes) = if byte == 32 then byte ∷ bytes else from_space 
 abbrev pub behind : ℕ → List ℕ → List ℕ
 behind zero line = unindented line
 behind (suc n) line = behind n (from_space (unindented line))
-
--- The greatest number that a word may say.
-abbrev pub greatest_number : ℕ
-greatest_number = 4294967295
 
 -- The word is one digit or more, with a value that is not too great.
 abbrev pub is_number : List ℕ → Bool
