@@ -33,10 +33,7 @@ pub fn ask_command(alloc: Global, words: &[u8]) -> Result<LineCommand, AllocErro
 pub fn asked_for(alloc: Global, core: &Core, text: &[u8]) -> Result<Ask, Fault>
     ensures { Answered (IsReadAskFor core.now.world text.now) (IsRefusal an_ask text.now) result }
 {
-    let written = match read_ask(alloc, text, core.query().variables()) {
-        Ok(written) => written,
-        Err(fault) => return Err(fault),
-    };
+    let written = read_ask(alloc, text, core.query().variables())?;
     let ask = Ask::of_written(alloc, written)?;
     Ok(ask)
 }
