@@ -26,7 +26,7 @@ pub use Rattle.ghc_reader.proofs.TokenTexts.{run_of_digits}
 pub use Rattle.ghc_reader.proofs.Values.{digits_told, numbered_by}
 pub use Rattle.ghc_reader.proofs.WithinLimits.{ask_well_put}
 pub use Rattle.ghc_reader.specs.Bytes.{IsRun}
-pub use Rattle.ghc_reader.specs.Lexed.{IsNumberedAs}
+pub use Rattle.ghc_reader.specs.Lexed.{IsNumberedAs, greatest_number}
 pub use Rattle.ghc_reader.specs.Lowered.{AreNamed, Each, IsCalled, Names, SaysAllBy, SaysBy, SaysGoalBy, SaysValueBy, blank, doing}
 pub use Rattle.ghc_reader.specs.PrintedGoals.{AreWritable, HasNumbers, IsNamedIn, IsPrintedAs, IsReadAs, IsWritable, IsWritableExpression, IsWritableGoal, IsWritableOperand, IsWritableTarget, further_goals, goals_text}
 pub use Rattle.ghc_reader.specs.Read.{IsReadBody, IsReadTerm}
@@ -41,7 +41,7 @@ pub use Rattle.ghc_records.specs.EntryText.{AreNewInOrder, IsNamed, OpensFew, Sa
 pub use Rattle.ghc_records.specs.inner.Handles.{goals_of}
 pub use Rattle.ghc_records.specs.History.{History, IsHistory}
 pub use Rattle.ghc_records.specs.HistoryLaws.{IsInRange, IsOfAGoal, line_feeds}
-pub use Rattle.ghc_records.specs.HistoryText.{IsFirstWrongLine, IsHistoryRefusal, IsLine, IsLineOf, SaysAct, SaysStep, TellsCount, TellsHistory, TellsNext, TellsNoMore, TellsSteps, behind_count, count_line, end_line, greatest_number, heading, history_lines, history_text, lines_text, pieces_of}
+pub use Rattle.ghc_records.specs.HistoryText.{IsFirstWrongLine, IsHistoryRefusal, IsLine, IsLineOf, SaysAct, SaysStep, TellsCount, TellsHistory, TellsNext, TellsNoMore, TellsSteps, behind_count, count_line, end_line, heading, history_lines, history_text, lines_text, pieces_of}
 pub use Rattle.ghc_records.specs.Journal.{Entry, Step, redid, reordered, rolled, took, undid}
 pub use Rattle.ghc_records.specs.Laws.{ReplayIsOne, ReplayIsWellMade}
 pub use Rattle.ghc_records.specs.inner.NumberSet.{HoldsEachOnce, IsRising, numbers_of, room_of}

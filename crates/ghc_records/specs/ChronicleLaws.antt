@@ -12,7 +12,7 @@ use Rattle.ghc_fire.specs.declared.act.Act.TheVariants.{Asked as asked}
 use Rattle.ghc_records.specs.declared.predicate.Predicate.{Predicate}
 use Rattle.ghc_records.specs.Numbers.{kept_limit}
 use Rattle.ghc_records.specs.Journal.{Step, Entry, took, undid, rolled, redid, reordered}
-use Rattle.ghc_records.specs.HistoryText.{greatest_number}
+use Rattle.ghc_reader.specs.Lexed.{greatest_number}
 use Rattle.ghc_records.specs.HistoryLaws.{IsOfAGoal, line_feeds}
 use Rattle.ghc_records.specs.Chronicle.{Chronicle, AreBelow, AreInTurn, entry_limit, next_behind, spy_limit}
 use Rattle.ghc_records.specs.StepText.{body_text}

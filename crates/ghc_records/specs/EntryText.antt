@@ -10,7 +10,8 @@ use Rattle.ghc_fire.specs.Asked.{asked_of, own_variables, made_from}
 use Rattle.ghc_fire.specs.declared.act.Act.TheVariants.{Asked as asked}
 use Rattle.ghc_records.specs.Journal.{Step, Entry, took, undid, rolled, redid, reordered}
 use Rattle.ghc_records.specs.StepText.{body_text, followed_by, step_text}
-use Rattle.ghc_records.specs.HistoryText.{SaysStep, greatest_number}
+use Rattle.ghc_records.specs.HistoryText.{SaysStep}
+use Rattle.ghc_reader.specs.Lexed.{greatest_number}
 
 -- numbers, each after a space
 abbrev pub numbers_behind : List ℕ → List ℕ

@@ -11,7 +11,8 @@ use Rattle.ghc_term.specs.InputTerm.{IsInputTerm}
 use Rattle.ghc_fire.specs.declared.act.Act.TheVariants.{ByClause as by_clause, Given as given, Asked as asked}
 use Rattle.ghc_records.specs.Journal.{Step}
 use Rattle.ghc_records.specs.History.{History, IsHistory}
-use Rattle.ghc_records.specs.HistoryText.{IsFirstWrongLine, IsHistoryRefusal, TellsHistory, greatest_number, history_text}
+use Rattle.ghc_records.specs.HistoryText.{IsFirstWrongLine, IsHistoryRefusal, TellsHistory, history_text}
+use Rattle.ghc_reader.specs.Lexed.{greatest_number}
 
 -- The goal and the clause that the step names have numbers of 32 bits, and its input is an input term.
 pub record IsInRange (s : Step) : Type 0 where

@@ -5,6 +5,7 @@ use Rattle.std.specs.List.{slice_split}
 use Rattle.ghc_term.specs.declared.goal_name.GoalName.{GoalName}
 use Rattle.ghc_term.specs.declared.fault.Fault.{Fault}
 use Rattle.ghc_term.specs.Lists.{In}
+use Rattle.ghc_reader.specs.Lexed.{greatest_number}
 use Rattle.ghc_reader.specs.Read.{IsReadTerm}
 use Rattle.ghc_fire.specs.declared.act.Act.{Act}
 use Rattle.ghc_fire.specs.declared.act.Act.TheVariants.{ByClause as by_clause, Unified as unified, Assigned as assigned, Given as given, Closed as closed, Asked as asked}
@@ -50,10 +51,6 @@ IsLineOf pieces i line = (next : List ℕ) × (more : List (List ℕ)) × (drop 
 -- After the first i lines of the text comes this one.
 abbrev pub IsLine : List ℕ → ℕ → List ℕ → Type 0
 IsLine text i line = IsLineOf (pieces_of text) i line
-
--- the greatest number in a history
-abbrev pub greatest_number : ℕ
-greatest_number = 4294967295
 
 -- The bytes say the act. After `in ` stands any text of an input term. No act that asks for goals is said.
 abbrev pub SaysAct : List ℕ → Act → Type 0

@@ -3,7 +3,7 @@ use Rattle.std.specs.Prelude.{◌≡◌, ℕ, ◌≤◌, List, ◌++◌, codes}
 use Rattle.std.specs.Fmt.{decimal}
 use Rattle.ghc_term.specs.InputTerm.{IsNameText}
 use Rattle.ghc_records.specs.declared.predicate.Predicate.{Predicate}
-use Rattle.ghc_records.specs.HistoryText.{greatest_number}
+use Rattle.ghc_reader.specs.Lexed.{greatest_number}
 
 -- a predicate, as `append/3`
 abbrev pub predicate_text : Predicate → List ℕ

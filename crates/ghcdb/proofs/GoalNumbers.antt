@@ -13,7 +13,7 @@ use Rattle.ghc_fire.specs.declared.act.Act.{Act}
 use Rattle.ghc_fire.specs.declared.act.Act.TheVariants.{ByClause as by_clause, Unified as unified, Assigned as assigned, Given as given, Closed as closed}
 use Rattle.ghc_fire.specs.Effect.{Effect, HasEffect}
 use Rattle.ghc_fire.specs.Instance.{becomes, replace_in_goal}
-use Rattle.ghc_records.specs.HistoryText.{greatest_number}
+use Rattle.ghc_reader.specs.Lexed.{greatest_number}
 use Rattle.ghc_records.specs.Record.{State, Record, Fires}
 use Rattle.ghc_records.specs.Replay.{MakesGoal}
 use Rattle.ghc_depend.proofs.Finding.{own_made}

@@ -14,7 +14,7 @@ use Rattle.ghc_fire.specs.Asked.{NameNoneOf, asked_as, asked_of}
 use Rattle.ghc_records.specs.ChronicleLaws.{CanBeAsked, CanBeSaid}
 use Rattle.ghc_records.specs.EntryText.{AreNewInOrder}
 use Rattle.ghc_records.specs.HistoryLaws.{IsOfAGoal}
-use Rattle.ghc_records.specs.HistoryText.{greatest_number}
+use Rattle.ghc_reader.specs.Lexed.{greatest_number}
 use Rattle.ghc_records.specs.Numbers.{number_limit}
 use Rattle.ghc_depend.proofs.Finding.{not_both}
 use Rattle.ghc_depend.proofs.Results.{firing}

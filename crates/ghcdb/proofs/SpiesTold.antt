@@ -13,7 +13,7 @@ use Rattle.ghc_term.specs.InputTerm.{IsNameText}
 use Rattle.ghc_term.proofs.ListsLemmas.{in_at}
 use Rattle.ghc_flat.specs.Clause.{Clause}
 use Rattle.ghc_records.specs.ChronicleLaws.{CanBeSpied}
-use Rattle.ghc_records.specs.HistoryText.{greatest_number}
+use Rattle.ghc_reader.specs.Lexed.{greatest_number}
 use Rattle.ghc_records.specs.Orders.{AreDistinct}
 use Rattle.ghc_records.specs.declared.predicate.Predicate as written
 use Rattle.ghc_records.proofs.PickLemmas.{no_longer}

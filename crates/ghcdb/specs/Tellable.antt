@@ -6,7 +6,7 @@ use Rattle.ghc_records.specs.Journal.{Step, Entry}
 use Rattle.ghc_records.specs.Chronicle.{entry_limit}
 use Rattle.ghc_records.specs.ChronicleLaws.{CanBeSaid, CanBeTold}
 use Rattle.ghc_records.specs.HistoryLaws.{IsOfAGoal}
-use Rattle.ghc_records.specs.HistoryText.{greatest_number}
+use Rattle.ghc_reader.specs.Lexed.{greatest_number}
 use Rattle.ghc_core.specs.World.{World}
 use Rattle.ghc_core.specs.Resume.{chronicle_of_world}
 use Rattle.ghc_trace.specs.Spies.{HasPredicate, spies_in_order}

@@ -2,7 +2,8 @@
 ghost use Rattle.std.specs.Prelude.{◌≡◌, ◌≢◌, ◌≤◌, ◌∷◌, ◌++◌, ℕ, IfSome, IfNone};
 ghost use Rattle.std.specs.Fmt.{decimal};
 ghost use Rattle.ghc_records.specs.Numbers.{kept_limit};
-ghost use Rattle.ghc_records.specs.HistoryText.{IsLineOf, greatest_number, pieces_of};
+ghost use Rattle.ghc_records.specs.HistoryText.{IsLineOf, pieces_of};
+ghost use Rattle.ghc_reader.specs.Lexed.{greatest_number};
 ghost use Rattle.ghc_records.specs.ChronicleText.{IsNext, chronicle_heading, opening_line};
 
 use crate::text::cutting::{behind, cut, next_line, number, positive};

@@ -3,7 +3,8 @@ ghost use Rattle.std.specs.Prelude.{◌≡◌, ◌↔◌, ◌+◌, ◌≤◌, �
 ghost use Rattle.ghc_term.specs.Answered.{Answered};
 ghost use Rattle.ghc_term.specs.declared.fault.Fault.{Fault as fault_spec};
 ghost use Rattle.ghc_records.specs.Numbers.{number_limit, kept_limit};
-ghost use Rattle.ghc_records.specs.HistoryText.{IsLine, IsLineOf, end_line, greatest_number, pieces_of};
+ghost use Rattle.ghc_records.specs.HistoryText.{IsLine, IsLineOf, end_line, pieces_of};
+ghost use Rattle.ghc_reader.specs.Lexed.{greatest_number};
 ghost use Rattle.ghc_records.specs.Sections.{IsFirstWrongOf, TellsSection};
 ghost use Rattle.ghc_records.specs.Chronicle.{AreInTurn, entry_limit, next_behind, spy_limit};
 ghost use Rattle.ghc_records.specs.EntryText.{SaysEntry};

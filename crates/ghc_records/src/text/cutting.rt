@@ -4,7 +4,8 @@ ghost use Rattle.std.specs.Char.{is_ascii_digit};
 ghost use Rattle.std.specs.Fmt.{decimal};
 ghost use Rattle.std.specs.List.{list_all};
 ghost use Rattle.std.specs.Str.Parse.{digits_value};
-ghost use Rattle.ghc_records.specs.HistoryText.{greatest_number, pieces_of};
+ghost use Rattle.ghc_records.specs.HistoryText.{pieces_of};
+ghost use Rattle.ghc_reader.specs.Lexed.{greatest_number};
 
 // What stands in front of the first such byte, and what after it; none where there is no such byte.
 pub(crate) fn cut(bytes: &[u8], mark: u8) -> Option<(&[u8], &[u8])>

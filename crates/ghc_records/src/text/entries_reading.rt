@@ -3,7 +3,8 @@ ghost use Rattle.std.specs.Prelude.{◌≡◌, ◌↔◌, ◌+◌, ◌≤◌, �
 ghost use Rattle.ghc_term.specs.declared.fault.Fault.{Fault as fault_spec};
 ghost use Rattle.ghc_records.specs.Numbers.{number_limit};
 ghost use Rattle.ghc_records.specs.Journal.{Entry as entry_spec};
-ghost use Rattle.ghc_records.specs.HistoryText.{IsLineOf, greatest_number, pieces_of};
+ghost use Rattle.ghc_records.specs.HistoryText.{IsLineOf, pieces_of};
+ghost use Rattle.ghc_reader.specs.Lexed.{greatest_number};
 ghost use Rattle.ghc_records.specs.Sections.{TellsItems, TellsNoMoreItems};
 ghost use Rattle.ghc_records.specs.Chronicle.{AreInTurn, IsInTurn, next_after, next_behind};
 ghost use Rattle.ghc_records.specs.EntryText.{SaysEntry};

@@ -6,7 +6,7 @@ ghost use Rattle.ghc_term.specs.InputTerm.{IsInputTerm};
 ghost use Rattle.ghc_term.specs.declared.goal_name.GoalName.{GoalName as goal_spec};
 ghost use Rattle.ghc_fire.specs.declared.act.Act.TheVariants.{ByClause as by_clause, Given as given};
 ghost use Rattle.ghc_records.specs.Journal.{Step as step_spec};
-ghost use Rattle.ghc_records.specs.HistoryText.{greatest_number};
+ghost use Rattle.ghc_reader.specs.Lexed.{greatest_number};
 ghost use Rattle.ghc_records.specs.HistoryLaws.{IsInRange};
 
 use crate::history::History;

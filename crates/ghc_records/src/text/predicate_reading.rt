@@ -5,7 +5,8 @@ ghost use Rattle.std.specs.List.{list_all};
 ghost use Rattle.ghc_term.specs.InputTerm.{IsNameText, is_name_byte};
 ghost use Rattle.ghc_term.specs.declared.fault.Fault.{Fault as fault_spec};
 ghost use Rattle.ghc_records.specs.declared.predicate.Predicate.{Predicate as predicate_spec};
-ghost use Rattle.ghc_records.specs.HistoryText.{IsLineOf, greatest_number, pieces_of};
+ghost use Rattle.ghc_records.specs.HistoryText.{IsLineOf, pieces_of};
+ghost use Rattle.ghc_reader.specs.Lexed.{greatest_number};
 ghost use Rattle.ghc_records.specs.Sections.{TellsItems, TellsNoMoreItems};
 ghost use Rattle.ghc_records.specs.Predicates.{GoTogether, SaysPredicate};
 

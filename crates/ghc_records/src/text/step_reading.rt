@@ -8,7 +8,8 @@ ghost use Rattle.ghc_fire.specs.declared.act.Act.{Act as act_spec};
 ghost use Rattle.ghc_fire.specs.declared.act.Act.TheVariants.{Given};
 ghost use Rattle.ghc_records.specs.Journal.{Step as step_spec};
 ghost use Rattle.ghc_records.specs.StepText.{goal_name_text};
-ghost use Rattle.ghc_records.specs.HistoryText.{SaysAct, SaysStep, greatest_number};
+ghost use Rattle.ghc_records.specs.HistoryText.{SaysAct, SaysStep};
+ghost use Rattle.ghc_reader.specs.Lexed.{greatest_number};
 
 use crate::step::Step;
 use crate::text::cutting::{behind, cut, number, positive};
