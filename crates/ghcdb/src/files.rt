@@ -109,14 +109,8 @@ pub fn read_texts<R: Files + AllocGlobal>(rt: &R, options: Options<'_>) -> Resul
             return Err(Refusal { part, fault });
         }
     };
-    let history = match history_of(rt, options) {
-        Ok(history) => history,
-        Err(refusal) => return Err(refusal),
-    };
-    let schedule = match schedule_of(rt, options) {
-        Ok(schedule) => schedule,
-        Err(refusal) => return Err(refusal),
-    };
+    let history = history_of(rt, options)?;
+    let schedule = schedule_of(rt, options)?;
     Ok(Texts {
         program,
         history,
