@@ -3,6 +3,7 @@ use Rattle.std.specs.Prelude.{◌≢◌, ◌⊎◌, ℕ, ◌+◌, ◌-◌, ◌�
 use Rattle.std.specs.Int.{w64}
 use Rattle.std.specs.Char.{is_ascii_digit, is_ascii_lowercase, is_ascii_uppercase}
 use Rattle.std.specs.List.{list_all}
+use Rattle.ghc_term.specs.Limit.{text_limit}
 use Rattle.ghc_term.specs.Tree.{Tree, variable, integer, node, Trees, none, more, list_of}
 use Rattle.ghc_term.specs.Text.{is_cell, is_nil, term_text}
 
@@ -75,7 +76,7 @@ pub record IsInputTerm (t : Tree) : Type 0 where
   pub grammar : IsInGrammar t
   pub size : nodes t ≤ 10000
   pub nested : nesting t ≤ 64
-  pub text : length (term_text t) ≤ 1048576
+  pub text : length (term_text t) ≤ text_limit
 
 -- how many brackets are open after a byte; a closing one takes one off, never below zero
 abbrev pub open_behind : ℕ → ℕ → ℕ

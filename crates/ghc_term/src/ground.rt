@@ -7,7 +7,7 @@ use std::alloc::AllocError;
 use std::marker::Model;
 
 /// A closed term that is the tree of an input term, within the limits: at most 10,000 nodes, 255 arguments, 64 brackets
-/// open at one place and 1,048,576 bytes of text. A variable, an integer, an atom, a structure and a list cell is a node each.
+/// open at one place and `TEXT_LIMIT` bytes of text. A variable, an integer, an atom, a structure and a list cell is a node each.
 #[derive(Drop)]
 pub struct Ground {
     term: Term,
@@ -33,7 +33,7 @@ impl Ground {
     ghost use Rattle.ghc_term.specs.Tree.{Occurs};
     ghost use Rattle.ghc_term.specs.declared.var_name.VarName.{VarName};
 
-    /// The term as an input term; one that is none is given back. It looks at 10,000 nodes and 1,048,576 bytes at most.
+    /// The term as an input term; one that is none is given back. It looks at 10,000 nodes and `TEXT_LIMIT` bytes at most.
     pub fn new(term: Term) -> Result<Ground, Term>
         ensures accepted { IsOk result ↔ IsInputTerm term }
         ensures ok { IfOk result (λ g. g ≡ term) }

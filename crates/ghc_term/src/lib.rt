@@ -35,7 +35,7 @@ pub use goal::Goal;
 pub use goal_name::GoalName;
 pub use goal_view::GoalView;
 pub use ground::Ground;
-pub use limit::Limit;
+pub use limit::{Limit, TEXT_LIMIT};
 pub use name::Name;
 pub use operator::Operator;
 pub use overlay::{Chain, Overlay};

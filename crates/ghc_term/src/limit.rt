@@ -2,6 +2,9 @@
 ghost use Rattle.std.specs.Prelude.{◌≡◌};
 ghost use Rattle.ghc_term.specs.Limit.{limit_word};
 
+/// The most bytes of a program, a query, an input term or what is asked for in mid-run.
+pub const TEXT_LIMIT: usize = 1_048_576;
+
 /// What was exceeded.
 #[derive(Clone, Copy, Debug, PartialEq, Eq)]
 pub enum Limit {

@@ -6,6 +6,7 @@ ghost use Rattle.ghc_term.specs.Text.{is_cell};
 ghost use Rattle.ghc_term.specs.InputTerm.{is_name_byte, IsNameText, IsInputTerm};
 ghost use Rattle.ghc_term.specs.inner.Measure.{MeasuredAt, MeasuredAll, Entered};
 
+use crate::limit::TEXT_LIMIT;
 use crate::name::Name;
 use crate::term::Term;
 use crate::view::TermView;
@@ -191,13 +192,13 @@ fn measure(term: &Term, depth: usize, room: Room) -> Option<Room>
     }
 }
 
-/// Whether the term is an input term. It looks at 10,000 nodes and 1,048,576 bytes at most.
+/// Whether the term is an input term. It looks at 10,000 nodes and `TEXT_LIMIT` bytes at most.
 pub fn is_input_term(term: &Term) -> bool
     ensures { IsTrue result ↔ IsInputTerm term.now }
 {
     let room = Room {
         nodes: 10_000,
-        bytes: 1_048_576,
+        bytes: TEXT_LIMIT,
     };
     measure(term, 64, room).is_some()
 }
