@@ -45,10 +45,8 @@ fn look_on(
     ensures { OnOk result (Gains looked.old looked.new (GuardLooksAt stands.now (value_at store.now.held) tests.now)) }
 {
     let mut wanted = Variables::new(alloc);
-    match try_guard(alloc, store, stands, tests, &mut wanted, looked) {
-        Ok(_) => Ok(()),
-        Err(error) => Err(error),
-    }
+    try_guard(alloc, store, stands, tests, &mut wanted, looked)?;
+    Ok(())
 }
 
 /// Lays the clause over a call with these arguments, and says whether it accepts it, refuses it or waits for the variables that
