@@ -1,20 +1,12 @@
 -- Lemmas on words, numbers and names of goals.
-use Rattle.ghc_console.proofs.CitedWords.{◌≡◌, ◌≢◌, ℕ, ◌+◌, ◌-◌, ◌*◌, ◌≤◌, Bool, true, false, cond, eqb, All, Option, Some, None, inl, inr, ◌⊎◌, List, [], ◌&&◌, ◌<◌, not, leb, zero, suc, length, filter, get_or, take, drop, ◌∷◌, ◌++◌, refl, sym, ap, ◌∙◌, arith, rules, eq-eqb, eqb-true, false≢true, ne_eqb, take_rest, drop-drop, slice_split-cons_no, slice_split-cons_yes, slice_split_at, slice_split_none, digit_value, is_ascii_digit, list_all, slice_split, onto_first, digits_value, digits_value_after, IsAscii, is_name_byte, goal_name_of, goal_named, goal_of_parts, is_variable, number_of, words_of}
+use Rattle.ghc_console.proofs.CitedWords.{◌≡◌, ◌≢◌, ℕ, ◌+◌, ◌-◌, ◌*◌, Bool, true, false, cond, eqb, All, Option, Some, None, inl, inr, ◌⊎◌, List, [], ◌&&◌, ◌<◌, not, leb, zero, suc, length, filter, get_or, take, drop, ◌∷◌, ◌++◌, refl, sym, ap, ◌∙◌, arith, rules, eq-eqb, eqb-true, false≢true, take_rest, drop-drop, slice_split-cons_no, slice_split-cons_yes, slice_split_at, slice_split_none, digit_value, is_ascii_digit, list_all, slice_split, onto_first, digits_value, digits_value_after, IsAscii, is_name_byte, goal_name_of, goal_named, goal_of_parts, is_variable, number_of, words_of}
 use Rattle.std.proofs.Math.Seq.{drop-cons}
 pub use Rattle.ghc_records.proofs.CutLemmas.{only_piece}
-
--- the test that finds a byte says no of every other
-pub none_passes : (wanted : ℕ) (bytes : List ℕ) → All (λ b. b ≢ wanted) bytes → All (λ b. eqb b wanted ≡ false) bytes
-none_passes wanted bytes h = λ k e m. ne_eqb _ wanted (h k e m)
+use Rattle.ghc_records.proofs.CutLemmas.{none_passes, value_after_le}
 
 -- the part up to the first of the wanted bytes
 pub split-first : (wanted : ℕ) (part rest : List ℕ) → All (λ b. b ≢ wanted) part → slice_split (λ b. eqb b wanted) (part ++ wanted ∷ rest) ≡ part ∷ slice_split (λ b. eqb b wanted) rest
 split-first wanted part rest h = slice_split_at (λ b. eqb b wanted) part wanted rest (none_passes wanted part h) (eq-eqb wanted wanted refl)
-
--- more digits make no smaller number
-pub value_after_le : (n : ℕ) (bytes : List ℕ) → n ≤ digits_value_after 10 n bytes
-value_after_le n [] = omega arith
-value_after_le n (byte ∷ bytes) = omega (arith, value_after_le (n * 10 + digit_value byte) bytes)
 
 -- a number over the range is none
 pub too_big : (word : List ℕ) → 4294967295 < digits_value 10 word → number_of word ≡ None

@@ -112,7 +112,7 @@ reached_once {w} {v} r q o j =
     let next : w.next ≡ v.next = omega (arith, one, other) in
     λ i. record { opening = o i; state = state i; kept = sym same.0 i; shelf = sym same.1 i; next = next i; journal = j i }
 
-entries_once : (es fs : List Entry) → map entered es ≡ map entered fs → es ≡ fs
+pub entries_once : (es fs : List Entry) → map entered es ≡ map entered fs → es ≡ fs
 entries_once [] [] e = refl
 entries_once (x ∷ es) (f ∷ fs) e =
     let behind : map entered es ≡ map entered fs = cc in

@@ -1,15 +1,9 @@
 -- Events that are played one after another.
-use Rattle.ghc_core.proofs.Words.{◌≡◌, ◌+◌, ℕ, List, [], ◌∷◌, ◌++◌, map, take, slice_get, refl, sym, ap, ◌∙◌, subst, subst₂, inl, inr, Some, map-append, at_split, value_at, HasStepEffect, Change, Hands, World, CanChange, Command, Event, command, Reply, Asks, to_give, to_ask, by_command, Answers, makes, says, IsProper, IsReachable, by_event, Core, Stays, Meets, MeetsEach, AddsOneAtMost, ArePlayed, PlayStaysReachable, event_of, reply_of}
+use Rattle.ghc_core.proofs.Words.{◌≡◌, ◌+◌, ℕ, List, [], ◌∷◌, ◌++◌, map, take, slice_get, refl, sym, ap, ◌∙◌, subst, subst₂, Some, map-append, at_split, value_at, HasStepEffect, Change, Hands, World, CanChange, Command, Event, command, Reply, Asks, to_give, to_ask, by_command, Answers, makes, says, IsProper, IsReachable, by_event, Core, Stays, Meets, MeetsEach, ArePlayed, PlayStaysReachable, event_of, reply_of}
 use Rattle.ghc_core.specs.declared.world.World.{World as Played}
 use Rattle.ghc_core.specs.declared.event.Event as met
 use Rattle.ghc_core.specs.declared.reply.Reply as given
-use Rattle.ghc_core.proofs.Moving.{MovesOnce, change_enters}
 use Rattle.ghc_core.proofs.Replying.{Unknown}
-
--- a world that is as it was, or moved, has one entry more at most
-pub moved_grows : (w v : World) → MovesOnce w v → AddsOneAtMost w v
-moved_grows w v (inl same) = inl (ap (λ (z : World). z.journal) same)
-moved_grows w v (inr (change, can, changes)) = let g = change_enters w v change can changes in inr (g.entry, g.journal)
 
 -- a proposal, and a note, leave the world as it was
 pub left_so : {w : World} {hands left : Hands} {e : Event} {reply : Reply} (v : World) → Answers Unknown w hands e reply w left → v ≡ w → Answers Unknown w hands e reply v left

@@ -44,7 +44,7 @@ pub asks_in : (ss : SlotList) (p : ℕ) (r : Record) → StandsIn ss p r → Ask
 asks_in ss p r at asks = (r, in_at (held_in ss) (rank ss p) r (rank_stands ss p r at), asks)
 
 -- a step of the records is that of one of them
-step_back : (rs : List Record) (s : Step) → In s (map step_of rs) → (r : Record) × In r rs × (step_of r ≡ s)
+pub step_back : (rs : List Record) (s : Step) → In s (map step_of rs) → (r : Record) × In r rs × (step_of r ≡ s)
 step_back [] s i = absurd i
 step_back (r ∷ rs) s (inl e) = (r, inl refl, sym e)
 step_back (r ∷ rs) s (inr i) = let q = step_back rs s i in (q.0, inr q.1, q.2)

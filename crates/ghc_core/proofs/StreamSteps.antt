@@ -1,12 +1,8 @@
 -- The step of a stream that is prepared, and why none is.
-use Rattle.ghc_core.proofs.Words.{◌≡◌, ℕ, refl, ap, sym, subst, inl, inr, Some, None, Result, Err, Option, IfNone, VarName, GoalName, Fault, variable, stream, StoreValue, value_at, EndsIn, Act, Closed as closed, effect_once, Effect, HasEffect, IsTailBound, Record, World, IsFull, HasRoom, IsOrderly, IsStreamAt, StreamFails, IsStreamStep}
+use Rattle.ghc_core.proofs.Words.{◌≡◌, ℕ, refl, ap, sym, subst, inl, inr, Some, Result, Err, VarName, GoalName, Fault, variable, stream, StoreValue, value_at, EndsIn, Act, Closed as closed, effect_once, Effect, HasEffect, IsTailBound, Record, World, IsFull, HasRoom, IsOrderly, IsStreamAt, StreamFails, IsStreamStep}
 use Rattle.ghc_core.proofs.Naming.{known_of_act}
 use Rattle.ghc_core.proofs.Refusing.{stream_fails_once, tail_bound}
 use Rattle.ghc_core.proofs.Stepping.{bound_or_open, room_or_full, stream_full}
-
--- what is known where nothing was found
-pub if_none : {T : Type 0} (P : Type 0) (o : Option T) → o ≡ None → IfNone o P → P
-if_none P o same p = subst (λ q. IfNone q P) same p
 
 -- The tail ends in a value.
 pub is_bound : (w : World) (k : ℕ) (g : GoalName) (s : VarName) (m : StoreValue) → m ≡ w.state.store → IsStreamAt w k g s → IsTailBound s (value_at m) → StreamFails w k Fault.TailBound

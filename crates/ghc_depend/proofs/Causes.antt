@@ -3,6 +3,7 @@ use Rattle.ghc_depend.proofs.Words.{◌≡◌, ◌≢◌, ℕ, zero, suc, ◌+�
 use Rattle.std.specs.FinSet as set
 pub use Rattle.ghc_term.proofs.ListsLemmas.{at_of_in as place_at}
 use Rattle.ghc_depend.proofs.Finding.{same_value}
+use Rattle.ghc_records.proofs.IndexOf.{made_named}
 
 module _ {X : Type 0} where
   -- what stands at an earlier place stands before
@@ -102,21 +103,17 @@ pub named_none : (b a : Record) (o : Option VarName) → IsLeastOf (λ x. (x.ste
 named_none b a None h = λ x n. h x n.0.0 (n.0.1, n.1)
 named_none b a (Some y) h = tt
 
--- the goal that b consumed, and the step that made it
-pub goal_made : (b m : Record) (name : GoalName) → b.goal ≡ Some name → Consumes b m → MakesGoal m name
-goal_made b m name e c = subst (MakesGoal m) (same_value c.1 e) c.2
-
 module _ (rs : List Record) (distinct : AreDistinct (numbers rs)) (b : Record) where
   module _ (name : GoalName) (e : b.goal ≡ Some name) where
     pub before_none : ((r : Record) → In r rs → ¬ (r.number ≡ name.step)) → (a : Record) → WasThereBefore rs b a
-    before_none none a m i c = absurd (none m i (sym (goal_made b m name e c).0))
+    before_none none a m i c = absurd (none m i (sym (made_named b m name e c).0))
 
     module _ (maker : Record) (made : ℕ) (at : slice_get rs made ≡ Some maker) (number : maker.number ≡ name.step) where
       only_maker : (m : Record) → In m rs → Consumes b m → m ≡ maker
-      only_maker m i c = record_once rs m maker distinct i (in_at rs made maker at) (sym (goal_made b m name e c).0 ∙ sym number)
+      only_maker m i c = record_once rs m maker distinct i (in_at rs made maker at) (sym (made_named b m name e c).0 ∙ sym number)
 
       pub before_other : ¬ MakesGoal maker name → (a : Record) → WasThereBefore rs b a
-      before_other n a m i c = absurd (n (subst (λ z. MakesGoal z name) (only_maker m i c) (goal_made b m name e c)))
+      before_other n a m i c = absurd (n (subst (λ z. MakesGoal z name) (only_maker m i c) (made_named b m name e c)))
 
       module _ (makes : MakesGoal maker name) (a : Record) (place : ℕ) (there : slice_get rs place ≡ Some a) where
         pub was_there : made < place → WasThereBefore rs b a

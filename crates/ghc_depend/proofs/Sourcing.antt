@@ -55,12 +55,6 @@ module _ (ss : SlotList) (Q : Record → VarName → Type 0) where
   none_some None e s = cc
   none_some (Some a) e s = cc
 
-  pub least_begin : (m : BTreeMap ℕ VarName) → m.entries ≡ [] → AreLeast [] m
-  least_begin m e = (
-    λ p s. absurd (none_some (get nat_cmp m p) (nothing_at m e p) s),
-    λ p a at. subst (IsLeastOf (Q a) []) (sym (nothing_at m e p)) (λ x i. absurd i),
-  )
-
   module _ (xs : List VarName) (x : VarName) (m : BTreeMap ℕ VarName) (h : AreLeast xs m) where
     -- Q holds of the next variable nowhere
     pub least_still : IsPlaceOfOne ss (λ a. Q a x) None → AreLeast (xs ++ x ∷ []) m

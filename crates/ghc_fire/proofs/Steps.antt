@@ -93,7 +93,7 @@ effect_once P (stream k s) closed n S e g h d b =
 effect_once P g a n S e f h d b = absurd d
 
 -- what an accepting clause looks at is bound
-looked_bound : (c : Clause) (ts : List Tree) (S : VarName → Option Tree) (x : VarName) → Accepts c ts S → LooksAt c ts S x → (t : Tree) × (S x ≡ Some t)
+pub looked_bound : (c : Clause) (ts : List Tree) (S : VarName → Option Tree) (x : VarName) → Accepts c ts S → LooksAt c ts S x → (t : Tree) × (S x ≡ Some t)
 looked_bound c ts S x a (inl l) = by_value (S x) (λ n. absurd (a.0.1 x (l.0, l.1, l.2, _, l.3, l.4, comes_leads l.5.1 n))) (λ t e. (t, e))
 looked_bound c ts S x a (inr l) = by_value (S x) (λ n. absurd ((a.1 l.0 l.3).0 x (l.1, l.4, (l.2, _, l.5, comes_leads l.6.1 n)))) (λ t e. (t, e))
 

@@ -1,5 +1,5 @@
 -- What is known of workers and their jobs at the start and after the threads.
-use Rattle.ghc_pool.proofs.Words.{◌≡◌, ◌⊎◌, ℕ, zero, suc, ◌+◌, ◌<◌, ◌++◌, List, [], ◌∷◌, Some, None, inl, inr, length, set, drop, take, refl, sym, ap, ◌∙◌, subst, arith, append-nil, Global, RowsId, worker_deque, worker_flavor, worker_view, GoalName, RoundStop, Worker, Job, Taken, IsReason, weigh, AreVictims, deques, stolen, work_of, works, names, submits, over, total_work, put_of, got_of, stolen_of, in_of, out_of, offered_in, taken_in, left_in, IsRoomier, Keeps, KeepsRoom, IsOfferedOrStopped, IsWell, AreWell, own_deques, all_victims, AreReady, HaveParts, HaveGivenBack, AreTold, FirstBegins, IsStarting, AreStarting, AreNew, IsCounted, AreCounted, Works, HasWorked, IsJob, AreJobs, workers_in, passes_in}
+use Rattle.ghc_pool.proofs.Words.{◌≡◌, ◌⊎◌, ℕ, zero, suc, ◌+◌, ◌<◌, ◌++◌, List, [], ◌∷◌, Some, None, inl, inr, length, set, drop, take, refl, sym, ap, ◌∙◌, subst, arith, Global, RowsId, worker_deque, worker_flavor, worker_view, GoalName, RoundStop, Worker, Job, Taken, IsReason, weigh, AreVictims, deques, stolen, work_of, works, names, submits, over, total_work, put_of, got_of, stolen_of, in_of, out_of, offered_in, taken_in, left_in, IsRoomier, Keeps, KeepsRoom, IsOfferedOrStopped, IsWell, AreWell, own_deques, all_victims, AreReady, HaveParts, HaveGivenBack, AreTold, FirstBegins, IsStarting, AreStarting, AreNew, IsCounted, AreCounted, Works, HasWorked, IsJob, AreJobs, workers_in, passes_in}
 use lib.ListN.{get_or}
 use Rattle.ghc_pool.proofs.Stealing.{prefix_after}
 use Rattle.ghc_pool.proofs.Wells.{some_none}
@@ -57,10 +57,6 @@ pub starting_first : (k : ℕ) (ws : List Worker) (d w : Worker) → 0 < length 
 starting_first k [] d w low h is own = absurd (omega (arith, low))
 starting_first k (v ∷ ws) d w low h is own =
     let same : own_deques (v ∷ ws) ≡ own_deques (w ∷ ws) = ap (λ e. e ∷ own_deques ws) (sym own) in subst (λ ds. AreStarting k ds (w ∷ ws)) same (is, new_starting k (own_deques (v ∷ ws)) ws h.2)
-
-pub begins_first : (ns : List GoalName) (ws : List Worker) (w : Worker) → 0 < length ws → w.offered.items ≡ ns → FirstBegins ns (works (set ws 0 w))
-begins_first ns [] w low e = absurd (omega (arith, low))
-begins_first ns (v ∷ ws) w low e = ([], append-nil ns ∙ sym e)
 
 pub first_starting : (k : ℕ) (ds : List (RowsId × Global)) (ws : List Worker) (d : Worker) → 0 < length ws → AreStarting k ds ws → IsStarting k ds (get_or ws 0 d) × AreStarting k ds (drop 1 ws)
 first_starting k ds [] d low h = absurd (omega (arith, low))

@@ -1,5 +1,5 @@
 -- What is known of the reason to stop.
-use Rattle.ghc_pool.proofs.Words.{◌≡◌, ◌<◌, ◌++◌, ℕ, zero, suc, List, [], ◌∷◌, length, set, Option, Some, None, inl, inr, refl, sym, ◌∙◌, subst, arith, RoundStop, Memory, Limit, Full, Spied, Clash, Taken, IsReason, Work, joined, IsWell, IsOpen, GoesOn, IsJudged, WentOn, AreOpen, AreFed, OneAsks, AreJudged}
+use Rattle.ghc_pool.proofs.Words.{◌≡◌, ◌<◌, ◌++◌, ℕ, zero, suc, List, [], ◌∷◌, length, set, Option, Some, None, inl, inr, sym, ◌∙◌, subst, arith, RoundStop, Memory, Limit, Full, Spied, Clash, Taken, IsReason, Work, joined, IsWell, IsOpen, GoesOn, IsJudged, WentOn, AreOpen, AreFed, OneAsks, AreJudged}
 use lib.ListN.{get_or}
 use Rattle.ghc_pool.proofs.Wells.{some_none}
 
@@ -20,10 +20,6 @@ module _ (fed : List Taken → Type 0) (asks : List Taken → RoundStop → Type
   judged_again spent spent' Full k l same more j = subst (λ t. fed t × asks t RoundStop.Full) (sym same) j
   judged_again spent spent' (Spied g) k l same more j = subst (λ t. fed t × asks t (RoundStop.Spied g)) (sym same) j
   judged_again spent spent' (Clash g) k l same more j = subst (λ t. fed t × asks t (RoundStop.Clash g)) (sym same) j
-
-  pub went_same : {Q : Type 0} (spent : Type 0) (stop : Option RoundStop) (k l : Work) (p : Q) → GoesOn fed asks stop k → l.taken.items ≡ k.taken.items → l.left.items ≡ k.left.items → l.stop ≡ k.stop → WentOn fed asks spent stop stop k l p p
-  went_same spent None k l p on taken left stop = (stop ∙ on.0, left ∙ on.1, subst fed (sym taken) on.2)
-  went_same spent (Some s) k l p on taken left stop = (refl, taken, refl)
 
   pub goes_on : {Q : Type 0} (spent : Type 0) (stop next : Option RoundStop) (k l : Work) (p q : Q) → WentOn fed asks spent stop next k l p q → GoesOn fed asks next l
   goes_on spent None None k l p q w = w

@@ -35,10 +35,6 @@ positive_either : (a b : ℕ) → 0 < a + b → (0 < a) ⊎ (0 < b)
 positive_either zero b h = inr (omega (arith, h))
 positive_either (suc a) b h = inl (omega arith)
 
-pub numbers_length : (k n : ℕ) → length (numbers_from k n) ≡ n
-numbers_length k zero = refl
-numbers_length k (suc n) = ap suc (numbers_length (suc k) n)
-
 -- Each pass has seen this history, and made nothing.
 abbrev pub AreNewcomers : List Item → List (Known Item) → Type 0
 AreNewcomers items [] = Unit {0}

@@ -6,7 +6,8 @@ use Rattle.ghc_core.specs.Events as events
 use Rattle.ghc_pool.proofs.AtTheEnd.{adds_at_the_end, still_in_question}
 use Rattle.ghc_pool.proofs.Asked.{none_since, one_since, made_since}
 use Rattle.ghc_pool.proofs.SameCalls.{held_unspied}
-use Rattle.ghc_pool.proofs.RoundPlaces.{IsTakenAt, numbers_length, are_newcomers, newcomers_length, start_begins, few_places, by_place}
+use Rattle.ghc_pool.proofs.RoundPlaces.{IsTakenAt, are_newcomers, newcomers_length, start_begins, few_places, by_place}
+use Rattle.ghc_shared.proofs.PlacesOnce.{numbers_length}
 
 -- fronts of one length of one list are one
 front_once : (xs ys more rest : List Item) → length xs ≡ length ys → xs ++ more ≡ ys ++ rest → xs ≡ ys

@@ -57,9 +57,6 @@ module _ (w : World) (notes : NotesByGoal) (untried : GoalNames) (acyclic : IsAc
     λ r. let same = only g note (failed r.1.0) (λ d. cc) k r.1.1 in absurd (let clash : waiting xs ≡ failed r.1.0 = sym e ∙ same in cc),
   )
 
-  pub idle_outside : (root : Option GoalName) (g : GoalName) → ¬ IsInQuestion root w.kept g → StandsTo root w g idle
-  idle_outside root g outside = (λ r. outside r.0, λ r. outside r.0)
-
   pub ready_inside : (root : Option GoalName) (g : GoalName) (note : Note) → finite.get notes g ≡ Some note → note.status ≡ ready → IsInQuestion root w.kept g → StandsTo root w g by_ready
   ready_inside root g note k e q = (
     (q, note_stands g note ready k e),

@@ -40,9 +40,6 @@ keeps_after a b c u v w p q = record {
   begins = prefix_after _ _ _ p.begins q.begins;
 }
 
-pub keeps_same : (w : Worker) → IsAble w → Keeps [] [] w w
-keeps_same w is = record { able = is; balance = λ h. refl; own = refl; parts = refl; others = refl; begins = prefix_same w.offered.items }
-
 pub nothing_after : {u v w : Worker} → DidNothing u v → DidNothing v w → DidNothing u w
 nothing_after p q = record { offered = q.offered ∙ p.offered; taken = q.taken ∙ p.taken; left = q.left ∙ p.left; stop = q.stop ∙ p.stop; put = q.put ∙ p.put }
 

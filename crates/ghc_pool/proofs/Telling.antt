@@ -1,5 +1,5 @@
 -- What holds of a pass, when the pass goes on.
-use Rattle.ghc_pool.proofs.Words.{◌≡◌, ◌≤◌, ◌<◌, ◌+◌, ◌++◌, ◌∙◌, ℕ, zero, suc, List, [], ◌∷◌, length, drop, Bool, true, false, Option, Some, None, Ok, refl, sym, ap, subst, inl, inr, arith, append-nil, append_assoc, length-append, MatchBool, in_more, in_last, GoalName, Goal, Fault, Entry, Item, entered, Status, Proposal, Hands, World, no_hands, Answers, Begins, Receipt, IsReceipt, IsAnswered, Reply, Call, Submit, Known, AreAll, IsAcceptedCall, IsRefusedCall, IsDecided, holding, receipt_of, IsProposal, IsAnswerTo, Spies, IsSpied, Answer, Submitted, Noted, Starved, RoundStop, Memory, Limit, Full, Spied, Clash, Decided, Scope, Worker, Taken, one_if, submits_in, IsReason, Work, work_of, works, submits, total_work, submits_by, AreTold, IsSpiedIn, IsSubmitStop, IsSettlingStop, IsNoteStop, GoesOnWithout, IsDecidedAs, IsInScope, StandsIn, IsSpiedGoal, IsStarvedGoal, IsUnspiedStep, IsNotedFor, IsAnswerOf, AreAnswers, places_if, places_in, step_places, after_submits, IsPassAfter, submits_since, IsStarved, AreFedAnswers, IsAskedBy, Asks}
+use Rattle.ghc_pool.proofs.Words.{◌≡◌, ◌≤◌, ◌<◌, ◌+◌, ◌++◌, ◌∙◌, ℕ, zero, suc, List, [], ◌∷◌, length, drop, Bool, true, false, Option, Some, None, Ok, refl, sym, ap, subst, inl, inr, arith, append-nil, append_assoc, length-append, MatchBool, in_more, in_last, GoalName, Goal, Fault, Entry, Item, entered, Status, Proposal, Hands, World, no_hands, Answers, Begins, Receipt, IsReceipt, IsAnswered, Reply, Call, Submit, Known, AreAll, IsAcceptedCall, IsRefusedCall, IsDecided, holding, receipt_of, IsProposal, IsAnswerTo, Spies, IsSpied, Answer, Submitted, Noted, Starved, RoundStop, Memory, Limit, Full, Spied, Clash, Scope, Worker, Taken, one_if, submits_in, IsReason, Work, work_of, works, submits, total_work, submits_by, AreTold, IsSpiedIn, IsSubmitStop, IsSettlingStop, IsNoteStop, GoesOnWithout, IsDecidedAs, IsInScope, StandsIn, IsSpiedGoal, IsStarvedGoal, IsUnspiedStep, IsNotedFor, IsAnswerOf, AreAnswers, places_if, places_in, step_places, after_submits, IsPassAfter, submits_since, IsStarved, AreFedAnswers, IsAskedBy, Asks}
 use base.Stored.{Gv}
 use Rattle.std.specs.Global.{Vec}
 use mathlib.Core.List.{IsPrefix}
@@ -261,9 +261,6 @@ module _ (opened : Gv) (scope : Scope) (spies : Spies) (steps : Bool) (g : GoalN
   -- a goal was noted as ready, and the pass goes on
   pub goes_on : (old new : Known Item) (before : List Item) (r : given.Receipt Reply) → new.number ≡ old.number → IsPrefix old.front new.front → new.submits ≡ old.submits → IsDecided IsAnswerTo before (Note g) r old new → GoesOnWithout opened scope spies steps old new
   goes_on old new before r number begins none d = told_later opened scope spies steps old new number begins (note_places before g r old new d) none
-
-  pub decided_after : (old mid new : Known Item) (d : Decided) → GoesOnWithout opened scope spies steps old mid → IsDecidedAs opened scope spies steps g mid new d → IsDecidedAs opened scope spies steps g old new d
-  decided_after old mid new d on is = record { told = λ start taken was. is.told start taken (on start taken was); submits = is.submits; reason = is.reason; woken = is.woken }
 
 pub opposite : {A : Type 0} (b : Bool) → b ≡ true → b ≡ false → A
 opposite b t f = let clash : true ≡ false = sym t ∙ f in cc

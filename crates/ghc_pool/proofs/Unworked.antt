@@ -2,7 +2,8 @@
 use Rattle.ghc_pool.proofs.Words.{◌≡◌, ℕ, ◌+◌, ◌-◌, ◌<◌, ◌≤◌, List, [], ◌∷◌, ◌++◌, length, sym, ap, ◌∙◌, subst, arith, append-nil, length-append, All, Option, All-head, GoalName, Record, Item, history, NotesByGoal, World, IsStanding, Leaves, reached_legal, leaves_once, Known, newcomers, weight, weight_of_places, places_since, AreEachOnce, weight-one, Spies, Takes}
 use mathlib.Core.List.{IsPrefix}
 use Rattle.ghc_pool.proofs.AtTheEnd.{adds_at_the_end}
-use Rattle.ghc_pool.proofs.RoundPlaces.{AreNewcomers, are_newcomers, newcomers_length, numbers_length}
+use Rattle.ghc_pool.proofs.RoundPlaces.{AreNewcomers, are_newcomers, newcomers_length}
+use Rattle.ghc_shared.proofs.PlacesOnce.{numbers_length}
 
 -- so many records more are kept as steps were taken
 pub kept_count : (workers : ℕ) (spies : Spies) (root : Option GoalName) (w v : World) (before after : NotesByGoal) (steps : List Record) → Takes workers spies root w before steps v after → length v.kept ≡ length w.kept + length steps

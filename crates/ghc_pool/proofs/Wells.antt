@@ -1,5 +1,5 @@
 -- What stays well when a worker goes on.
-use Rattle.ghc_pool.proofs.Words.{◌≡◌, ◌⊎◌, ◌≤◌, ◌<◌, ◌++◌, ℕ, List, [], ◌∷◌, length, Bool, true, false, Option, Some, None, inl, inr, sym, ap, ◌∙◌, subst, arith, vec_capacity, vec_len, RoundStop, Worker, Taken, one_if, IsReason, Work, work_of, DidNothing, KeepsRoom, IsOfferedOrStopped, IsWell}
+use Rattle.ghc_pool.proofs.Words.{◌≡◌, ◌⊎◌, ◌≤◌, ◌<◌, ℕ, List, length, Bool, true, false, Some, None, inl, inr, sym, ap, ◌∙◌, subst, arith, vec_capacity, vec_len, RoundStop, Worker, Taken, one_if, IsReason, Work, work_of, DidNothing, KeepsRoom, IsOfferedOrStopped, IsWell}
 use Rattle.std.specs.Prelude.{refl}
 
 pub enough : (b : Bool) (permits n : ℕ) → n ≤ one_if b → (b ≡ true → 0 < permits) → n ≤ permits
@@ -15,12 +15,6 @@ offered_after u v w (inr p) (inl q) = inr (q.1 ∙ p)
 offered_after u v w p (inr q) = inr q
 
 module _ (fed : List Taken → Type 0) (asks : List Taken → RoundStop → Type 0) where
-  pub well_answered : (k l : Work) (x : Taken) (stop : Option RoundStop) → IsWell fed asks k → k.stop ≡ None → l.taken.items ≡ k.taken.items ++ x ∷ [] → l.left.items ≡ k.left.items → l.stop ≡ stop
-      → ((taken : List Taken) → fed taken → IsReason fed asks stop (taken ++ x ∷ [])) → IsWell fed asks l
-  well_answered k l x stop well none taken left same reason =
-      let was : fed k.taken.items = subst (λ s. IsReason fed asks s k.taken.items) none well.reason in
-      record { reason = subst (λ s. IsReason fed asks s l.taken.items) (sym same) (subst (IsReason fed asks stop) (sym taken) (reason k.taken.items was)); left = λ _. left ∙ well.left none }
-
   pub well_offered : (k l : Work) → IsWell fed asks k → l.taken ≡ k.taken → ((l.left.items ≡ k.left.items) × (l.stop ≡ k.stop)) ⊎ (l.stop ≡ Some RoundStop.Memory) → IsWell fed asks l
   well_offered k l well taken (inl same) = record {
     reason = subst (λ s. IsReason fed asks s l.taken.items) (sym same.1) (subst (λ t. IsReason fed asks k.stop t.items) (sym taken) well.reason);

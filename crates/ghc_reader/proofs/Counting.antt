@@ -28,13 +28,6 @@ pub met_more : (vs : List (List ℕ)) (i : ℕ) (x v : List ℕ) → i < length 
 met_more vs i x v less is =
     ap (list_any (bytes_eq v)) (take_more vs i x less ∙ ap (λ y. take i vs ++ y ∷ []) (sym is)) ∙ list_any-append (bytes_eq v) (take i vs) (x ∷ [])
 
--- the names met so far tell whether a name is one variable more
-further_is : (x : List ℕ) (keys vs : List (List ℕ)) → (is_unnamed x ≡ false → list_any (bytes_eq x) keys ≡ list_any (bytes_eq x) vs) → (is_unnamed x || not (list_any (bytes_eq x) keys)) ≡ (is_unnamed x || not (list_any (bytes_eq x) vs))
-further_is x keys vs known = grind (arith, known)
-
-plus_one : (b : Bool) (n : ℕ) → n + (if b then 1 else 0) ≡ and_one b n
-plus_one b n = grind arith
-
 -- a step of the loop that counts
 pub counted_step : (vs : List (List ℕ)) (i : ℕ) (x : List ℕ) (keys : List (List ℕ)) (n : ℕ) (further : Bool) (more : ℕ) → i < length vs → x ≡ get_or vs i x → n ≡ variables (take i vs) → ((v : List ℕ) → is_unnamed v ≡ false → list_any (bytes_eq v) keys ≡ list_any (bytes_eq v) (take i vs)) → further ≡ (is_unnamed x || not (list_any (bytes_eq x) keys)) → more ≡ (if further then 1 else 0) → n + more ≡ variables (take (i + 1) vs)
 counted_step vs i x keys n further more less is counted known tells more_is =

@@ -33,7 +33,7 @@ rest_bytes (term.variable x) = rest_length false false [] (term_text (term.varia
 rest_bytes (term.integer k) = rest_length false false [] (signed_decimal k)
 rest_bytes (node f ts) = rest_length (is_nil f ts) (is_cell f ts) (cell_text ts) (f ++ arguments_text ts)
 
-rest_deep : (u : term.Tree) → rest_nesting u ≤ nesting u
+pub rest_deep : (u : term.Tree) → rest_nesting u ≤ nesting u
 rest_deep (term.variable x) = omega arith
 rest_deep (term.integer k) = omega arith
 rest_deep (node f ts) = grind arith

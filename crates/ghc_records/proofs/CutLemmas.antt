@@ -3,7 +3,7 @@ use Rattle.ghc_records.proofs.Words.{◌≡◌, ◌≢◌, ℕ, zero, suc, ◌+�
 use Rattle.std.proofs.lemmas.List.{length-drop}
 
 -- the test that finds a byte says no of every other
-none_passes : (mark : ℕ) (bytes : List ℕ) → All (λ b. b ≢ mark) bytes → All (λ b. eqb b mark ≡ false) bytes
+pub none_passes : (mark : ℕ) (bytes : List ℕ) → All (λ b. b ≢ mark) bytes → All (λ b. eqb b mark ≡ false) bytes
 none_passes mark bytes h = λ k e m. ne_eqb _ mark (h k e m)
 
 -- the piece up to the first mark, and those after it
@@ -71,7 +71,7 @@ pub said_value : (n : ℕ) → n ≤ greatest_number → digits_value 10 (decima
 said_value n h = (decimal_is_IsNumeral n (fits n h)).1
 
 -- more digits make no smaller number
-value_after_le : (n : ℕ) (bytes : List ℕ) → n ≤ digits_value_after 10 n bytes
+pub value_after_le : (n : ℕ) (bytes : List ℕ) → n ≤ digits_value_after 10 n bytes
 value_after_le n [] = omega arith
 value_after_le n (byte ∷ bytes) = omega (arith, value_after_le (n * 10 + digit_value byte) bytes)
 

@@ -117,7 +117,7 @@ all_lines [] x others (suc n) e low = absurd (omega (arith, low))
 all_lines (l ∷ lines) x others zero e low = absurd (omega (arith, ap length e, length-append lines (x ∷ others)))
 all_lines (l ∷ lines) x others (suc n) e low = let (first, rest, same) = all_lines lines x others n e (omega (arith, low)) in (first, rest, ap suc same)
 
-empty_front : (a b : List ℕ) → a ++ b ≡ [] → a ≡ []
+pub empty_front : (a b : List ℕ) → a ++ b ≡ [] → a ≡ []
 empty_front [] b e = refl
 empty_front (x ∷ a) b e = cc
 

@@ -44,7 +44,7 @@ put_in_order s members names i e all h order =
     sym (or-false (has q names)) ∙ ap (λ l. has q names || has q l) (sym none_left) ∙ h q ∙ sym (set.contains-from_list name_total members q)
     ∙ ap (λ t. set.contains t q) e ∙ set.contains-items s q)
 
-moved : (a b c d : Bool) → (a || (b || c)) ≡ d → (cond b true a || c) ≡ d
+pub moved : (a b c d : Bool) → (a || (b || c)) ≡ d → (cond b true a || c) ≡ d
 moved true true c d e = e
 moved true false c d e = e
 moved false true c d e = e

@@ -1,10 +1,6 @@
 -- How many brackets are open, one byte after the other.
-use Rattle.ghc_records.proofs.Words.{◌≡◌, ℕ, ◌+◌, ◌<◌, ◌≤◌, ◌↔◌, List, [], ◌∷◌, length, get_or, drop, ap, arith, drop_more, most_open, open_behind, OpensFew}
-
--- at least those are open that were
-at_least : (k : ℕ) (bs : List ℕ) → k ≤ most_open k bs
-at_least k [] = omega arith
-at_least k (b ∷ bs) = omega arith
+use Rattle.ghc_records.proofs.Words.{◌≡◌, ℕ, ◌+◌, ◌<◌, ◌≤◌, ◌↔◌, List, length, get_or, drop, ap, arith, drop_more, most_open, open_behind, OpensFew}
+use Rattle.ghc_term.proofs.Nesting.{at_least}
 
 -- The bytes after the first ones, where k are open, show whether the text opens more than 1,000.
 abbrev pub IsLeft : List ℕ → ℕ → ℕ → Type 0

@@ -32,7 +32,7 @@ expression_plain (operation o a b) w =
     both (operand a (expression_text a)) (operator_text o ++ operand b (expression_text b)) (in_brackets a (expression_text a) (expression_plain a w.0))
     (both (operator_text o) (operand b (expression_text b)) (operator_plain o) (in_brackets b (expression_text b) (expression_plain b w.1)))
 
-unresolved : (ts : List Tree) → all_resolved (λ t. t) ts ≡ trees ts
+pub unresolved : (ts : List Tree) → all_resolved (λ t. t) ts ≡ trees ts
 unresolved [] = refl
 unresolved (t ∷ ts) = ap (tree.more t) (unresolved ts)
 

@@ -7,14 +7,14 @@ use Rattle.ghc_records.proofs.WrittenAsks.{named_same}
 
 -- ---- lists
 
-each_at : {X Y : Type 0} (R : X → Y → Type 0) (xs : List X) (ys : List Y) (i : ℕ) (x : X) → Each R xs ys → slice_get xs i ≡ Some x → (y : Y) × (slice_get ys i ≡ Some y) × R x y
+pub each_at : {X Y : Type 0} (R : X → Y → Type 0) (xs : List X) (ys : List Y) (i : ℕ) (x : X) → Each R xs ys → slice_get xs i ≡ Some x → (y : Y) × (slice_get ys i ≡ Some y) × R x y
 each_at R [] [] i x h e = cc
 each_at R (z ∷ xs) (y ∷ ys) zero x h e = let same : z ≡ x = cc in (y, refl, subst (λ w. R w y) same h.0)
 each_at R (z ∷ xs) (y ∷ ys) (suc i) x h e = each_at R xs ys i x h.1 e
 each_at R xs ys i x h e = absurd h
 
 -- each once, they are no more
-fewer : (seen xs : List VarName) → length (firsts seen xs) ≤ length xs
+pub fewer : (seen xs : List VarName) → length (firsts seen xs) ≤ length xs
 fewer seen [] = omega arith
 fewer seen (x ∷ xs) = elim (is_seen x seen) as (λ b. length (cond b (firsts seen xs) (x ∷ firsts (x ∷ seen) xs)) ≤ suc (length xs)) [
   | true ↦ omega (arith, fewer seen xs)

@@ -1,6 +1,7 @@
 -- What a call does to the history of a core.
-use Rattle.ghc_shared.proofs.Words.{◌≡◌, ◌⊎◌, ◌++◌, ◌∙◌, ℕ, List, [], ◌∷◌, refl, sym, ap, subst, subst₂, inl, inr, Some, None, Result, Err, Bool, true, false, arith, map-append, MatchBool, nat_cmp_total, Fault, Opening, Entry, opened, entered, history, Proposal, Hands, no_hands, IsHand, emptied, World, IsCommitted, command_of, commit, command, stepped, refused, CommitFails, Fails, hands_after, Counts, Meter, fired, Answers, fails, no_memory, IsNotCommittedAnyway, holds_no_goal, held_gone, hand_commits, hand_gives_up, Leaves, tells_change, AddsWhatItTells, AnswersAddWhatTheyTell, reply_of, Reply, Command, Call, AddsIfAccepted, holding, hands_of, event_of, IsToldAnyway, IsAnswerTo}
+use Rattle.ghc_shared.proofs.Words.{◌≡◌, ◌⊎◌, ◌++◌, ◌∙◌, ℕ, [], ◌∷◌, refl, sym, ap, subst, subst₂, inl, inr, Some, None, Result, Err, Bool, true, false, arith, MatchBool, nat_cmp_total, Fault, Entry, entered, history, Proposal, Hands, no_hands, IsHand, emptied, World, IsCommitted, command_of, commit, command, stepped, refused, CommitFails, Fails, hands_after, Counts, Meter, fired, Answers, fails, no_memory, IsNotCommittedAnyway, holds_no_goal, held_gone, hand_commits, hand_gives_up, Leaves, tells_change, AddsWhatItTells, AnswersAddWhatTheyTell, reply_of, Reply, Command, Call, AddsIfAccepted, holding, hands_of, event_of, IsToldAnyway, IsAnswerTo}
 use Rattle.std.specs.FinMap as finite
+use Rattle.ghc_core.proofs.Histories.{history_push}
 
 -- `Memory` is an answer to each call
 pub starved : (w : World) (call : Call) → (left : Hands) × Answers (Unit {0}) w (hands_of call) (event_of call) (refused Fault.Memory) w left
@@ -36,10 +37,6 @@ gone_alone w p f why = let is = holds_no_goal w (holding p) 1 (one_hand p) why i
 
 pub told_gone : {X : Type 0} (w : World) (p : Proposal) (result : Result X Fault) (f : Fault) → (finite.get w.state.goals p.goal ≡ None → result ≡ Err Fault.Stale) → IsNotCommittedAnyway w (holding p) 1 f → result ≡ Err f
 told_gone w p result f said anyway = let is = gone_alone w p f anyway in said is.1 ∙ ap (λ (x : Fault). Err x) (sym is.0)
-
--- the history of a journal with one more entry
-history_push : (o : Opening) (es : List Entry) (e : Entry) → history o (es ++ e ∷ []) ≡ history o es ++ entered e ∷ []
-history_push o es e = ap (λ items. opened o ∷ items) (map-append entered es (e ∷ []))
 
 -- a call was accepted where its reply tells of a change, and adds its entry then
 pub called : AnswersAddWhatTheyTell → (w v : World) (call : Call) (reply : Reply) (left : Hands) (accepted : Bool) → accepted ≡ tells_change (reply_of reply) → Leaves (history w.opening w.journal) w

@@ -7,7 +7,7 @@ pub weight-one : (xs : List ℕ) → weight (λ _. 1) xs ≡ length xs
 weight-one [] = refl
 weight-one (x ∷ xs) = omega (arith, weight-one xs)
 
-numbers_length : (k n : ℕ) → length (numbers_from k n) ≡ n
+pub numbers_length : (k n : ℕ) → length (numbers_from k n) ≡ n
 numbers_length k zero = refl
 numbers_length k (suc n) = ap suc (numbers_length (suc k) n)
 

@@ -46,7 +46,7 @@ less_apart : (o : Ordering) → T (is_lt o) → is_eq o ≡ false
 less_apart Equal p = absurd p
 less_apart o p = refl
 
-parts : (a b : Bool) → T (a && b) → T a × T b
+pub parts : (a b : Bool) → T (a && b) → T a × T b
 parts true b p = (tt, p)
 parts false b p = absurd p
 

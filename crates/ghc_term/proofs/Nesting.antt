@@ -9,7 +9,7 @@ Nests xs n = (k : ℕ) (rest : List ℕ) → most_open k (xs ++ rest) ≡ max (k
 abbrev pub Closes : List ℕ → ℕ → Type 0
 Closes xs n = (k : ℕ) (rest : List ℕ) → most_open (k + 1) (xs ++ rest) ≡ max (k + 1 + n) (most_open k rest)
 
-at_least : (k : ℕ) (xs : List ℕ) → k ≤ most_open k xs
+pub at_least : (k : ℕ) (xs : List ℕ) → k ≤ most_open k xs
 at_least k [] = omega arith
 at_least k (b ∷ bs) = omega arith
 
@@ -94,7 +94,7 @@ behind_name f xs n p q k rest = both f xs 0 n p q k rest ∙ omega arith
 after_bar : (xs : List ℕ) (n : ℕ) → Nests xs n → Closes (barred xs) n
 after_bar xs n p = byte_first_close 124 (xs ++ codes "]") n (λ k. refl) (closed_behind xs n p)
 
-choose : (P : List ℕ → ℕ → Type 0) (b : Bool) (xs ys : List ℕ) (m n : ℕ) → (b ≡ true → P xs m) → (b ≡ false → P ys n)
+pub choose : (P : List ℕ → ℕ → Type 0) (b : Bool) (xs ys : List ℕ) (m n : ℕ) → (b ≡ true → P xs m) → (b ≡ false → P ys n)
     → P (if b then xs else ys) (if b then m else n)
 choose P true xs ys m n p q = p refl
 choose P false xs ys m n p q = q refl

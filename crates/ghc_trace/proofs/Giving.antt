@@ -1,5 +1,5 @@
 -- The steps that gave a variable its term, or a goal what it looks at, by their numbers, and the slice that these have.
-use Rattle.ghc_trace.proofs.Words.{◌≡◌, ◌⊎◌, ℕ, Result, Ok, Err, IfOk, List, [], ◌∷◌, ◌++◌, refl, sym, ◌∙◌, subst, inl, inr, ◌↔◌, Option, Some, None, is_some, true, false, VarName, Tree, Goal, call, unify, assign, stream, In, in_left, in_last, in_more, AreDistinct, Program, is_stream, Record, numbers, SlotList, held_in, stands_held, record_once, Picks, nothing, leave, picks_in, picks_has, StepBinds, is_member, has_member}
+use Rattle.ghc_trace.proofs.Words.{◌≡◌, ◌⊎◌, ℕ, List, [], ◌∷◌, ◌++◌, refl, sym, ◌∙◌, subst, inl, inr, ◌↔◌, Option, Some, None, is_some, true, false, VarName, Tree, Goal, call, unify, assign, stream, In, in_left, in_last, in_more, AreDistinct, Program, is_stream, Record, numbers, SlotList, held_in, stands_held, record_once, Picks, nothing, leave, picks_in, picks_has, StepBinds, is_member, has_member}
 use Rattle.std.specs.FinSet as set
 use Rattle.ghc_term.specs.Sets.{Variables, IsSetOf}
 use Rattle.ghc_match.specs.Looked.{GoalLooksAt}
@@ -37,9 +37,6 @@ told_slice kept R ns told given s =
     (s.0, rest.0, (picked, rest.1), s.2)
 
 module _ (kept : List Record) where
-  pub no_binders : AreBindersOf kept (λ z. In z []) []
-  no_binders n = (λ i. absurd i, λ b. absurd b.1)
-
   module _ (ys : List VarName) (y : VarName) (ns : List ℕ) (h : AreBindersOf kept (λ z. In z ys) ns) (binder : Option ℕ) (bound : (n : ℕ) → (binder ≡ Some n) ↔ StepBinds kept n y) where
     pub binders_still : binder ≡ None → AreBindersOf kept (λ z. In z (ys ++ y ∷ [])) ns
     binders_still e n = (
@@ -128,8 +125,3 @@ no_looks kept P S (call f ts) e n = cc
 no_looks kept P S (unify l r) e n = cc
 no_looks kept P S (assign t a) e n = cc
 no_looks kept P S (stream k x) e n = (λ i. absurd i, λ q. absurd q.1)
-
--- what holds of a value leads to more about it
-pub if_ok : {T E : Type 0} (r : Result T E) {P Q : T → Type 0} → IfOk r P → ((t : T) → P t → Q t) → IfOk r Q
-if_ok (Ok t) p f = f t p
-if_ok (Err e) p f = tt

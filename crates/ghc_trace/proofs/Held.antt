@@ -1,5 +1,5 @@
 -- Holders are found one after another.
-use Rattle.ghc_trace.proofs.Words.{◌≡◌, ℕ, ◌+◌, ◌⊎◌, ◌↔◌, List, [], ◌∷◌, ◌++◌, refl, sym, ap, ◌∙◌, subst, inl, inr, arith, Option, None, IsTrue, Bor, insert_key, Ordering, Less, Equal, Greater, ordering_then, nat_cmp, IsAntisymmetric, nat_cmp-IsAntisymmetric, VarName, GoalName, Goal, Tree, In, in_left, in_last, in_more, has_member, is_member, one_inserted, holds_nothing, State, value_at, goal_cmp}
+use Rattle.ghc_trace.proofs.Words.{◌≡◌, ℕ, ◌+◌, ◌⊎◌, ◌↔◌, List, [], ◌∷◌, ◌++◌, refl, sym, ap, ◌∙◌, subst, inl, inr, arith, Option, None, IsTrue, Bor, insert_key, Ordering, Less, Equal, Greater, nat_cmp, IsAntisymmetric, nat_cmp-IsAntisymmetric, VarName, GoalName, Goal, Tree, In, in_left, in_last, in_more, has_member, is_member, one_inserted, holds_nothing, State, value_at, goal_cmp}
 use Rattle.std.specs.Ordering.{match_ordering}
 use Rattle.std.specs.FinMap as finite
 use Rattle.std.specs.FinSet as set
@@ -13,6 +13,7 @@ use Rattle.ghc_trace.specs.GoalLines.{Named}
 use Rattle.ghc_trace.proofs.Lines.{listed, there}
 use Rattle.ghc_trace.specs.declared.holding.Holder.{Holder}
 use Rattle.ghc_trace.specs.Holding.{AreHolders, AreHoldersAmong, GoalReaches, goal_terms, HasGained, IsHeldBy, IsUnboundIn, holder_cmp}
+use Rattle.ghc_term.proofs.Names.{both}
 
 -- the parts of an expression
 abbrev steps : Expression → ℕ
@@ -33,12 +34,6 @@ in_put {K} cmp one (x ∷ xs) k p = by_order (cmp k x) (one k x) (insert_key cmp
     by_order Less h rest more = grind arith
     by_order Equal h rest more = let same : k ≡ x = h refl in (λ i. inl i, λ c. elim c [ inl i ↦ i | inr e ↦ inl (e ∙ same) ])
     by_order Greater h rest more = grind (arith, more.0, more.1)
-
--- the order of holders tells them apart
-both : (a b : Ordering) → ordering_then a b ≡ Equal → (a ≡ Equal) × (b ≡ Equal)
-both Less b e = cc
-both Equal b e = (refl, e)
-both Greater b e = cc
 
 one_name : (x y : VarName) → name_cmp x y ≡ Equal → x ≡ y
 one_name x y e =
@@ -64,9 +59,6 @@ one_holder h k e =
 -- the holders of these variables, which the goal reaches
 abbrev pub IsHeldAmong : Variables → List VarName → GoalName → Holder → Type 0
 IsHeldAmong unbound ys g h = (h.goal ≡ g) × IsTrue (set.contains unbound h.variable) × In h.variable ys
-
-pub none_held : (unbound : Variables) (g : GoalName) (old : List Holder) → HasGained old old (IsHeldAmong unbound [] g)
-none_held unbound g old h = (λ i. inl i, λ c. elim c [ inl i ↦ i | inr q ↦ absurd q.2 ])
 
 pub held_still : (unbound : Variables) (ys : List VarName) (y : VarName) (g : GoalName) (old new : List Holder) → ¬ IsTrue (set.contains unbound y) → HasGained old new (IsHeldAmong unbound ys g)
     → HasGained old new (IsHeldAmong unbound (ys ++ y ∷ []) g)

@@ -1,8 +1,9 @@
 -- Lines of goals, one after another.
-use Rattle.ghc_trace.proofs.Words.{◌≡◌, ℕ, ◌≤◌, false, Bool, true, ◌&&◌, List, [], ◌∷◌, ◌++◌, length, refl, sym, ap, ◌∙◌, subst, inl, inr, append_assoc, append-nil, arith, Option, Some, T, Ordering, Less, Equal, Greater, AllZip, AllByRecursion, concat, keys_of, is_lt, below_all, is_sorted, concat-append, VarName, GoalName, Tree, Goal, IsGoalTextOf, In, in_right, Bor, StoreValue, value_at, goal_cmp, Goals, goal_total, NotesByGoal, IsUntried, Named, TellsGoal, StandsByNote, AreLinesByNotes, IsTooLong, HasTooLong, print_limit, IsKnown, TellsShort, AddsLine, AddsLines, lent}
+use Rattle.ghc_trace.proofs.Words.{◌≡◌, ℕ, ◌≤◌, List, [], ◌∷◌, ◌++◌, length, refl, sym, ap, ◌∙◌, subst, inl, inr, append_assoc, append-nil, arith, Option, Some, T, Ordering, Less, Equal, Greater, AllZip, AllByRecursion, concat, keys_of, is_lt, below_all, is_sorted, concat-append, VarName, GoalName, Tree, Goal, IsGoalTextOf, In, in_right, Bor, StoreValue, value_at, goal_cmp, Goals, goal_total, NotesByGoal, IsUntried, Named, TellsGoal, StandsByNote, AreLinesByNotes, IsTooLong, HasTooLong, print_limit, IsKnown, TellsShort, AddsLine, AddsLines, lent}
 use Rattle.std.specs.List.Sorted.{IsStrictlySortedBy}
 use Rattle.std.specs.FinMap as finite
 use Rattle.ghc_trace.proofs.Entries.{entry_in, in_entry}
+use Rattle.ghc_term.proofs.GoalMaps.{parts}
 
 module _ {A B : Type 0} where
   one_more : (R : A → B → Type 0) (xs : List A) (ys : List B) (x : A) (y : B) → AllZip R xs ys → R x y → AllZip R (xs ++ x ∷ []) (ys ++ y ∷ [])
@@ -50,10 +51,6 @@ one_text h k = k.written ∙ h.only k.resolved k.resolves
 -- a goal whose text is short is not too long
 pub not_long : (store : StoreValue) (b : Goal) (text : List ℕ) → IsGoalTextOf (value_at store) b text → length text ≤ print_limit → ¬ IsTooLong store b
 not_long store b text h short long = let same : length long.0 ≡ length text = ap length (one_text h long.1) in omega (arith, short, long.2, same)
-
-parts : (a b : Bool) → T (a && b) → T a × T b
-parts true b p = (tt, p)
-parts false b p = absurd p
 
 less : (o : Ordering) → T (is_lt o) → o ≡ Less
 less Less p = refl

@@ -11,20 +11,14 @@ use Rattle.ghc_flat.specs.Numbers.{AreNumbersFor}
 use Rattle.ghc_match.specs.Match.{Accepts, LooksAt}
 use Rattle.ghc_match.proofs.LooksAt.{looks_back}
 use Rattle.ghc_match.proofs.Outcomes.{accepts_there}
-use Rattle.ghc_fire.proofs.Steps.{clause_once}
+use Rattle.ghc_fire.proofs.Steps.{clause_once, looked_bound}
 use Rattle.ghc_fire.specs.declared.act.Act.TheVariants.{ByClause as by_clause}
 use Rattle.ghc_records.specs.Orders.{take as taken, leave}
-use Rattle.ghc_unify.proofs.Ends.{comes_leads}
-use Rattle.ghc_depend.proofs.Finding.{by_option, not_both}
+use Rattle.ghc_depend.proofs.Finding.{not_both}
 use Rattle.ghc_depend.proofs.Undoing.{rolled}
 use Rattle.ghc_depend.specs.Kept.{IsSplitAt}
 use Rattle.ghc_trace.specs.OtherClauses.{SaysYesTo, CouldBe, AreOtherClauses}
 use Rattle.ghc_trace.specs.inner.OtherClausesCode.{OneRestsOn, AcceptsWithout}
-
--- what an accepting clause looks at is bound
-looked_bound : (c : Clause) (ts : List Tree) (S : VarName → Option Tree) (x : VarName) → Accepts c ts S → LooksAt c ts S x → (t : Tree) × (S x ≡ Some t)
-looked_bound c ts S x a (inl l) = by_option (S x) (λ n. absurd (a.0.1 x (l.0, l.1, l.2, _, l.3, l.4, comes_leads l.5.1 n))) (λ t e. (t, e))
-looked_bound c ts S x a (inr l) = by_option (S x) (λ n. absurd ((a.1 l.0 l.3).0 x (l.1, l.4, (l.2, _, l.5, comes_leads l.6.1 n)))) (λ t e. (t, e))
 
 module _ (w : World) (r : Record) (gone left : List Record) (t : State) (split : IsSplitAt w.kept r gone left) (without : IsWithoutSteps gone w.state t) (c : Clause) (ts : List Tree) where
   abbrev S : VarName → Option Tree
@@ -128,10 +122,3 @@ module _ (w : World) (r : Record) where
     );
     rising = picked_rise ks told picked numbers.increasing;
   }
-
-  -- a step that consumed no call could be by no other clause
-  pub no_others : (told : List ℕ) → told ≡ [] → ((k : ℕ) (t : State) → ¬ SaysYesTo w.opening.program (value_at t.store) r.consumed k) → AreOtherClauses w r told
-  no_others told e none = subst (AreOtherClauses w r) (sym e) (record {
-    «exactly» = λ k. (λ i. absurd i, λ b. absurd (none k b.1.0 b.1.2));
-    rising = λ i low. absurd (omega (arith, low));
-  })

@@ -1,13 +1,9 @@
 -- The order of predicates, and predicates as keys of a table.
-use Rattle.ghc_trace.proofs.Words.{◌≡◌, Bool, ◌&&◌, refl, ap, ◌∙◌, nat_eq, Ordering, Less, Equal, Greater, nat_cmp, ordering_then, eq_by_cmp, is_eq, IsTotalOrder, nat_cmp_total, tied_then, slice_cmp, nat_list_cmp_total, texts_ties, IsAntisymmetric, nat_cmp-IsAntisymmetric, slice_cmp-IsAntisymmetric, then_total, on_total, tie, is_same_key, Predicate, predicate_cmp}
+use Rattle.ghc_trace.proofs.Words.{◌≡◌, Bool, ◌&&◌, ap, ◌∙◌, nat_eq, nat_cmp, eq_by_cmp, is_eq, IsTotalOrder, nat_cmp_total, tied_then, slice_cmp, nat_list_cmp_total, texts_ties, IsAntisymmetric, nat_cmp-IsAntisymmetric, slice_cmp-IsAntisymmetric, then_total, on_total, tie, is_same_key, Predicate, predicate_cmp}
+use Rattle.ghc_term.proofs.Names.{both}
 
 pub predicate_total : IsTotalOrder predicate_cmp
 predicate_total = then_total (on_total (λ (p : Predicate). p.name) nat_list_cmp_total) (on_total (λ (p : Predicate). p.arity) nat_cmp_total)
-
-both : (a b : Ordering) → ordering_then a b ≡ Equal → (a ≡ Equal) × (b ≡ Equal)
-both Less b e = cc
-both Equal b e = (refl, e)
-both Greater b e = cc
 
 pub predicate_antisymmetric : IsAntisymmetric predicate_cmp
 predicate_antisymmetric p q e =

@@ -4,6 +4,7 @@ use Rattle.std.specs.FinSet as set
 use Rattle.std.specs.FinMap as finite
 use Rattle.ghc_records.specs.declared.predicate.Predicate as written
 use Rattle.ghc_trace.proofs.Spied.{predicate_total, predicate_antisymmetric, same, same_is}
+use Rattle.ghc_records.proofs.NameOrder.{moved}
 
 -- the predicate is among the predicates
 abbrev pub has : Predicate → List Predicate → Bool
@@ -48,12 +49,6 @@ put_in_order s members ordered i e all h order =
     sym (rising ordered order) ∙ alike ordered (set.items s) (λ q.
     sym (or_nothing (has q ordered)) ∙ ap (λ l. has q ordered || has q l) (sym none_left) ∙ h q ∙ sym (set.contains-from_list predicate_total members q)
     ∙ ap (λ t. set.contains t q) e ∙ set.contains-items s q)
-
-moved : (a b c d : Bool) → (a || (b || c)) ≡ d → (cond b true a || c) ≡ d
-moved true true c d e = e
-moved true false c d e = e
-moved false true c d e = e
-moved false false c d e = e
 
 -- one more predicate is put in
 pub one_put : (members ordered more rest : List Predicate) (p : Predicate) (i : ℕ) → drop i members ≡ p ∷ rest

@@ -1,6 +1,6 @@
 -- What is read as asked for in mid-run a text can ask for, as step n does.
-use Rattle.ghcdb.proofs.CitedWords.{◌≡◌, ◌+◌, ◌-◌, ◌<◌, ◌≤◌, ℕ, zero, suc, true, false, List, [], ◌∷◌, length, inl, inr, refl, sym, ap, ◌∙◌, subst, arith, Option, None, Some, In}
-use Rattle.std.specs.Prelude.{◌≢◌, cond, slice_get, unwrap_or}
+use Rattle.ghcdb.proofs.CitedWords.{◌≡◌, ◌+◌, ◌-◌, ◌<◌, ◌≤◌, ℕ, zero, suc, List, [], ◌∷◌, length, inl, inr, refl, sym, ap, ◌∙◌, subst, arith, Option, None, Some, In}
+use Rattle.std.specs.Prelude.{◌≢◌, slice_get, unwrap_or}
 use Rattle.std.proofs.lemmas.Bool.Decides.{eqb_tells}
 use Rattle.std.proofs.lemmas.List.{length-map}
 use Rattle.std.proofs.lemmas.Option.{slice_get_within}
@@ -8,13 +8,12 @@ use Rattle.ghc_term.specs.declared.var_name.VarName.{VarName}
 use Rattle.ghc_term.specs.Goal.{Goal}
 use Rattle.ghc_term.specs.Tree.{variable}
 use Rattle.ghc_term.specs.Variables.{variables_of_goals, firsts}
-use Rattle.ghc_reader.specs.Lowered.{Each, Names}
+use Rattle.ghc_reader.specs.Lowered.{Names}
 use Rattle.ghc_reader.specs.PrintedGoals.{HasNumbers, IsNamedIn, IsWritableGoal}
 use Rattle.ghc_reader.specs.Read.{IsReadAsk}
 use Rattle.ghc_reader.specs.Written.{IsWithinLimits}
 use Rattle.ghc_reader.specs.WrittenAsk.{IsNaming, IsWellPut, WrittenAsk, is_new, of_no_step, of_query, of_state}
 use Rattle.ghc_reader.proofs.AskReadings.{within_query}
-use Rattle.ghc_reader.proofs.Numbered.{is_seen}
 use Rattle.ghc_reader.proofs.PrintedAgain.{asked_is_body}
 use Rattle.ghc_reader.proofs.SoundGoals.{read_writable}
 use Rattle.ghc_reader.proofs.WithinLimits.{ask_well_put}
@@ -32,22 +31,9 @@ use Rattle.ghc_records.proofs.WritableGoals.{goals_have}
 use Rattle.ghc_records.proofs.WrittenAsks.{named_same}
 use Rattle.ghcdb.proofs.BracketTexts.{as_deep, opens_few}
 use Rattle.ghcdb.proofs.BracketTokens.{asked_shallow}
+use Rattle.ghc_records.proofs.ToldAsks.{each_at, fewer}
 
 -- ---- lists
-
-each_at : {X Y : Type 0} (R : X → Y → Type 0) (xs : List X) (ys : List Y) (i : ℕ) (x : X) → Each R xs ys → slice_get xs i ≡ Some x → (y : Y) × (slice_get ys i ≡ Some y) × R x y
-each_at R [] [] i x h e = cc
-each_at R (z ∷ xs) (y ∷ ys) zero x h e = let same : z ≡ x = cc in (y, refl, subst (λ w. R w y) same h.0)
-each_at R (z ∷ xs) (y ∷ ys) (suc i) x h e = each_at R xs ys i x h.1 e
-each_at R xs ys i x h e = absurd h
-
--- each once, they are no more
-fewer : (seen xs : List VarName) → length (firsts seen xs) ≤ length xs
-fewer seen [] = omega arith
-fewer seen (x ∷ xs) = elim (is_seen x seen) as (λ b. length (cond b (firsts seen xs) (x ∷ firsts (x ∷ seen) xs)) ≤ suc (length xs)) [
-  | true ↦ omega (arith, fewer seen xs)
-  | false ↦ omega (arith, fewer (x ∷ seen) xs)
-]
 
 -- ---- what a name names
 

@@ -1,6 +1,6 @@
 -- How many brackets stand open in what is printed of goals; and that other variables leave it so.
 use Rattle.ghcdb.proofs.CitedWords.{◌≡◌, ◌+◌, ◌-◌, ◌≤◌, ℕ, true, false, List, [], ◌∷◌, ◌++◌, map, inl, inr, refl, sym, ap, ◌∙◌, subst, append-nil, arith, codes, In, bytes_eq-Decides}
-use Rattle.std.specs.Prelude.{Bool, ℤ, max, if◌then◌else◌, FitsSigned}
+use Rattle.std.specs.Prelude.{ℤ, max, if◌then◌else◌, FitsSigned}
 use Rattle.std.specs.Int.{w64}
 use Rattle.std.specs.Fmt.{decimal, signed_decimal}
 use Rattle.std.proofs.Common.{append_assoc, pos}
@@ -15,13 +15,14 @@ use Rattle.ghc_term.specs.Text.{variable_text, is_cell, is_nil, barred, term_tex
 use Rattle.ghc_term.specs.GoalText.{operand, operator_text, expression_text, goal_text}
 use Rattle.ghc_term.specs.InputTerm.{IsHead, IsNameText, nesting, cell_nesting, rest_nesting, arguments_nesting, deepest, most_open}
 use Rattle.ghc_term.specs.Resolved.{all_resolved}
-use Rattle.ghc_term.proofs.Nesting.{text_nests}
+use Rattle.ghc_term.proofs.Nesting.{text_nests, choose}
 use Rattle.ghc_reader.specs.PrintedGoals.{HasNumbers, IsWritable, AreWritable, IsWritableOperand, IsWritableExpression, IsWritableTarget, IsWritableGoal}
 use Rattle.ghc_reader.proofs.InputSizes.{nesting_of_name, text_of_name}
 use Rattle.ghc_unify.specs.Solutions.{replace, replace_all}
 use Rattle.ghc_fire.specs.Instance.{replace_in_expression, replace_in_goal}
 use Rattle.ghc_records.specs.EntryText.{OpensFew}
 use Rattle.ghc_records.specs.StepText.{body_text, followed_by}
+use Rattle.ghc_records.proofs.PlainGoals.{unresolved}
 
 -- The text opens at most n brackets more at one place, and closes them.
 abbrev pub Opens : List ℕ → ℕ → Type 0
@@ -88,10 +89,6 @@ variable_opens x n k rest =
     omega (arith, behind (decimal x.step) (codes "_" ++ decimal x.place) 0 (decimal_opens x.step n.step) (λ j more. omega (arith, decimal_opens x.place n.place j more)) k rest)
 
 -- ---- terms
-
-choose : (P : List ℕ → ℕ → Type 0) (b : Bool) (xs ys : List ℕ) (m n : ℕ) → (b ≡ true → P xs m) → (b ≡ false → P ys n) → P (if b then xs else ys) (if b then m else n)
-choose P true xs ys m n p q = p refl
-choose P false xs ys m n p q = q refl
 
 nil_opens : (f : List ℕ) (ts : Trees) → is_nil f ts ≡ true → Opens (f ++ arguments_text ts) 1
 nil_opens f none e = subst (λ g. Opens (g ++ []) 1) (sym ((bytes_eq-Decides f (codes "[]")).0 e)) (opened (codes "]") 0 closing)
@@ -196,10 +193,6 @@ expression_opens (leaf t) w = leaf_opens t w
 expression_opens (operation o a b) w =
     weaken (expression_text (operation o a b)) (max (levels a) (levels b)) (levels (operation o a b)) (omega arith)
     (joined o (operand a (expression_text a)) (operand b (expression_text b)) (levels a) (levels b) (operand_opens a w.0) (operand_opens b w.1))
-
-unresolved : (ts : List Tree) → all_resolved (λ t. t) ts ≡ trees ts
-unresolved [] = refl
-unresolved (t ∷ ts) = ap (tree.more t) (unresolved ts)
 
 goal_opens : (g : Goal) → IsWritableGoal HasNumbers g → Opens (goal_text g) (goal_depth g)
 goal_opens (call f ts) w =

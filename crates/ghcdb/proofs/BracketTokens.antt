@@ -20,15 +20,10 @@ use Rattle.ghc_reader.specs.Lowered.{Each, IsCalled, Names, SaysAllBy, SaysBy, S
 use Rattle.ghc_reader.specs.Read.{IsReadAsk}
 use Rattle.ghc_reader.specs.Source as source
 use Rattle.ghc_reader.specs.WrittenAsk.{WrittenAsk}
-use Rattle.ghc_reader.proofs.InputSizes.{closes, most_open, shallow_opens}
+use Rattle.ghc_reader.proofs.InputSizes.{closes, most_open, shallow_opens, rest_deep}
 use Rattle.ghcdb.proofs.BracketTexts.{goal_depth, levels}
 
 -- ---- terms
-
-rest_deep : (u : term.Tree) → rest_nesting u ≤ nesting u
-rest_deep (term.variable x) = omega arith
-rest_deep (term.integer z) = omega arith
-rest_deep (node f us) = grind arith
 
 cell_deep : (ts : term.Trees) → cell_nesting ts ≤ deepest ts
 cell_deep term.none = omega arith

@@ -1,11 +1,10 @@
 -- How the program ends, with the texts of its files.
-use Rattle.ghcdb.proofs.CitedWords.{◌≡◌, ◌⊎◌, ℕ, List, Option, Result, Ok, Err, refl, subst, sym, Debugger, IsDebuggerOf, IsOpenRefusal, IsWithoutMemory, Refusal}
+use Rattle.ghcdb.proofs.CitedWords.{◌≡◌, ◌⊎◌, ℕ, List, Option, Result, Ok, Err, subst, sym, Debugger, IsDebuggerOf, IsOpenRefusal, IsWithoutMemory, Refusal}
 use Rattle.std.specs.Prelude.{IfErr, IfOk}
 use Rattle.ghcdb.specs.inner.Ending.{DoOpen, EndsWith, IsRefusalOf, IsStreamRefusal}
 use Rattle.ghcdb.specs.inner.Ending as ending
 use Rattle.ghcdb.specs.inner.Status.{status_of}
 use Rattle.ghcdb.specs.declared.status.Status.{Status}
-use Rattle.ghcdb.specs.declared.status.Status.TheVariants.{Done}
 
 module _ (program query : List ℕ) (history : Option (List ℕ)) where
   -- a refusal of the texts
@@ -21,10 +20,6 @@ module _ (program query : List ℕ) (history : Option (List ℕ)) where
   pub streams_done : (d : Debugger) (result : Result Unit Refusal) → IsDebuggerOf program query history d → IfOk result (λ _. DoOpen program query history)
   streams_done d (Ok done) opens = (d, opens)
   streams_done d (Err r) opens = tt
-
-  -- the status of what was carried out
-  pub ends_done : (schedule : Option (List ℕ)) → DoOpen program query history → EndsWith program query history schedule Done
-  ends_done schedule opens = ending.is_done opens refl
 
   pub ends_refused : (schedule : Option (List ℕ)) (r : Refusal) (status : Status) → IsRefusalOf program query history schedule r → status ≡ status_of r.fault → EndsWith program query history schedule status
   ends_refused schedule r status why is = ending.is_refused r why is

@@ -1,5 +1,5 @@
 -- What opens on program and query that are started a text can tell.
-use Rattle.ghcdb.proofs.CitedWords.{◌≡◌, ℕ, List, [], ◌∷◌, ◌++◌, map, inl, inr, refl, sym, ap, ◌∙◌, subst, arith, append-nil, Option, None, Some, In, Opening, History, loaded_opening, Chronicle, World, LegalIsReachable, CarriedOutIsLegal, IsCarriedOut, Predicate, Spies, spied_of, Started, IsStarted, OpensOn, TellsHistory, loads, resumes}
+use Rattle.ghcdb.proofs.CitedWords.{◌≡◌, ℕ, List, [], ◌∷◌, ◌++◌, map, inl, inr, refl, sym, ◌∙◌, subst, arith, append-nil, Option, None, Some, In, Opening, History, loaded_opening, Chronicle, World, LegalIsReachable, CarriedOutIsLegal, IsCarriedOut, Predicate, Spies, spied_of, Started, IsStarted, OpensOn, TellsHistory, loads, resumes}
 use Rattle.std.specs.FinSet as set
 use Rattle.ghc_term.proofs.ListsLemmas.{in_either}
 use Rattle.ghc_reader.proofs.ReadTerms.{read_is_input}
@@ -15,6 +15,7 @@ use Rattle.ghc_core.specs.Resume as resume
 use Rattle.ghcdb.proofs.LinesTold.{IsSaid}
 use Rattle.ghcdb.proofs.SessionsOpened.{is_written, none_spied, sound}
 use Rattle.ghcdb.proofs.SpiesTold.{HaveNames}
+use Rattle.ghc_core.proofs.Histories.{entries_once}
 
 -- ---- entries
 
@@ -23,16 +24,6 @@ taken_said : (steps : List Step) → ((s : Step) → In s steps → IsOfAGoal s)
 taken_said [] of e i = absurd i
 taken_said (s ∷ steps) of e (inl same) = subst CanBeSaid (sym same) (inl (of s (inl refl)))
 taken_said (s ∷ steps) of e (inr i) = taken_said steps (λ t j. of t (inr j)) e i
-
--- what is entered alike is alike
-unentered : (es fs : List Entry) → map entered es ≡ map entered fs → es ≡ fs
-unentered [] [] same = refl
-unentered [] (f ∷ fs) same = cc
-unentered (e ∷ es) [] same = cc
-unentered (e ∷ es) (f ∷ fs) same =
-    let first : e ≡ f = cc in
-    let rest : map entered es ≡ map entered fs = cc in
-    ap (λ x. x ∷ es) first ∙ ap (λ (l : List Entry). f ∷ l) (unentered es fs rest)
 
 -- ---- what opens
 
@@ -79,7 +70,7 @@ module _ (legal : CarriedOutIsLegal) (reachable : LegalIsReachable) (p q : List 
       let same : history o (opening_journal o ++ c.entries) ≡ history w.opening w.journal = (reachable _ w left).0 in
       let opening : w.opening ≡ o = cc in
       let entries : map entered (opening_journal o ++ c.entries) ≡ map entered w.journal = cc in
-      record { opening = opening; journal = sym (unentered (opening_journal o ++ c.entries) w.journal entries) }
+      record { opening = opening; journal = sym (entries_once (opening_journal o ++ c.entries) w.journal entries) }
 
   carried_told : (text : List ℕ) (c : Chronicle) (w : World) → CanBeTold c → IsCarriedOut s.program s.query.goals s.query.variables c w → IsSaid w
   carried_told text c w can carried =

@@ -1,6 +1,6 @@
 -- A text can tell the spies of a session: each has a name, and they are no more than the program has clauses.
-use Rattle.ghcdb.proofs.CitedWords.{◌≡◌, ◌≤◌, ℕ, true, false, List, [], ◌∷◌, length, map, inl, inr, refl, sym, ap, subst, arith, In, in_map, Program, HasClauseFor, Predicate, Spies, HasPredicate, predicate, predicate_cmp, predicate_total, spied_of, spies_in_order}
-use Rattle.std.proofs.Common.{T, Bool, ◌&&◌}
+use Rattle.ghcdb.proofs.CitedWords.{◌≡◌, ◌≤◌, ℕ, true, List, [], ◌∷◌, length, map, inl, inr, refl, sym, ap, subst, arith, In, in_map, Program, HasClauseFor, Predicate, Spies, HasPredicate, predicate, predicate_cmp, predicate_total, spied_of, spies_in_order}
+use Rattle.std.proofs.Common.{T}
 use Rattle.std.proofs.lemmas.List.{length-map}
 use Rattle.std.specs.Cmp.{eq_by_cmp_equiv}
 use Rattle.std.specs.declared.cmp.Ordering.{Ordering}
@@ -19,6 +19,7 @@ use Rattle.ghc_records.specs.declared.predicate.Predicate as written
 use Rattle.ghc_records.proofs.PickLemmas.{no_longer}
 use Rattle.ghc_trace.specs.Spies.{as_written, in_order}
 use Rattle.ghcdb.proofs.SavedAgain.{held}
+use Rattle.ghc_term.proofs.GoalMaps.{parts}
 
 -- each predicate that is spied has a name of the grammar, and an arity of 32 bits
 abbrev pub HaveNames : Spies → Type 0
@@ -26,14 +27,10 @@ HaveNames spies = (f : List ℕ) (n : ℕ) → HasPredicate spies f n → IsName
 
 -- ---- the keys of a map are distinct
 
-two : (a b : Bool) → T (a && b) → T a × T b
-two true b h = (tt, h)
-two false b h = absurd h
-
 below : (x : Predicate) (es : List (Predicate × Unit {0})) → T (below_all predicate_cmp x es) → (y : Predicate) → In y (map (λ e. e.0) es) → T (is_lt (predicate_cmp x y))
 below x [] h y i = absurd i
-below x (e ∷ es) h y (inl same) = subst (λ z. T (is_lt (predicate_cmp x z))) (sym same) (two (is_lt (predicate_cmp x e.0)) (below_all predicate_cmp x es) h).0
-below x (e ∷ es) h y (inr i) = below x es (two (is_lt (predicate_cmp x e.0)) (below_all predicate_cmp x es) h).1 y i
+below x (e ∷ es) h y (inl same) = subst (λ z. T (is_lt (predicate_cmp x z))) (sym same) (parts (is_lt (predicate_cmp x e.0)) (below_all predicate_cmp x es) h).0
+below x (e ∷ es) h y (inr i) = below x es (parts (is_lt (predicate_cmp x e.0)) (below_all predicate_cmp x es) h).1 y i
 
 not_less : (o : Ordering) → is_eq o ≡ true → ¬ T (is_lt o)
 not_less Less e h = cc
@@ -43,8 +40,8 @@ not_less Greater e h = absurd h
 keys_distinct : (es : List (Predicate × Unit {0})) → T (is_sorted predicate_cmp es) → AreDistinct (map (λ e. e.0) es)
 keys_distinct [] h = tt
 keys_distinct (e ∷ es) h =
-    let parts = two (below_all predicate_cmp e.0 es) (is_sorted predicate_cmp es) h in
-    (λ i. not_less (predicate_cmp e.0 e.0) ((eq_by_cmp_equiv predicate_total).refl e.0) (below e.0 es parts.0 e.0 i), keys_distinct es parts.1)
+    let each = parts (below_all predicate_cmp e.0 es) (is_sorted predicate_cmp es) h in
+    (λ i. not_less (predicate_cmp e.0 e.0) ((eq_by_cmp_equiv predicate_total).refl e.0) (below e.0 es each.0 e.0 i), keys_distinct es each.1)
 
 -- .. and so are predicates as they are written
 abbrev back : written.Predicate → Predicate

@@ -1,5 +1,5 @@
 -- A world's journal begins with its opening, whose steps are numbered. The entries after it follow each other up to the next number.
-use Rattle.ghcdb.proofs.CitedWords.{◌≡◌, ◌<◌, ◌≤◌, List, [], ◌∷◌, ◌++◌, length, map, drop, inl, inr, refl, sym, ap, ◌∙◌, subst, append-nil, arith, In, Opening, World, Opens, from_opening}
+use Rattle.ghcdb.proofs.CitedWords.{◌≡◌, ◌<◌, ◌≤◌, List, [], ◌∷◌, ◌++◌, length, map, drop, sym, ap, ◌∙◌, subst, append-nil, arith, In, Opening, World, Opens, from_opening}
 use Rattle.std.proofs.Common.{append_assoc}
 use Rattle.std.proofs.Math.Seq.{drop-append_seam}
 use Rattle.std.proofs.lemmas.List.{length-map}
@@ -8,7 +8,6 @@ use Rattle.ghc_records.specs.ChronicleText.{IsNext}
 use Rattle.ghc_records.specs.Journal.{Step, Entry, took, step_of, opening_journal}
 use Rattle.ghc_records.specs.Numbers.{kept_limit}
 use Rattle.ghc_records.specs.Orders.{AreDistinct}
-use Rattle.ghc_records.specs.Record.{Record}
 use Rattle.ghc_records.proofs.TurnLemmas.{next_more, turn_more}
 use Rattle.ghc_core.specs.declared.changes.Change.{Change}
 use Rattle.ghc_core.specs.declared.changes.Change.TheVariants.{Comes as comes, Goes as goes, Reorders as reorders}
@@ -19,6 +18,7 @@ use Rattle.ghc_core.specs.Reached.{Reaches, by_change}
 use Rattle.ghc_core.proofs.Loading.{step_numbers}
 use Rattle.ghc_core.proofs.Moving.{opening_stays}
 use Rattle.ghc_core.proofs.Resuming.{entered_by, enters_own}
+use Rattle.ghc_core.proofs.SavedSteps.{step_back}
 
 -- what a change enters follows, and leads to the next number
 follows : (w v : World) (change : Change) → CanChange w change → Changes w change v → IsInTurn w.next (entered_by change) × (next_after w.next (entered_by change) ≡ v.next)
@@ -71,11 +71,6 @@ pub record IsNumbered (o : Opening) : Type 0 where
   pub few : length o.steps ≤ kept_limit
   pub below : AreBelow o.next o.steps
   pub first : IsNext o.next
-
-step_back : (rs : List Record) (s : Step) → In s (map step_of rs) → (r : Record) × In r rs × (step_of r ≡ s)
-step_back [] s i = absurd i
-step_back (r ∷ rs) s (inl e) = (r, inl refl, sym e)
-step_back (r ∷ rs) s (inr i) = let q = step_back rs s i in (q.0, inr q.1, q.2)
 
 opened : (o : Opening) (w : World) → Opens o w → IsNumbered o
 opened o w opens = record {

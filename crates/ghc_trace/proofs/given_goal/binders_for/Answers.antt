@@ -2,7 +2,8 @@ use Rattle.ghc_trace.proofs.Words.{List, sym, ◌∙◌, subst, StoreValue, Prog
 use Rattle.ghc_hooks.specs.Notes.{IsExact}
 use Rattle.ghc_match.specs.Looked.{GoalLooksAt}
 use Rattle.ghc_trace.specs.Causes.{AreBindersOf}
-use Rattle.ghc_trace.proofs.Giving.{binders_of_set, if_ok, no_looks}
+use Rattle.ghc_trace.proofs.Giving.{binders_of_set, no_looks}
+use Rattle.ghc_core.proofs.Redone.{if_ok}
 use Rattle.ghc_trace.proofs.given_goal.binders_for.Goals as goal
 
 pub returns-then-is_stream : goal.returns-then-is_stream

@@ -1,7 +1,8 @@
 use Rattle.ghc_trace.proofs.Words.{subst, value_at}
 use Rattle.ghc_depend.specs.Slices.{GaveGoal}
 use Rattle.ghc_trace.specs.Causes.{IsSliceTold}
-use Rattle.ghc_trace.proofs.Giving.{if_ok, told_slice}
+use Rattle.ghc_trace.proofs.Giving.{told_slice}
+use Rattle.ghc_core.proofs.Redone.{if_ok}
 use Rattle.ghc_trace.proofs.given_goal.slice_of_goal.Goals as goal
 
 pub returns : goal.returns

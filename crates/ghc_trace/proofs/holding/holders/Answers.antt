@@ -1,7 +1,7 @@
 use Rattle.ghc_trace.proofs.Words.{subst, StoreValue, value_at}
 use Rattle.ghc_term.specs.Sets.{IsSetOf}
 use Rattle.ghc_trace.specs.Holding.{IsUnboundIn}
-use Rattle.ghc_trace.proofs.Giving.{if_ok}
+use Rattle.ghc_core.proofs.Redone.{if_ok}
 use Rattle.ghc_trace.proofs.Held.{holders_are}
 use Rattle.ghc_trace.proofs.holding.holders.Goals as goal
 

@@ -4,8 +4,8 @@ use Rattle.ghc_term.specs.Sets.{IsSetOf}
 use Rattle.ghc_trace.specs.GoalLines.{Named}
 use Rattle.ghc_trace.specs.inner.GoalLinesCode.{lent}
 use Rattle.ghc_trace.specs.Holding.{AreHoldersAmong, GoalReaches, HasGained}
-use Rattle.ghc_trace.proofs.GoalTelling.{no_element}
-use Rattle.ghc_trace.proofs.Giving.{if_ok}
+use Rattle.std.proofs.lemmas.List.{nil_from_length}
+use Rattle.ghc_core.proofs.Redone.{if_ok}
 use Rattle.ghc_trace.proofs.Held.{IsHeldOfThem, among_are, held_of_more, held_of_none, none_among}
 use Rattle.ghc_trace.proofs.holding.holders_among.Goals as goal
 
@@ -15,7 +15,7 @@ returns-then-is_empty c =
     let xs = c.args.variables.now in
     let items = c.members.result.now in
     let none : length items ≡ 0 = grind (arith, c.is_empty.ensures, c.if-is_empty.true) in
-    subst (λ hs. AreHoldersAmong t xs hs) (sym c.new.ensures.items) (none_among t xs items c.members.ensures.all (no_element items none))
+    subst (λ hs. AreHoldersAmong t xs hs) (sym c.new.ensures.items) (none_among t xs items c.members.ensures.all (nil_from_length items none))
 
 pub loop-name-init : goal.loop-name-init
 loop-name-init c =

@@ -4,7 +4,7 @@ use Rattle.ghc_hooks.specs.Verdict.{status_of}
 use Rattle.ghc_records.specs.Orders.{Picks}
 use Rattle.ghc_trace.specs.declared.holding.Holder.{Holder}
 use Rattle.ghc_trace.specs.Holding.{AreHoldersFor}
-use Rattle.ghc_trace.proofs.Giving.{if_ok}
+use Rattle.ghc_core.proofs.Redone.{if_ok}
 use Rattle.ghc_trace.proofs.HeldFor.{nobody_noted, nobody_unnoted, others_hold}
 use Rattle.ghc_trace.proofs.holding.holders_for.Goals as goal
 

@@ -1,7 +1,7 @@
 use Rattle.ghc_trace.proofs.Words.{◌≡◌, map, value_at}
 use Rattle.std.proofs.Common.{rules}
 use Rattle.ghc_trace.specs.Holding.{goal_terms}
-use Rattle.ghc_trace.proofs.Giving.{if_ok}
+use Rattle.ghc_core.proofs.Redone.{if_ok}
 use Rattle.ghc_trace.proofs.Held.{reached_of}
 use Rattle.ghc_trace.proofs.holding.reached_by_goal.Goals.{in-Call+in_ok-push_arguments-in-Call, in-Unify+in_ok-push-in-Unify+in_ok-push-in-Unify-2, in-Assign+in_ok-push-in-Assign+in_ok-push_leaves-in-Assign}
 use Rattle.ghc_trace.proofs.holding.reached_by_goal.Goals as goal

@@ -3,7 +3,7 @@ use Rattle.ghc_flat.specs.Clause.{IsClause, IsFor}
 use Rattle.ghc_fire.specs.declared.act.Act.TheVariants.{ByClause as by_clause}
 use Rattle.ghc_fire.proofs.Calling.{some_there}
 use Rattle.ghc_fire.proofs.Steps.{clause_once}
-use Rattle.ghc_trace.proofs.Giving.{if_ok}
+use Rattle.ghc_core.proofs.Redone.{if_ok}
 use Rattle.ghc_trace.proofs.OtherClauses.{could_by}
 use Rattle.ghc_trace.proofs.others.could_be.Goals as goal
 

@@ -1,7 +1,8 @@
-use Rattle.ghc_trace.proofs.Words.{◌≡◌, ◌<◌, ◌||◌, ◌+◌, true, cond, [], drop, get_or, map, Result, Ok, Err, IfOk, sym, ap, ◌∙◌, subst, at_drop_more, All-same, All-nil, All-get_or, All-insert_key, is_eq, Predicate, predicate, predicate_cmp, as_written}
+use Rattle.ghc_trace.proofs.Words.{◌≡◌, ◌<◌, ◌||◌, ◌+◌, true, cond, [], drop, get_or, map, sym, ap, ◌∙◌, subst, at_drop_more, All-same, All-nil, All-get_or, All-insert_key, is_eq, Predicate, predicate, predicate_cmp, as_written}
 use Rattle.std.specs.FinSet as set
 use Rattle.ghc_trace.proofs.SpyOrder.{has, one_put, put_in_order}
 use Rattle.ghc_trace.proofs.spies.SpySet.in_order.Goals as goal
+use Rattle.ghc_core.proofs.Redone.{if_ok}
 
 abbrev IsSmall : Predicate → Type 0
 IsSmall p = p.arity < 4294967296
@@ -32,11 +33,6 @@ loop-spied-preserved c =
 pub written-requires : goal.written-requires
 written-requires c = c.loop-spied.invariant.small
 
--- what holds where it is done leads to more
-each_ok : {T E : Type 0} (r : Result T E) {P Q : T → Type 0} → IfOk r P → ((t : T) → P t → Q t) → IfOk r Q
-each_ok (Ok t) h f = f t h
-each_ok (Err e) h f = tt
-
 pub returns : goal.returns
-returns c = each_ok c.written.result c.written.ensures (λ listed is. is ∙ ap (map as_written) (put_in_order c.args.self.now c.as_slice-spied-items.result.now c.loop-spied.ordered.keys c.loop-spied.spied-index
+returns c = if_ok c.written.result c.written.ensures (λ listed is. is ∙ ap (map as_written) (put_in_order c.args.self.now c.as_slice-spied-items.result.now c.loop-spied.ordered.keys c.loop-spied.spied-index
     (ap (λ ks. set.from_list ks) c.as_slice-spied-items.ensures.keys ∙ c.self.view_is) c.loop-spied-test.false c.loop-spied.invariant.members c.len-count.ensures.ordered))
