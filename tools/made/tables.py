@@ -8,7 +8,7 @@ HELP = "crates/ghcdb/src/help.rt"
 
 # Each limit: the constant of the code, the equation of specs/ that ends with the same number ("" where none does), and what comes past it.
 LIMITS = [
-    ("ghc_reader/src/lexer.rt", "MOST_BYTES", "ghc_reader most_bytes", "F6 `text`"),
+    ("ghc_term/src/limit.rt", "TEXT_LIMIT", "ghc_term text_limit", "F6 `text`"),
     ("ghc_console/src/devices/line_buffer.rt", "LINE_LIMIT", "ghc_console line_limit", "F6 `line`"),
     ("ghc_console/src/schedules/play.rt", "HANDS", "ghc_console hand_count", "F25"),
     ("ghc_reader/src/limits.rt", "MOST_CLAUSES", "ghc_reader most limit.Clauses", "F6 `clauses`"),
@@ -22,7 +22,7 @@ LIMITS = [
     ("ghc_reader/src/limits.rt", "MOST_NODES", "ghc_reader most limit.Term", "F6 `term`"),
     ("ghc_term/src/printing.rt", "PRINT_LIMIT", "ghc_trace print_limit", "F6 `print`"),
     ("ghc_core/src/changes/commit.rt", "KEPT_LIMIT", "ghc_records kept_limit", "F22; F24 in a history"),
-    ("ghc_fire/src/effect.rt", "NO_STEP", "ghc_fire no_step", "F22"),
+    ("ghc_term/src/var_name.rt", "NO_STEP", "ghc_fire no_step", "F22"),
     ("ghc_records/src/text/chronicle_reading.rt", "ENTRY_LIMIT", "ghc_records entry_limit", "F24"),
     ("ghc_records/src/text/chronicle_reading.rt", "SPY_LIMIT", "ghc_records spy_limit", "F24"),
     ("ghc_console/src/command.rt", "RUN_LIMIT", "ghc_console run_limit", "`stopped limit`"),

@@ -2,13 +2,12 @@
 ghost use Rattle.std.specs.Prelude.{◌≡◌, ◌≤◌, ◌↔◌, length, IfOk, IsTrue};
 ghost use Rattle.ghc_flat.specs.Flat.{most_goals};
 
+pub use ghc_term::NO_STEP;
+
 use crate::made::Made;
 use ghc_term::{Bindings, Goal, Variables};
 use std::alloc::{AllocError, Global};
 use std::marker::Model;
-
-// The number that no step has. The variables that a step makes have it in its effect under any number.
-pub const NO_STEP: u32 = 4_294_967_295;
 
 /// The effect of a step: the variables that it reads, what it binds, the goals that it makes in order, at most 1,000, and how
 /// many variables it makes.

@@ -1,5 +1,5 @@
 -- What the loop over the pieces of a text keeps.
-use Rattle.ghc_reader.proofs.Words.{◌≡◌, ◌≢◌, ◌⊎◌, ℕ, ◌+◌, ◌^◌, ◌<◌, ◌≤◌, Bool, true, List, [], ◌∷◌, ◌++◌, length, Option, Some, None, refl, sym, ap, subst, ◌∙◌, arith, append_assoc, length-append, Result, IfErr, append-nil, All-push, filter_map-append, filter_map, option_to_list, Piece, HasForm, HasNoPiece, Stands, IsFront, spelled, Cuts, signs_behind, signs_after, start, place_behind, fault_at, piece_of, token_of, IsRefused, IsCutInto, place_of_token, token_places, IsBadAt, IsLexFault, most_bytes, IsCutFault, greatest_number, Token, Place, Front, Reserved}
+use Rattle.ghc_reader.proofs.Words.{◌≡◌, ◌≢◌, ◌⊎◌, ℕ, ◌+◌, ◌^◌, ◌<◌, ◌≤◌, Bool, true, List, [], ◌∷◌, ◌++◌, length, Option, Some, None, refl, sym, ap, subst, ◌∙◌, arith, append_assoc, length-append, Result, IfErr, append-nil, All-push, filter_map-append, filter_map, option_to_list, Piece, HasForm, HasNoPiece, Stands, IsFront, spelled, Cuts, signs_behind, signs_after, start, place_behind, fault_at, piece_of, token_of, IsRefused, IsCutInto, place_of_token, token_places, IsBadAt, IsLexFault, text_limit, IsCutFault, greatest_number, Token, Place, Front, Reserved}
 use Rattle.ghc_term.specs.declared.fault.Fault.{Fault}
 use Rattle.ghc_term.specs.declared.fault.Fault.TheVariants as fault
 use Rattle.ghc_reader.proofs.OnePiece.{one_piece}
@@ -112,5 +112,5 @@ pub refused_fault : (reserved : Reserved) (text : List ℕ) (place : Place) (Bad
 refused_fault reserved text place Bad f h is_bad = grind arith
 
 -- of a text that is not too long
-pub short_faults : {T : Type 0} (reserved : Reserved) (text : List ℕ) (r : Result T Fault) → length text ≤ most_bytes → IfErr r (IsCutFault reserved text) → IfErr r (IsLexFault reserved text)
+pub short_faults : {T : Type 0} (reserved : Reserved) (text : List ℕ) (r : Result T Fault) → length text ≤ text_limit → IfErr r (IsCutFault reserved text) → IfErr r (IsLexFault reserved text)
 short_faults reserved text r short h = grind arith

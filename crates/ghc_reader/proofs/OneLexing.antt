@@ -1,5 +1,5 @@
 -- A text is cut in one way, up to its end or up to its first bad byte.
-use Rattle.ghc_reader.proofs.Words.{◌≡◌, ◌⊎◌, ℕ, ◌≤◌, ◌+◌, Bool, true, List, [], ◌∷◌, ◌++◌, length, length-append, All, Result, Ok, Err, IfOk, IfErr, MatchResult, refl, sym, ap, subst, ◌∙◌, inl, inr, arith, append_cancel_left, All-head, All-tail, filter_map, Piece, HasForm, Stands, spelled, Cuts, signs_behind, signs_after, start, place_behind, fault_at, token_of, IsRefused, token_places, IsLexed, IsBadAt, IsLexFault, most_bytes, IsErrAnd, Lexed, Token, Place, Reserved, Kind}
+use Rattle.ghc_reader.proofs.Words.{◌≡◌, ◌⊎◌, ℕ, ◌≤◌, ◌+◌, Bool, true, List, [], ◌∷◌, ◌++◌, length, length-append, All, Result, Ok, Err, IfOk, IfErr, MatchResult, refl, sym, ap, subst, ◌∙◌, inl, inr, arith, append_cancel_left, All-head, All-tail, filter_map, Piece, HasForm, Stands, spelled, Cuts, signs_behind, signs_after, start, place_behind, fault_at, token_of, IsRefused, token_places, IsLexed, IsBadAt, IsLexFault, text_limit, IsErrAnd, Lexed, Token, Place, Reserved, Kind}
 use Rattle.ghc_term.specs.declared.fault.Fault.{Fault}
 use Rattle.ghc_term.specs.declared.fault.Fault.TheVariants as fault
 use Rattle.ghc_term.specs.declared.limit.Limit.TheVariants as limit
@@ -59,7 +59,7 @@ module _ (reserved : Reserved) where
       x.place_is ∙ ap (λ ps. place_behind start (spelled ps [])) same.pieces ∙ sym y.place_is
 
   -- so what is found, or why nothing is, tells what every other reading would be
-  pub only_lexing : (text : List ℕ) (r : Result Lexed Fault) → IfOk r (λ lexed. IsLexed reserved text lexed.tokens.items lexed.places.items) → IfErr r (IsLexFault reserved text) → (tokens : List Token) (places : List Place) → length text ≤ most_bytes → IsLexed reserved text tokens places → MatchResult r (λ lexed. (lexed.tokens.items ≡ tokens) × (lexed.places.items ≡ places)) (λ f. f ≡ fault.Memory)
+  pub only_lexing : (text : List ℕ) (r : Result Lexed Fault) → IfOk r (λ lexed. IsLexed reserved text lexed.tokens.items lexed.places.items) → IfErr r (IsLexFault reserved text) → (tokens : List Token) (places : List Place) → length text ≤ text_limit → IsLexed reserved text tokens places → MatchResult r (λ lexed. (lexed.tokens.items ≡ tokens) × (lexed.places.items ≡ places)) (λ f. f ≡ fault.Memory)
   only_lexing text (Ok lexed) found fails tokens places short other =
       one_lexing text lexed.tokens.items tokens lexed.places.items places found other
   only_lexing text (Err fault.Memory) found fails tokens places short other = refl
@@ -68,7 +68,7 @@ module _ (reserved : Reserved) where
   only_lexing text (Err (fault.Limit limit.Text)) found fails tokens places short other = absurd (omega arith)
   only_lexing text (Err f) found fails tokens places short other = absurd fails
 
-  pub only_bad_byte : (text : List ℕ) (r : Result Lexed Fault) → IfOk r (λ lexed. IsLexed reserved text lexed.tokens.items lexed.places.items) → IfErr r (IsLexFault reserved text) → (place : Place) → length text ≤ most_bytes → IsBadAt reserved text place → IsErrAnd r (λ f. (f ≡ fault_at place) ⊎ (f ≡ fault.Memory))
+  pub only_bad_byte : (text : List ℕ) (r : Result Lexed Fault) → IfOk r (λ lexed. IsLexed reserved text lexed.tokens.items lexed.places.items) → IfErr r (IsLexFault reserved text) → (place : Place) → length text ≤ text_limit → IsBadAt reserved text place → IsErrAnd r (λ f. (f ≡ fault_at place) ⊎ (f ≡ fault.Memory))
   only_bad_byte text (Ok lexed) found fails place short bad =
       absurd (never_both text lexed.tokens.items lexed.places.items place found bad)
   only_bad_byte text (Err fault.Memory) found fails place short bad = inr refl

@@ -1,5 +1,5 @@
 -- What is read as an input term is one: in the grammar, and within the limits.
-use Rattle.ghc_reader.proofs.Words.{◌≡◌, ℕ, ◌≤◌, true, List, [], ◌∷◌, length, None, refl, sym, ap, ◌∙◌, subst, arith, IsInputTerm, Close, CloseList, Comma, Bar, Token, Place, Refused, Term, variable, integer, call, list, without, within, closed, whole, partial, Terms, one, more, Input, input, terms, tree_of, trees_of, cells_of, IsTooDeep, IsLexed, most_bytes, widest, nodes, Says, IsClosed, AreClosed, IsReadTerm, first_exceeded, of_term, nat_tests}
+use Rattle.ghc_reader.proofs.Words.{◌≡◌, ℕ, ◌≤◌, true, List, [], ◌∷◌, length, None, refl, sym, ap, ◌∙◌, subst, arith, IsInputTerm, Close, CloseList, Comma, Bar, Token, Place, Refused, Term, variable, integer, call, list, without, within, closed, whole, partial, Terms, one, more, Input, input, terms, tree_of, trees_of, cells_of, IsTooDeep, IsLexed, text_limit, widest, nodes, Says, IsClosed, AreClosed, IsReadTerm, first_exceeded, of_term, nat_tests}
 use Rattle.ghc_term.specs.Tree as term
 use Rattle.ghc_reader.specs.declared.token.Token.TheVariants as token
 use Rattle.ghc_reader.specs.Grammar as grammar
@@ -56,7 +56,7 @@ sound_input i good = closed_sound (tree_of i.term) (closed_tree i.term i.closed)
 -- The text has these tokens, they are those of a derivation and not nested too deep, and its tree has no more nodes and arguments
 -- than an input term may have: what the tree says is an input term.
 pub lexed_is_input : (text : List ℕ) (tokens : List Token) (places : List Place) (i : Input) (u : term.Tree)
-    → length text ≤ most_bytes → IsLexed Refused text tokens places → tokens ≡ input i [] → ¬ (IsTooDeep tokens)
+    → length text ≤ text_limit → IsLexed Refused text tokens places → tokens ≡ input i [] → ¬ (IsTooDeep tokens)
     → nodes (tree_of i.term) ≤ 10000 → widest (tree_of i.term) ≤ 255 → Says [] (tree_of i.term) u → IsInputTerm u
 lexed_is_input text tokens places i u short lexed spelled shallow size width says =
     let good = subst AreGood (sym lexed.tokens_are ∙ spelled) (good_tokens Refused true lexed.pieces [] lexed.cut.each_stands lexed.cut.none_refused) in

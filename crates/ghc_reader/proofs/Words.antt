@@ -6,7 +6,8 @@ pub use Rattle.ghc_reader.specs.Derived.{arguments_of, call_of, cells_of, clause
 pub use Rattle.ghc_reader.specs.inner.Front.{Begins, IsNotAssigned, IsNotNamed, NoVariable, StartsWithVariable, first, item_like, like, like_assignment, like_equation, second}
 pub use Rattle.ghc_reader.specs.Grammar.{AreClosedArguments, Arguments, Body, Clause, Expression, Factors, Input, IsClosedRest, Item, Operand, Program, Query, Rest, Right, Term, Terms, Test, Tests, arguments, assign, body, call, clause, clauses, closed, compare, done, expression, fact, factor, factors, goal, guarded, input, integer, item, last, last_test, list, more, nested, next, next_test, one, operand, partial, plain, plain_test, program, query, rest, right, rule, stopped, summand, summands, term, terms, test, tests, unguarded, unify, variable, whole, within, without}
 pub use Rattle.ghc_reader.specs.Laws.{IsSpelledBy, ReadAskIsExact, ReadBodyIsExact, ReadProgramIsExact, ReadQueryIsExact, ReadTermIsExact}
-pub use Rattle.ghc_reader.specs.Lexed.{AreDigits, BeginsNumber, EveryTextIsRead, IsBadAt, IsCutFault, IsCutInto, IsLexFault, IsLexed, IsNumberedAs, IsRefused, IsRefusedToken, IsReserved, IsReservedAs, IsReservedBy, IsTooGreat, NoTextIsReadTwice, greatest_number, most_bytes, piece_of, place_of_token, token_of, token_of_bytes, token_places}
+pub use Rattle.ghc_reader.specs.Lexed.{AreDigits, BeginsNumber, EveryTextIsRead, IsBadAt, IsCutFault, IsCutInto, IsLexFault, IsLexed, IsNumberedAs, IsRefused, IsRefusedToken, IsReserved, IsReservedAs, IsReservedBy, IsTooGreat, NoTextIsReadTwice, greatest_number, piece_of, place_of_token, token_of, token_of_bytes, token_places}
+pub use Rattle.ghc_term.specs.Limit.{text_limit}
 pub use Rattle.ghc_reader.specs.Limits.{first_exceeded, of_ask, of_program, of_query, of_term}
 pub use Rattle.ghc_reader.specs.Lowered.{AreClosed, AreCounted, AreNamed, Each, IsCalled, IsClosed, Names, Says, SaysAll, SaysAllBy, SaysAsked, SaysBy, SaysClause, SaysGoal, SaysGoalBy, SaysGuard, SaysQuery, SaysValue, SaysValueBy, blank, doing, first_variable, is_true, product_operator, sum_operator, tail_of, variable_of}
 pub use Rattle.ghc_reader.specs.inner.Parts.{ClosedFront, EndsArguments, EndsBody, EndsClause, EndsExpression, EndsItem, EndsOperand, EndsProduct, EndsProgram, EndsQuery, EndsRest, EndsRight, EndsTerm, EndsTerms, EndsTest, EndsTests, EndsWhole, Fault, Found, FoundAt}

@@ -8,6 +8,7 @@ use Rattle.ghc_reader.specs.Bytes.{IsRun, Lacks}
 use Rattle.ghc_reader.specs.Symbols.{token_of_symbol}
 use Rattle.ghc_reader.specs.Pieces.{Piece, Stands, spelled, Cuts, signs_after}
 use Rattle.ghc_reader.specs.Places.{start, place_behind, fault_at}
+use Rattle.ghc_term.specs.Limit.{text_limit}
 use Rattle.ghc_term.specs.declared.fault.Fault.{Fault}
 use Rattle.ghc_term.specs.declared.fault.Fault.TheVariants as fault
 use Rattle.ghc_term.specs.declared.limit.Limit.TheVariants as limit
@@ -60,7 +61,7 @@ abbrev pub IsReservedAs : List ℕ → ℕ → ℕ → Type 0
 IsReservedAs bs n m =
     (first second : List ℕ) × IsReservedBy bs first second × (n ≡ digits_value 10 first) × (m ≡ digits_value 10 second)
 
--- the greatest number of a variable
+-- the greatest number: one that is written has 32 bits
 abbrev pub greatest_number : ℕ
 greatest_number = 4294967295
 
@@ -119,10 +120,6 @@ pub record IsBadAt (reserved : Reserved) (text : List ℕ) (place : Place) : Typ
   pub refused : (p : Piece) (more : List ℕ) → rest ≡ p.bytes ++ more → Stands (signs_after true pieces) p more → IsRefused reserved p
   pub place_is : place ≡ place_behind start (spelled pieces [])
 
--- the most bytes of a text
-abbrev pub most_bytes : ℕ
-most_bytes = 1048576
-
 -- why a text of any length has no tokens: it has a bad byte, or memory was refused
 abbrev pub IsCutFault : Reserved → List ℕ → Fault → Type 0
 IsCutFault reserved text f = (f ≡ fault.Memory) ⊎ ((place : Place) × IsBadAt reserved text place × (f ≡ fault_at place))
@@ -130,8 +127,8 @@ IsCutFault reserved text f = (f ≡ fault.Memory) ⊎ ((place : Place) × IsBadA
 -- why a text has no tokens: it is too long, has a bad byte, or memory was refused
 abbrev pub IsLexFault : Reserved → List ℕ → Fault → Type 0
 IsLexFault reserved text fault.Memory = ⊤
-IsLexFault reserved text (fault.Syntax line column) = (length text ≤ most_bytes) × IsBadAt reserved text (record { line = line; column = column })
-IsLexFault reserved text (fault.Limit limit.Text) = most_bytes < length text
+IsLexFault reserved text (fault.Syntax line column) = (length text ≤ text_limit) × IsBadAt reserved text (record { line = line; column = column })
+IsLexFault reserved text (fault.Limit limit.Text) = text_limit < length text
 IsLexFault reserved text f = ⊥
 
 -- ---- laws

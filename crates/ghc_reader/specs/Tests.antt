@@ -9,7 +9,8 @@ use Rattle.ghc_reader.specs.declared.place.Place.{Place}
 use Rattle.ghc_reader.specs.declared.lexer.value.Reserved.{Reserved}
 use Rattle.ghc_reader.specs.declared.lexer.value.Reserved.TheVariants.{Refused, Allowed}
 use Rattle.ghc_reader.specs.Places.{fault_at}
-use Rattle.ghc_reader.specs.Lexed.{IsLexed, IsBadAt, most_bytes}
+use Rattle.ghc_reader.specs.Lexed.{IsLexed, IsBadAt}
+use Rattle.ghc_term.specs.Limit.{text_limit}
 use Rattle.ghc_reader.specs.Depth.{IsTooDeep}
 use Rattle.ghc_reader.specs.Viable.{FaultAt}
 use Rattle.ghc_reader.specs.Grammar.{Program, Query, Input, program, query, input}
@@ -99,7 +100,7 @@ IsFaultAt places n f = (place : Place) × (slice_get places n ≡ Some place) ×
 module _ (reserved : Reserved) (measured : Bool) where
   -- The text is not too long, where that is tested; these are its tokens with their places, and no byte is bad.
   pub record HasTokens (text : List ℕ) (tokens : List Token) (places : List Place) : Type 0 where
-    pub short : measured ≡ true → length text ≤ most_bytes
+    pub short : measured ≡ true → length text ≤ text_limit
     pub lexed : IsLexed reserved text tokens places
 
   -- Nor is it nested too deep, where that is tested.
@@ -117,8 +118,8 @@ module _ (reserved : Reserved) (measured : Bool) where
 
   -- the refusal by one of the first three tests: the text is too long, has a bad byte, or is nested too deep
   pub data IsTokenRefusal (text : List ℕ) (f : Fault) : Type 0 where
-    too_long : measured ≡ true → most_bytes < length text → f ≡ fault.Limit limit.Text → IsTokenRefusal text f
-    bad_byte : (place : Place) → (measured ≡ true → length text ≤ most_bytes) → IsBadAt reserved text place → f ≡ fault_at place → IsTokenRefusal text f
+    too_long : measured ≡ true → text_limit < length text → f ≡ fault.Limit limit.Text → IsTokenRefusal text f
+    bad_byte : (place : Place) → (measured ≡ true → length text ≤ text_limit) → IsBadAt reserved text place → f ≡ fault_at place → IsTokenRefusal text f
     too_deep : IsDeep text → f ≡ fault.Limit limit.Depth → IsTokenRefusal text f
 
 module _ (K : Kind) where

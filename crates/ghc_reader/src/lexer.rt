@@ -3,7 +3,8 @@ ghost use Rattle.std.specs.Prelude.{◌≡◌, ◌+◌, ◌<◌, ◌≤◌, ◌�
 ghost use Rattle.std.specs.Option.{option_to_list};
 ghost use Rattle.ghc_reader.specs.Pieces.{signs_behind};
 ghost use Rattle.ghc_reader.specs.Places.{fault_at};
-ghost use Rattle.ghc_reader.specs.Lexed.{place_of_token, IsLexed, IsBadAt, IsCutFault, IsLexFault, greatest_number, most_bytes};
+ghost use Rattle.ghc_reader.specs.Lexed.{place_of_token, IsLexed, IsBadAt, IsCutFault, IsLexFault, greatest_number};
+ghost use Rattle.ghc_term.specs.Limit.{text_limit};
 
 pub(crate) mod front;
 pub(crate) mod laws;
@@ -18,11 +19,8 @@ use crate::lexer::symbol::Symbol;
 use crate::lexer::value::{Reserved, token};
 use crate::place::Place;
 use crate::token::{Mark, Token};
-use ghc_term::{Fault, Limit};
+use ghc_term::{Fault, Limit, TEXT_LIMIT};
 use std::alloc::{AllocError, Global};
-
-/// The most bytes of a program, a query, an input term or what is asked for in mid-run.
-pub(crate) const MOST_BYTES: usize = 1_048_576;
 
 /// So many bytes, and more, may have places past 32 bits.
 const TOO_MANY_BYTES: usize = 4_294_967_294;
@@ -98,25 +96,25 @@ fn cut(alloc: Global, text: &[u8], reserved: Reserved) -> Result<Lexed, Fault>
     Ok(lexed)
 }
 
-/// The tokens of a text. Refused: `Limit::Text` where the text has more than `MOST_BYTES` bytes; else a syntax error at
+/// The tokens of a text. Refused: `Limit::Text` where the text has more than `TEXT_LIMIT` bytes; else a syntax error at
 /// the first byte at which no token starts, or that begins a token that is refused; `Memory`. One pass over the text, with
 /// one look-up among the spellings met so far for each name and variable.
 pub(crate) fn tokens(alloc: Global, text: &[u8], reserved: Reserved) -> Result<Lexed, Fault>
     ensures found { IfOk result (λ lexed. IsLexed reserved text.now lexed.tokens.items lexed.places.items) }
     ensures paired { IfOk result (λ lexed. length lexed.places.items ≡ length lexed.tokens.items + 1) }
     ensures fault { IfErr result (λ fault. IsLexFault reserved text.now fault) }
-    ensures too_long { most_bytes < length text.now → result ≡ Err (Fault.Limit Limit.Text) }
+    ensures too_long { text_limit < length text.now → result ≡ Err (Fault.Limit Limit.Text) }
 
     // No other tokens and places are those of the text, and no other byte is its first bad one.
-    ensures only { (tokens : List Token) (places : List Place) → length text.now ≤ most_bytes
+    ensures only { (tokens : List Token) (places : List Place) → length text.now ≤ text_limit
         → IsLexed reserved text.now tokens places
         → MatchResult result
         (λ lexed. (lexed.tokens.items ≡ tokens) × (lexed.places.items ≡ places))
         (λ fault. fault ≡ Fault.Memory) }
-    ensures only_bad { (place : Place) → length text.now ≤ most_bytes → IsBadAt reserved text.now place
+    ensures only_bad { (place : Place) → length text.now ≤ text_limit → IsBadAt reserved text.now place
         → IsErrAnd result (λ fault. (fault ≡ fault_at place) ⊎ (fault ≡ Fault.Memory)) }
 {
-    if text.len() > MOST_BYTES {
+    if text.len() > TEXT_LIMIT {
         return Err(Fault::Limit(Limit::Text));
     }
     cut(alloc, text, reserved)

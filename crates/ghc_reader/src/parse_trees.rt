@@ -2,7 +2,7 @@
 ghost use Rattle.std.specs.Prelude.{true, false, Bool, List, ℕ, ◌≡◌, ◌⊎◌, ◌+◌, ◌<◌, length, IfOk, IfErr};
 ghost use Rattle.ghc_reader.specs.inner.Views.{view, goal_views, clause_views};
 ghost use Rattle.ghc_reader.specs.declared.lexer.value.Reserved.TheVariants.{Allowed};
-ghost use Rattle.ghc_reader.specs.Lexed.{most_bytes};
+ghost use Rattle.ghc_term.specs.Limit.{text_limit};
 ghost use Rattle.ghc_reader.specs.Limits.{of_query};
 ghost use Rattle.ghc_reader.specs.Viable.{IfSyntax};
 ghost use Rattle.ghc_reader.specs.Tests.{a_program, a_query, asked, an_ask, a_body, a_term, IsShallow, IsRead, IsFaultAt, IsTokenRefusal, IsRefusal};
@@ -28,7 +28,7 @@ fn shallow_tokens(alloc: Global, text: &[u8], reserved: Reserved) -> Result<Lexe
     ensures found { IfOk result (λ lexed. IsShallow reserved true text.now lexed.tokens.items lexed.places.items) }
     ensures paired { IfOk result (λ lexed. length lexed.places.items ≡ length lexed.tokens.items + 1) }
     ensures fault { IfErr result (λ fault. (fault ≡ Fault.Memory) ⊎ IsTokenRefusal reserved true text.now fault) }
-    ensures too_long { most_bytes < length text.now → result ≡ Err (Fault.Limit Limit.Text) }
+    ensures too_long { text_limit < length text.now → result ≡ Err (Fault.Limit Limit.Text) }
 {
     let lexed = tokens(alloc, text, reserved)?;
     if is_too_deep(&lexed.tokens) {
@@ -71,7 +71,7 @@ fn fault_of(error: ParseError, places: &[Place]) -> Fault
 pub(crate) fn parsed_program(alloc: Global, text: &[u8]) -> Result<Vec<SourceClause>, Fault>
     ensures found { IfOk result (λ clauses. IsRead a_program text.now (clause_views clauses.items)) }
     ensures fault { IfErr result (λ fault. (fault ≡ Fault.Memory) ⊎ IsRefusal a_program text.now fault) }
-    ensures too_long { most_bytes < length text.now → result ≡ Err (Fault.Limit Limit.Text) }
+    ensures too_long { text_limit < length text.now → result ≡ Err (Fault.Limit Limit.Text) }
 {
     let lexed = shallow_tokens(alloc, text, Reserved::Refused)?;
     let clauses = match parse_program(alloc, &lexed.tokens) {
@@ -91,7 +91,7 @@ pub(crate) fn parsed_program(alloc: Global, text: &[u8]) -> Result<Vec<SourceCla
 pub(crate) fn parsed_query(alloc: Global, text: &[u8]) -> Result<Vec<SourceGoal>, Fault>
     ensures found { IfOk result (λ goals. IsRead a_query text.now (goal_views goals.items)) }
     ensures fault { IfErr result (λ fault. (fault ≡ Fault.Memory) ⊎ IsRefusal a_query text.now fault) }
-    ensures too_long { most_bytes < length text.now → result ≡ Err (Fault.Limit Limit.Text) }
+    ensures too_long { text_limit < length text.now → result ≡ Err (Fault.Limit Limit.Text) }
 {
     let lexed = shallow_tokens(alloc, text, Reserved::Refused)?;
     let goals = match parse_query(alloc, &lexed.tokens) {
@@ -112,7 +112,7 @@ pub(crate) fn parsed_query(alloc: Global, text: &[u8]) -> Result<Vec<SourceGoal>
 pub(crate) fn parsed_ask(alloc: Global, text: &[u8]) -> Result<Vec<SourceGoal>, Fault>
     ensures found { IfOk result (λ goals. IsRead an_ask text.now (goal_views goals.items)) }
     ensures fault { IfErr result (λ fault. (fault ≡ Fault.Memory) ⊎ IsRefusal an_ask text.now fault) }
-    ensures too_long { most_bytes < length text.now → result ≡ Err (Fault.Limit Limit.Text) }
+    ensures too_long { text_limit < length text.now → result ≡ Err (Fault.Limit Limit.Text) }
 {
     let lexed = shallow_tokens(alloc, text, Reserved::Allowed)?;
     let goals = asked_goals(alloc, &lexed)?;
@@ -160,7 +160,7 @@ fn asked_goals(alloc: Global, lexed: &Lexed) -> Result<Vec<SourceGoal>, Fault>
 pub(crate) fn parsed_term(alloc: Global, text: &[u8]) -> Result<SourceTerm, Fault>
     ensures found { IfOk result (λ term. IsRead a_term text.now (view term)) }
     ensures fault { IfErr result (λ fault. (fault ≡ Fault.Memory) ⊎ IsRefusal a_term text.now fault) }
-    ensures too_long { most_bytes < length text.now → result ≡ Err (Fault.Limit Limit.Text) }
+    ensures too_long { text_limit < length text.now → result ≡ Err (Fault.Limit Limit.Text) }
 {
     let lexed = shallow_tokens(alloc, text, Reserved::Refused)?;
     let term = match parse_term(alloc, &lexed.tokens) {

@@ -2,7 +2,7 @@
 ghost use Rattle.std.specs.Prelude.{◌≡◌, ◌<◌, length};
 ghost use Rattle.ghc_term.specs.Answered.{Answered};
 ghost use Rattle.ghc_term.specs.declared.limit.Limit.TheVariants.{Text};
-ghost use Rattle.ghc_reader.specs.Lexed.{most_bytes};
+ghost use Rattle.ghc_term.specs.Limit.{text_limit};
 ghost use Rattle.ghc_reader.specs.Tests.{a_program, a_query, a_term, an_ask, a_body, IsRefusal};
 ghost use Rattle.ghc_reader.specs.Read.{IsReadProgram, IsReadQuery, IsReadTerm, IsReadAsk, IsReadBody};
 
@@ -14,12 +14,12 @@ use ghc_term::{Fault, Ground, Name};
 use std::alloc::Global;
 
 /// The program that a text says. Else the refusal of the first test that the text does not pass: `Limit::Text` past
-/// 1,048,576 bytes; a syntax error at the first byte that begins no token; `Limit::Depth`; a syntax error at the first
+/// `TEXT_LIMIT` bytes; a syntax error at the first byte that begins no token; `Limit::Depth`; a syntax error at the first
 /// token with which no program goes on; at a head or goal that is reserved; `Limit::Clauses`, `Arity`, `Goals` and
 /// `Variables`; or `Memory`. Time and memory grow with the text.
 pub fn read_program(alloc: Global, text: &[u8]) -> Result<Source, Fault>
     ensures answer { Answered (IsReadProgram text.now) (IsRefusal a_program text.now) result }
-    ensures too_long { most_bytes < length text.now → result ≡ Err (Fault.Limit Text) }
+    ensures too_long { text_limit < length text.now → result ≡ Err (Fault.Limit Text) }
 {
     let clauses = match parsed_program(alloc, text) {
         Ok(clauses) => clauses,
@@ -32,7 +32,7 @@ pub fn read_program(alloc: Global, text: &[u8]) -> Result<Source, Fault>
 /// The query that a text says, or its refusal, as `read_program`; there is no `Limit::Clauses`.
 pub fn read_query(alloc: Global, text: &[u8]) -> Result<Query, Fault>
     ensures answer { Answered (IsReadQuery text.now) (IsRefusal a_query text.now) result }
-    ensures too_long { most_bytes < length text.now → result ≡ Err (Fault.Limit Text) }
+    ensures too_long { text_limit < length text.now → result ≡ Err (Fault.Limit Text) }
 {
     let goals = match parsed_query(alloc, text) {
         Ok(goals) => goals,
@@ -49,7 +49,7 @@ pub fn read_query(alloc: Global, text: &[u8]) -> Result<Query, Fault>
 /// and the names.
 pub fn read_ask(alloc: Global, text: &[u8], query: &[Name]) -> Result<WrittenAsk, Fault>
     ensures answer { Answered (IsReadAsk query.now text.now) (IsRefusal an_ask text.now) result }
-    ensures too_long { most_bytes < length text.now → result ≡ Err (Fault.Limit Text) }
+    ensures too_long { text_limit < length text.now → result ≡ Err (Fault.Limit Text) }
 {
     let goals = match parsed_ask(alloc, text) {
         Ok(goals) => goals,
@@ -77,7 +77,7 @@ pub fn read_body(alloc: Global, text: &[u8]) -> Result<WrittenAsk, Fault>
 /// there is `Limit::Term` past 10,000 nodes.
 pub fn read_ground_term(alloc: Global, text: &[u8]) -> Result<Ground, Fault>
     ensures answer { Answered (IsReadTerm text.now) (IsRefusal a_term text.now) result }
-    ensures too_long { most_bytes < length text.now → result ≡ Err (Fault.Limit Text) }
+    ensures too_long { text_limit < length text.now → result ≡ Err (Fault.Limit Text) }
 {
     let parsed = match parsed_term(alloc, text) {
         Ok(parsed) => parsed,

@@ -49,5 +49,5 @@ pub use table::name_hasher::{NameMap, NameSet};
 pub use table::variable_map::VariableMap;
 pub use table::variables::Variables;
 pub use term::Term;
-pub use var_name::VarName;
+pub use var_name::{NO_STEP, VarName};
 pub use view::TermView;

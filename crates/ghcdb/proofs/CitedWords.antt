@@ -34,7 +34,7 @@ pub use Rattle.ghc_flat.specs.declared.refused.Refused.{Refused}
 pub use Rattle.ghc_reader.proofs.ExactReading.{no_program_refused, no_query_refused, one_program_refusal, one_query_refusal}
 pub use Rattle.ghc_reader.proofs.OneMeaning.{one_program_read, one_query_read}
 pub use Rattle.ghc_reader.proofs.OneReading.{answered_once, one_program_tree}
-pub use Rattle.ghc_reader.specs.Lexed.{most_bytes}
+pub use Rattle.ghc_term.specs.Limit.{text_limit}
 pub use Rattle.ghc_reader.specs.Read.{IsReadProgram, IsReadQuery}
 pub use Rattle.ghc_reader.specs.Tests.{IsRefusal, a_program, by_tokens, too_long}
 pub use Rattle.ghc_reader.specs.Written.{WrittenClause, WrittenQuery}

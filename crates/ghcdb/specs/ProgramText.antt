@@ -2,14 +2,14 @@
 use Rattle.std.specs.Prelude.{◌↔◌, ◌+◌, ◌≤◌, ℕ, List, Option, length, take}
 use Rattle.std.specs.Io.KnownBytes.{Consumes}
 use Rattle.ghc_term.specs.declared.fault.Fault.{Fault}
-use Rattle.ghc_reader.specs.Lexed.{most_bytes}
+use Rattle.ghc_term.specs.Limit.{text_limit}
 use Rattle.ghc_reader.specs.Read.{IsReadProgram}
 use Rattle.ghc_reader.specs.Tests.{a_program, IsRefusal}
 use Rattle.ghc_reader.specs.Written.{WrittenClause}
 
 -- so many bytes at most: one more than a program may have
 abbrev pub most_read : ℕ
-most_read = most_bytes + 1
+most_read = text_limit + 1
 
 -- The bytes to come are now those after the ones that were taken, which are no more than this.
 abbrev pub TakesAtMost : ℕ → Option (List ℕ) → Option (List ℕ) → Type 0

@@ -5,12 +5,10 @@ ghost use Rattle.std.specs.Io.KnownBytes.{Consumes, IsAtEnd, ReadConsumes};
 ghost use Rattle.ghcdb.specs.HistoryFront.{IsHeadingLine, IsReadOf, heading_bytes};
 ghost use Rattle.ghcdb.specs.ProgramText.{TakesAtMost, most_read};
 
+use ghc_term::TEXT_LIMIT;
 use std::alloc::Global;
 use std::io;
 use std::io::{ErrorKind, Read};
-
-// The most bytes of a program.
-const TEXT_LIMIT: usize = 1_048_576;
 
 // The bytes of the first line of a history, its line feed among them.
 const HEADING_BYTES: usize = 14;

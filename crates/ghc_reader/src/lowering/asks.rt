@@ -11,13 +11,10 @@ use crate::lowering::goals::lower_body;
 use crate::lowering::lists::Lists;
 use crate::lowering::scope::Scope;
 use crate::source::SourceGoal;
-use ghc_term::{Name, VarName};
+use ghc_term::{NO_STEP, Name, VarName};
 use indexmap::IndexMap;
 use std::alloc::{AllocError, Global};
 use std::marker::Model;
-
-/// The number that no step has.
-const NO_STEP: u32 = 4_294_967_295;
 
 /// The names of a query's variables, with the places of those that are not `_`. Contracts see the names.
 struct Known<'a> {
