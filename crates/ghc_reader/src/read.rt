@@ -21,10 +21,7 @@ pub fn read_program(alloc: Global, text: &[u8]) -> Result<Source, Fault>
     ensures answer { Answered (IsReadProgram text.now) (IsRefusal a_program text.now) result }
     ensures too_long { text_limit < length text.now → result ≡ Err (Fault.Limit Text) }
 {
-    let clauses = match parsed_program(alloc, text) {
-        Ok(clauses) => clauses,
-        Err(fault) => return Err(fault),
-    };
+    let clauses = parsed_program(alloc, text)?;
     let source = lower_program(alloc, &clauses)?;
     Ok(source)
 }
@@ -34,10 +31,7 @@ pub fn read_query(alloc: Global, text: &[u8]) -> Result<Query, Fault>
     ensures answer { Answered (IsReadQuery text.now) (IsRefusal a_query text.now) result }
     ensures too_long { text_limit < length text.now → result ≡ Err (Fault.Limit Text) }
 {
-    let goals = match parsed_query(alloc, text) {
-        Ok(goals) => goals,
-        Err(fault) => return Err(fault),
-    };
+    let goals = parsed_query(alloc, text)?;
     let query = lower_query(alloc, &goals)?;
     Ok(query)
 }
@@ -51,10 +45,7 @@ pub fn read_ask(alloc: Global, text: &[u8], query: &[Name]) -> Result<WrittenAsk
     ensures answer { Answered (IsReadAsk query.now text.now) (IsRefusal an_ask text.now) result }
     ensures too_long { text_limit < length text.now → result ≡ Err (Fault.Limit Text) }
 {
-    let goals = match parsed_ask(alloc, text) {
-        Ok(goals) => goals,
-        Err(fault) => return Err(fault),
-    };
+    let goals = parsed_ask(alloc, text)?;
     let asked = lower_ask(alloc, &goals, query)?;
     Ok(asked)
 }
@@ -65,10 +56,7 @@ pub fn read_ask(alloc: Global, text: &[u8], query: &[Name]) -> Result<WrittenAsk
 pub fn read_body(alloc: Global, text: &[u8]) -> Result<WrittenAsk, Fault>
     ensures { Answered (IsReadBody text.now) (IsRefusal a_body text.now) result }
 {
-    let goals = match parsed_body(alloc, text) {
-        Ok(goals) => goals,
-        Err(fault) => return Err(fault),
-    };
+    let goals = parsed_body(alloc, text)?;
     let asked = lower_ask(alloc, &goals, &[])?;
     Ok(asked)
 }
@@ -79,10 +67,7 @@ pub fn read_ground_term(alloc: Global, text: &[u8]) -> Result<Ground, Fault>
     ensures answer { Answered (IsReadTerm text.now) (IsRefusal a_term text.now) result }
     ensures too_long { text_limit < length text.now → result ≡ Err (Fault.Limit Text) }
 {
-    let parsed = match parsed_term(alloc, text) {
-        Ok(parsed) => parsed,
-        Err(fault) => return Err(fault),
-    };
+    let parsed = parsed_term(alloc, text)?;
     let term = lower_closed(alloc, &parsed)?;
     Ok(Ground::new(term).ok().unwrap())
 }
