@@ -1,8 +1,9 @@
 // A journal is played again from a new core: each step as a proposal and a commit of one hand, each undo as a command.
 use crate::tests::unifications::{goal, two};
-use ghc_core::{Command, Core, Event, World};
+use ghc_core::{Command, Core, Event, Reply, World};
 use ghc_fire::Act;
 use ghc_records::{Entry, Journal};
+use ghc_term::Fault;
 use std::alloc::Global;
 use std::test::*;
 
@@ -95,8 +96,19 @@ fn first_step(alloc: Global) -> Option<Vec<Event>> {
     Some(events)
 }
 
-// `rt try --test --fail-alloc N` refuses the Nth request for memory: for one N that is the room for the replies, and then nothing is
-// played; the next play has memory.
+// Whether memory was refused for one of the events.
+fn is_starved(replies: &[Reply]) -> bool {
+    for reply in replies {
+        if matches!(reply, Reply::Refused(Fault::Memory)) {
+            return true;
+        }
+    }
+    false
+}
+
+// `rt try --test --fail-alloc N` refuses the Nth request for memory. For one N that is the room for the replies: then nothing is played
+// and nothing is counted. For those after it, it is memory of an event: the event is refused, and nothing is kept, but the proposal has
+// counted. The next play has memory, and takes the step.
 #[test]
 fn refused_play_plays_nothing(rt: HostRuntime) -> Result<(), Fail> {
     let alloc = rt.alloc();
@@ -105,12 +117,25 @@ fn refused_play_plays_nothing(rt: HostRuntime) -> Result<(), Fail> {
     let Ok(mut world) = World::new(alloc, core, 1) else {
         return Err("memory for the hand".into());
     };
-    if world.play(alloc, events.as_slice()).is_err() {
-        assert_eq!(rt; world.core().journal().len(), 0);
-        assert_eq!(rt; world.meter().firings(), 0);
-        world.play(alloc, events.as_slice())?;
+    match world.play(alloc, events.as_slice()) {
+        Ok(replies) => {
+            if is_starved(replies.as_slice()) {
+                assert_eq!(rt; world.core().journal().len(), 0);
+                assert_eq!(rt; world.core().records().len(), 0);
+                assert_eq!(rt; world.meter().firings(), 1);
+                world.play(alloc, events.as_slice())?;
+                assert_eq!(rt; world.meter().firings(), 2);
+            } else {
+                assert_eq!(rt; world.meter().firings(), 1);
+            }
+        }
+        Err(_) => {
+            assert_eq!(rt; world.core().journal().len(), 0);
+            assert_eq!(rt; world.meter().firings(), 0);
+            world.play(alloc, events.as_slice())?;
+            assert_eq!(rt; world.meter().firings(), 1);
+        }
     }
     assert_eq!(rt; world.core().journal().len(), 1);
-    assert_eq!(rt; world.meter().firings(), 1);
     Ok(())
 }

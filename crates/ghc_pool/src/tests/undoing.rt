@@ -1,36 +1,38 @@
-// While a worker of a round holds a proposal, another thread undoes the step that made its goal.
-ghost use Rattle.std.specs.Prelude.{◌≡◌, ◌+◌, length};
+// While a worker of a round holds a proposal, a thread that is none of its workers undoes the step that made the goal.
+ghost use Rattle.std.specs.Prelude.{◌≡◌, ◌≤◌, ◌<◌, ◌+◌, ℕ, length, IfSome};
+ghost use Rattle.std.specs.Vec.{vec_len};
 ghost use Rattle.ghc_records.specs.Journal.{history};
+ghost use Rattle.ghc_shared.specs.Passes.{AreAll};
 ghost use Rattle.ghc_shared.specs.inner.Calls.{code_of};
 
+use crate::answer::{Answer, Work};
 use crate::gate::Gate;
 use crate::mode::Mode;
-use crate::rounds::round::round;
+use crate::rounds::round::{RoundReport, round};
 use crate::scope::Scope;
+use crate::tests::played_again::is_played_again;
 use crate::tests::unifications::{core_of, counts, goal};
 use ghc_core::{Command, Core, Reply};
 use ghc_fire::Meter;
+use ghc_records::{Entry, Journal};
 use ghc_shared::{Naming, Opening, Pass, Shared};
-use ghc_term::GoalName;
+use ghc_term::{Fault, GoalName};
 use ghc_trace::SpySet;
 use std::alloc::Global;
 use std::marker::Brand;
 use std::process::Abort;
+use std::sync::Wait;
 use std::sync::atomic::{AtomicU64, Ordering};
-use std::sync::{Mutex, Wait};
 use std::test::*;
 use std::thread;
 use std::thread::Threads;
 use std::time::{Clock, Duration};
 
-// A gate at which the worker that holds a proposal of goal 1.1 waits until the worker that holds one of 1.2 has undone step 1, which made
-// both. Each word is 1 when it was so, and 0 before.
+// A gate at which the worker that holds a proposal of goal 1.1 waits until a thread that is no worker has undone step 1, which made 1.1.
+// Each word is 1 when it was so, and 0 before.
 #[derive(Drop)]
-struct Undoing<'a, N: Naming, R: Wait + Clock> {
+struct Undoing<'a, R: Wait + Clock> {
     rt: &'a R,
-    alloc: Global,
-    shared: &'a Shared<Core, N>,
-    other: Mutex<Pass<Core, N>>,
     // A proposal of 1.1 is held.
     held: AtomicU64,
     // Just step 1 was undone.
@@ -47,7 +49,7 @@ fn is_first_undone(reply: &Reply) -> bool {
     }
 }
 
-impl<N: Naming, R: Wait + Clock> Undoing<'_, N, R> {
+impl<R: Wait + Clock> Undoing<'_, R> {
     // Whether the word is 1 within 10,000 turns of a millisecond's sleep.
     fn is_set(&self, word: &AtomicU64) -> bool {
         for _ in 0..10_000 {
@@ -59,19 +61,27 @@ impl<N: Naming, R: Wait + Clock> Undoing<'_, N, R> {
         false
     }
 
-    // Undoes step 1 with the other pass.
-    fn undo(&self) {
-        let mut other = self.other.lock(self.rt);
-        let receipt = self
-            .shared
-            .command(self.rt, self.alloc, &mut other, Command::Undo(1));
-        if is_first_undone(&receipt.reply) {
-            self.undone.store(1, Ordering::SeqCst);
+    // Undoes step 1 with the pass, once a proposal of 1.1 is held, and gives the pass back.
+    fn undo<N: Naming>(
+        &self,
+        alloc: Global,
+        shared: &Shared<Core, N>,
+        pass: Pass<Core, N>,
+    ) -> Pass<Core, N>
+        ensures { result.number ≡ pass.number }
+    {
+        let mut me = pass;
+        if self.is_set(&self.held) {
+            let receipt = shared.command(self.rt, alloc, &mut me, Command::Undo(1));
+            if is_first_undone(&receipt.reply) {
+                self.undone.store(1, Ordering::SeqCst);
+            }
         }
+        me
     }
 }
 
-impl<N: Naming, R: Wait + Clock> Gate for Undoing<'_, N, R> {
+impl<R: Wait + Clock> Gate for Undoing<'_, R> {
     fn held(&self, worker: usize, goal: GoalName) {
         let _ = worker;
         if goal.step == 1 && goal.place == 1 {
@@ -79,8 +89,6 @@ impl<N: Naming, R: Wait + Clock> Gate for Undoing<'_, N, R> {
             if self.is_set(&self.undone) {
                 self.seen.store(1, Ordering::SeqCst);
             }
-        } else if self.is_set(&self.held) {
-            self.undo();
         }
     }
 
@@ -90,12 +98,78 @@ impl<N: Naming, R: Wait + Clock> Gate for Undoing<'_, N, R> {
     }
 }
 
+// A round of goal 1.1 alone, by a worker for each pass; none where memory is refused for it.
+fn round_of_one<N: Naming + Send + Sync, R: Threads + Wait + Clock + Sync>(
+    gate: &Undoing<'_, R>,
+    alloc: Global,
+    shared: &Shared<Core, N>,
+    passes: Vec<Pass<Core, N>>,
+) -> Option<(Vec<Pass<Core, N>>, RoundReport)>
+    requires count { (0 < vec_len passes) × (vec_len passes ≤ 64) }
+    ensures all { (n k : ℕ) → AreAll n k passes.items → IfSome result (λ r. AreAll n k r.0.items) }
+{
+    let names = [GoalName { step: 1, place: 1 }];
+    let spies = SpySet::new(alloc);
+    let mode = Mode::Leap { limit: 10 };
+    match round(
+        gate.rt,
+        alloc,
+        shared,
+        passes,
+        &mode,
+        &Scope::Any,
+        &spies,
+        &names,
+        gate,
+    ) {
+        Ok(ended) => Some(ended),
+        Err(_passes) => None,
+    }
+}
+
+// How many submits of goal 1.1 were refused as stale.
+fn stale_in(work: &Work) -> usize {
+    let mut stale = 0usize;
+    for taken in &work.taken {
+        if let (GoalName { step: 1, place: 1 }, Answer::Submitted(receipt)) = taken {
+            if !receipt.accepted && matches!(receipt.reply, Reply::Refused(Fault::Stale)) {
+                stale = stale.wrapping_add(1);
+            }
+        }
+    }
+    stale
+}
+
+// How many of all workers were.
+fn stale_of(report: &RoundReport) -> usize {
+    let mut stale = 0usize;
+    for work in &report.workers {
+        stale = stale.wrapping_add(stale_in(work));
+    }
+    stale
+}
+
+// Whether the journal tells that step 1 was taken and undone, and nothing else.
+fn is_taken_and_undone(journal: &Journal) -> bool {
+    match (journal.at(0), journal.at(1)) {
+        (Some(Entry::Took(step)), Some(Entry::Undid(number))) => {
+            journal.len() == 2 && step.number() == 1 && *number == 1
+        }
+        _ => false,
+    }
+}
+
 const APPEND: &[u8] =
     b"append([],Y,Z) :- true | Z = Y. append([A|X],Y,Z) :- true | Z = [A|Z1], append(X,Y,Z1).";
 
-// The core of a query in which step 1 is taken: it makes 1.1 and 1.2.
+// The core of a query of which no step is taken.
+fn unbegun(alloc: Global) -> Option<Core> {
+    core_of(alloc, APPEND, b"append([1],[2],R)")
+}
+
+// The same core after step 1, which makes 1.1 and 1.2.
 fn begun(alloc: Global) -> Option<Core> {
-    let mut core = core_of(alloc, APPEND, b"append([1],[2],R)")?;
+    let mut core = unbegun(alloc)?;
     let mut meter = Meter::new();
     let proposal = core.attempt(alloc, &mut meter, goal(1), None).ok()?;
     core.commit(alloc, &proposal).ok()?;
@@ -111,7 +185,8 @@ fn undo_under_a_held_proposal(rt: HostRuntime) -> Result<(), Fail> {
     undo_named::<Brand, _>(&rt, rt.alloc(), opening)
 }
 
-// Step 1 was taken before and is undone, which is all that the journal tells: both steps that were proposed are refused.
+// Step 1 was taken before. While one of two workers holds a proposal of 1.1, a thread that is no worker undoes step 1 with the first
+// pass. So the proposal is stale and nothing is kept; the journal comes again where a new core is given its events.
 fn undo_named<N: Naming + Send + Sync, R: Threads + Wait + Clock + Abort + Sync>(
     rt: &R,
     alloc: Global,
@@ -126,45 +201,38 @@ fn undo_named<N: Naming + Send + Sync, R: Threads + Wait + Clock + Abort + Sync>
     let Ok((shared, mut passes)) = opening.named::<N>(alloc) else {
         return Err("memory for the passes".into());
     };
-    let Some(other) = passes.pop() else {
-        return Err("three passes".into());
-    };
-    if passes.is_empty() || passes.len() > 64 {
+    if passes.len() < 2 || passes.len() > 64 {
         return Err("three passes".into());
     }
+    let other = passes.remove(0);
     let gate = Undoing {
         rt,
-        alloc,
-        shared: &shared,
-        other: Mutex::new(other),
         held: AtomicU64::new(0),
         undone: AtomicU64::new(0),
         seen: AtomicU64::new(0),
     };
-    let names = [
-        GoalName { step: 1, place: 1 },
-        GoalName { step: 1, place: 2 },
-    ];
-    let spies = SpySet::new(alloc);
-    let mode = Mode::Leap { limit: 10 };
-    let Ok((mut passes, report)) = round(
+    let (other, ended) = thread::join(
         rt,
-        alloc,
-        &shared,
-        passes,
-        &mode,
-        &Scope::Any,
-        &spies,
-        &names,
-        &gate,
-    ) else {
-        return Err("memory for the round".into());
-    };
+        ||
+            ensures { result.number ≡ other.number }
+        { gate.undo(alloc, &shared, other) },
+        ||
+            requires { (0 < vec_len passes) × (vec_len passes ≤ 64) }
+            ensures { (n k : ℕ) → AreAll n k passes.items → IfSome result (λ r. AreAll n k r.0.items) }
+        { round_of_one(&gate, alloc, &shared, passes) },
+    );
+    let (mut passes, report) = ended.ok_or("memory for the round")?;
     assert_eq!(rt; gate.seen.load(Ordering::SeqCst), 1);
-    assert_eq!(rt; counts(&report), (2, 2, 0, 0));
-    let mut pass = passes.pop().ok_or("a pass")?;
-    let shown = shared.look(rt, alloc, &mut pass).or(Err("memory"))?;
-    assert_eq!(rt; shown.length, 2);
-    assert_eq!(rt; shown.kept.len(), 0);
+    assert_eq!(rt; counts(&report), (1, 1, 0, 0));
+    assert_eq!(rt; stale_of(&report), 1);
+    assert!(rt; report.stop.is_none());
+    let Ok(()) = passes.insert(0, other) else {
+        return Err("memory for the passes".into());
+    };
+    let core = shared.close(passes);
+    assert_eq!(rt; core.records().len(), 0);
+    assert!(rt; is_taken_and_undone(core.journal()));
+    let new = unbegun(alloc).ok_or("a core")?;
+    assert!(rt; is_played_again(alloc, core.journal(), new));
     Ok(())
 }
