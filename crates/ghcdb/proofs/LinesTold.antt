@@ -45,7 +45,7 @@ use Rattle.ghc_console.specs.Replies.{Takes, RepliesToKeep, RepliesToKeepGoal, R
 use Rattle.ghc_console.specs.RunReplies.{TellsRun, RepliesToSkip}
 use Rattle.ghc_console.specs.SessionState.{LeavesSpies}
 use Rattle.ghc_console.specs.declared.command.LineCommand.{LineCommand}
-use Rattle.ghc_console.specs.declared.command.LineCommand.TheVariants.{Nothing, Step as step, Obey, Show, Records, Since, Causes, GoalOf, Clauses, Goals, Why, Who, Explain, ExplainGoal, Keep, KeepGoal, Shelf, Save, SaveSteps, Spy, Unspy, Input, Ask, Leap, Skip, Quit, Unknown}
+use Rattle.ghc_console.specs.declared.command.LineCommand.TheVariants.{Step as step, Obey, Keep, KeepGoal, Spy, Unspy, Input, Ask, Leap, Skip}
 use Rattle.ghcdb.proofs.GoalNumbers.{HasShortBodies, goals_small}
 use Rattle.ghcdb.proofs.SaidEntries.{CanBeGiven, ChangeCanBeGiven, entry_said}
 use Rattle.ghcdb.proofs.SessionsStay.{both, either, same_predicate}
@@ -162,12 +162,8 @@ module _ (w : World) (told : IsTold w) where
   -- a command of a line is no input and no ask
   given_tells : (c : Given) (text : List ℕ) (v : World) → IsSaidByLine (Obey c) → IsObeyed w (core_command_of c) text v → IsTold v
   given_tells (core.Input k u) text v said is = absurd said
-  given_tells (core.Close k) text v said is = obeyed_tells _ text v (λ m t e. cc) (λ gs r e. cc) is
-  given_tells (core.Undo n) text v said is = obeyed_tells _ text v (λ m t e. cc) (λ gs r e. cc) is
-  given_tells (core.Roll n) text v said is = obeyed_tells _ text v (λ m t e. cc) (λ gs r e. cc) is
-  given_tells (core.Redo n) text v said is = obeyed_tells _ text v (λ m t e. cc) (λ gs r e. cc) is
-  given_tells (core.Arrange order) text v said is = obeyed_tells _ text v (λ m t e. cc) (λ gs r e. cc) is
   given_tells (core.Ask goals) text v said is = absurd said
+  given_tells c text v said is = obeyed_tells _ text v (λ m t e. cc) (λ gs r e. cc) is
 
   ran_tells : (workers : ℕ) (spies : Spies) (root : Option GoalName) (limit : ℕ) (text : List ℕ) (v : World) → TellsRun workers spies root limit w text v → IsTold v
   ran_tells workers spies root limit text v is = run_tells workers spies root w is.run.before v is.notes is.run.steps told is.run.taken
@@ -193,33 +189,15 @@ module _ (w : World) (told : IsTold w) where
   keep_goal_tells g text v (RepliesToKeepGoal.keeps_no_goal none) = told
 
   reply_tells : (workers : ℕ) (spies : Spies) (c : LineCommand) (text : List ℕ) (v : World) → IsSaidByLine c → Replies workers spies w c text v → IsTold v
-  reply_tells workers spies Nothing text v said is = stays w v told is.1
   reply_tells workers spies (step g choice) text v said is = step_tells g choice text v is
   reply_tells workers spies (Obey c) text v said is = given_tells c text v said is
-  reply_tells workers spies (Show word) text v said is = stays w v told is.1
-  reply_tells workers spies Records text v said is = stays w v told is.1
-  reply_tells workers spies (Since n) text v said is = stays w v told is.1
-  reply_tells workers spies Causes text v said is = stays w v told is.1
-  reply_tells workers spies (GoalOf n) text v said is = stays w v told is.1
-  reply_tells workers spies (Clauses g) text v said is = stays w v told is.1
-  reply_tells workers spies Goals text v said is = stays w v told is.1
-  reply_tells workers spies (Why n) text v said is = stays w v told is.1
-  reply_tells workers spies (Who word) text v said is = stays w v told is.1
-  reply_tells workers spies (Explain word) text v said is = stays w v told is.1
-  reply_tells workers spies (ExplainGoal g) text v said is = stays w v told is.1
   reply_tells workers spies (Keep word) text v said is = keep_tells word text v is
   reply_tells workers spies (KeepGoal g) text v said is = keep_goal_tells g text v is
-  reply_tells workers spies Shelf text v said is = stays w v told is.1
-  reply_tells workers spies Save text v said is = stays w v told is.1
-  reply_tells workers spies SaveSteps text v said is = stays w v told is.1
-  reply_tells workers spies (Spy f n) text v said is = stays w v told is.1
-  reply_tells workers spies (Unspy f n) text v said is = stays w v told is.1
   reply_tells workers spies (Input k bytes) text v said is = input_tells k bytes text v is
   reply_tells workers spies (Ask bytes) text v said is = ask_tells bytes text v is
   reply_tells workers spies (Leap limit) text v said is = ran_tells workers spies None limit text v is
   reply_tells workers spies (Skip g) text v said is = skip_tells workers spies g text v is
-  reply_tells workers spies Quit text v said is = stays w v told is.1
-  reply_tells workers spies Unknown text v said is = stays w v told is.1
+  reply_tells workers spies c text v said is = stays w v told is.1
 
 -- ---- the predicates that are spied
 
@@ -242,31 +220,7 @@ leaves_named : (workers : ℕ) (spies : Spies) (w : World) (c : LineCommand) (te
     → LeavesSpies w.opening.program spies c left → HaveNames left
 leaves_named workers spies w (Spy f n) text v left named said told leaves = spied_named w.opening.program spies f n text left named said told.0 leaves
 leaves_named workers spies w (Unspy f n) text v left named said told leaves = subst HaveNames (sym leaves) (removed_named spies f n named)
-leaves_named workers spies w Nothing text v left named said told leaves = subst HaveNames (sym leaves) named
-leaves_named workers spies w (step g choice) text v left named said told leaves = subst HaveNames (sym leaves) named
-leaves_named workers spies w (Obey c) text v left named said told leaves = subst HaveNames (sym leaves) named
-leaves_named workers spies w (Show word) text v left named said told leaves = subst HaveNames (sym leaves) named
-leaves_named workers spies w Records text v left named said told leaves = subst HaveNames (sym leaves) named
-leaves_named workers spies w (Since n) text v left named said told leaves = subst HaveNames (sym leaves) named
-leaves_named workers spies w Causes text v left named said told leaves = subst HaveNames (sym leaves) named
-leaves_named workers spies w (GoalOf n) text v left named said told leaves = subst HaveNames (sym leaves) named
-leaves_named workers spies w (Clauses g) text v left named said told leaves = subst HaveNames (sym leaves) named
-leaves_named workers spies w Goals text v left named said told leaves = subst HaveNames (sym leaves) named
-leaves_named workers spies w (Why n) text v left named said told leaves = subst HaveNames (sym leaves) named
-leaves_named workers spies w (Who word) text v left named said told leaves = subst HaveNames (sym leaves) named
-leaves_named workers spies w (Explain word) text v left named said told leaves = subst HaveNames (sym leaves) named
-leaves_named workers spies w (ExplainGoal g) text v left named said told leaves = subst HaveNames (sym leaves) named
-leaves_named workers spies w (Keep word) text v left named said told leaves = subst HaveNames (sym leaves) named
-leaves_named workers spies w (KeepGoal g) text v left named said told leaves = subst HaveNames (sym leaves) named
-leaves_named workers spies w Shelf text v left named said told leaves = subst HaveNames (sym leaves) named
-leaves_named workers spies w Save text v left named said told leaves = subst HaveNames (sym leaves) named
-leaves_named workers spies w SaveSteps text v left named said told leaves = subst HaveNames (sym leaves) named
-leaves_named workers spies w (Input k bytes) text v left named said told leaves = subst HaveNames (sym leaves) named
-leaves_named workers spies w (Ask bytes) text v left named said told leaves = subst HaveNames (sym leaves) named
-leaves_named workers spies w (Leap limit) text v left named said told leaves = subst HaveNames (sym leaves) named
-leaves_named workers spies w (Skip g) text v left named said told leaves = subst HaveNames (sym leaves) named
-leaves_named workers spies w Quit text v left named said told leaves = subst HaveNames (sym leaves) named
-leaves_named workers spies w Unknown text v left named said told leaves = subst HaveNames (sym leaves) named
+leaves_named workers spies w c text v left named said told leaves = subst HaveNames (sym leaves) named
 
 -- ---- lines
 

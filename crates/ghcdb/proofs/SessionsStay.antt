@@ -20,7 +20,7 @@ use Rattle.ghc_console.specs.Replies.{Takes, RepliesToKeep, RepliesToKeepGoal, R
 use Rattle.ghc_console.specs.RunReplies.{TellsRun, RepliesToSkip}
 use Rattle.ghc_console.specs.SessionState.{LeavesSpies}
 use Rattle.ghc_console.specs.declared.command.LineCommand.{LineCommand}
-use Rattle.ghc_console.specs.declared.command.LineCommand.TheVariants.{Nothing, Step, Obey, Show, Records, Since, Causes, GoalOf, Clauses, Goals, Why, Who, Explain, ExplainGoal, Keep, KeepGoal, Shelf, Save, SaveSteps, Spy, Unspy, Input, Ask, Leap, Skip, Quit, Unknown}
+use Rattle.ghc_console.specs.declared.command.LineCommand.TheVariants.{Step, Obey, Keep, KeepGoal, Spy, Unspy, Input, Ask, Leap, Skip}
 use Rattle.ghcdb.specs.Sessions.{IsStateOf, SessionsStaySessions}
 
 -- changes lead to the world v, and it has the opening of the world w
@@ -94,33 +94,15 @@ module _ (w : World) (at : Reaches w) where
   keep_goal_goes g text v (RepliesToKeepGoal.keeps_no_goal none) = (at, refl)
 
   reply_goes : (workers : ℕ) (spies : Spies) (c : LineCommand) (text : List ℕ) (v : World) → Replies workers spies w c text v → Goes w v
-  reply_goes workers spies Nothing text v is = stays w v at is.1
   reply_goes workers spies (Step g choice) text v is = step_goes g choice text v is
   reply_goes workers spies (Obey c) text v is = obeyed_goes _ text v is
-  reply_goes workers spies (Show word) text v is = stays w v at is.1
-  reply_goes workers spies Records text v is = stays w v at is.1
-  reply_goes workers spies (Since n) text v is = stays w v at is.1
-  reply_goes workers spies Causes text v is = stays w v at is.1
-  reply_goes workers spies (GoalOf n) text v is = stays w v at is.1
-  reply_goes workers spies (Clauses g) text v is = stays w v at is.1
-  reply_goes workers spies Goals text v is = stays w v at is.1
-  reply_goes workers spies (Why n) text v is = stays w v at is.1
-  reply_goes workers spies (Who word) text v is = stays w v at is.1
-  reply_goes workers spies (Explain word) text v is = stays w v at is.1
-  reply_goes workers spies (ExplainGoal g) text v is = stays w v at is.1
   reply_goes workers spies (Keep word) text v is = keep_goes word text v is
   reply_goes workers spies (KeepGoal g) text v is = keep_goal_goes g text v is
-  reply_goes workers spies Shelf text v is = stays w v at is.1
-  reply_goes workers spies Save text v is = stays w v at is.1
-  reply_goes workers spies SaveSteps text v is = stays w v at is.1
-  reply_goes workers spies (Spy f n) text v is = stays w v at is.1
-  reply_goes workers spies (Unspy f n) text v is = stays w v at is.1
   reply_goes workers spies (Input k given) text v is = input_goes k given text v is
   reply_goes workers spies (Ask given) text v is = ask_goes given text v is
   reply_goes workers spies (Leap limit) text v is = tells_goes workers spies None limit text v is
   reply_goes workers spies (Skip g) text v is = skip_goes workers spies g text v is
-  reply_goes workers spies Quit text v is = stays w v at is.1
-  reply_goes workers spies Unknown text v is = stays w v at is.1
+  reply_goes workers spies c text v is = stays w v at is.1
 
 -- ---- the predicates that are spied
 
@@ -155,31 +137,7 @@ spied_known P spies f n text left known (RepliesToSpy.is_undefined none) leaves 
 leaves_known : (workers : ℕ) (spies : Spies) (w : World) (c : LineCommand) (text : List ℕ) (v : World) (left : Spies) → Known w.opening.program spies → Replies workers spies w c text v → LeavesSpies w.opening.program spies c left → Known w.opening.program left
 leaves_known workers spies w (Spy f n) text v left known told leaves = spied_known w.opening.program spies f n text left known told.0 leaves
 leaves_known workers spies w (Unspy f n) text v left known told leaves = subst (Known w.opening.program) (sym leaves) (removed_known w.opening.program spies f n known)
-leaves_known workers spies w Nothing text v left known told leaves = subst (Known w.opening.program) (sym leaves) known
-leaves_known workers spies w (Step g choice) text v left known told leaves = subst (Known w.opening.program) (sym leaves) known
-leaves_known workers spies w (Obey c) text v left known told leaves = subst (Known w.opening.program) (sym leaves) known
-leaves_known workers spies w (Show word) text v left known told leaves = subst (Known w.opening.program) (sym leaves) known
-leaves_known workers spies w Records text v left known told leaves = subst (Known w.opening.program) (sym leaves) known
-leaves_known workers spies w (Since n) text v left known told leaves = subst (Known w.opening.program) (sym leaves) known
-leaves_known workers spies w Causes text v left known told leaves = subst (Known w.opening.program) (sym leaves) known
-leaves_known workers spies w (GoalOf n) text v left known told leaves = subst (Known w.opening.program) (sym leaves) known
-leaves_known workers spies w (Clauses g) text v left known told leaves = subst (Known w.opening.program) (sym leaves) known
-leaves_known workers spies w Goals text v left known told leaves = subst (Known w.opening.program) (sym leaves) known
-leaves_known workers spies w (Why n) text v left known told leaves = subst (Known w.opening.program) (sym leaves) known
-leaves_known workers spies w (Who word) text v left known told leaves = subst (Known w.opening.program) (sym leaves) known
-leaves_known workers spies w (Explain word) text v left known told leaves = subst (Known w.opening.program) (sym leaves) known
-leaves_known workers spies w (ExplainGoal g) text v left known told leaves = subst (Known w.opening.program) (sym leaves) known
-leaves_known workers spies w (Keep word) text v left known told leaves = subst (Known w.opening.program) (sym leaves) known
-leaves_known workers spies w (KeepGoal g) text v left known told leaves = subst (Known w.opening.program) (sym leaves) known
-leaves_known workers spies w Shelf text v left known told leaves = subst (Known w.opening.program) (sym leaves) known
-leaves_known workers spies w Save text v left known told leaves = subst (Known w.opening.program) (sym leaves) known
-leaves_known workers spies w SaveSteps text v left known told leaves = subst (Known w.opening.program) (sym leaves) known
-leaves_known workers spies w (Input k given) text v left known told leaves = subst (Known w.opening.program) (sym leaves) known
-leaves_known workers spies w (Ask given) text v left known told leaves = subst (Known w.opening.program) (sym leaves) known
-leaves_known workers spies w (Leap limit) text v left known told leaves = subst (Known w.opening.program) (sym leaves) known
-leaves_known workers spies w (Skip g) text v left known told leaves = subst (Known w.opening.program) (sym leaves) known
-leaves_known workers spies w Quit text v left known told leaves = subst (Known w.opening.program) (sym leaves) known
-leaves_known workers spies w Unknown text v left known told leaves = subst (Known w.opening.program) (sym leaves) known
+leaves_known workers spies w c text v left known told leaves = subst (Known w.opening.program) (sym leaves) known
 
 -- ---- lines
 

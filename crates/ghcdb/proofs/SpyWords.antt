@@ -13,43 +13,14 @@ use Rattle.ghc_console.specs.Commands as commands
 use Rattle.ghc_console.specs.PredicateWords.{is_name, predicate_named, predicate_of, predicate_of_parts}
 use Rattle.ghc_console.specs.Words.{behind, goal_name_of, is_number, is_printable, is_variable, number_of, numbers_of, words_of}
 use Rattle.ghc_console.specs.declared.command.LineCommand.{LineCommand}
-use Rattle.ghc_console.specs.declared.command.LineCommand.TheVariants.{Nothing, Step, Obey, Show, Records, Since, Causes, GoalOf, Clauses, Goals, Why, Who, Explain, ExplainGoal, Keep, KeepGoal, Shelf, Save, SaveSteps, Spy, Unspy, Input, Ask, Leap, Skip, Quit, Unknown}
+use Rattle.ghc_console.specs.declared.command.LineCommand.TheVariants.{Obey, SaveSteps, Spy, Input, Ask, Leap, Unknown}
 
 -- what a line says: a spied predicate has a name and an arity that fit, and what is obeyed is no input and no ask
 abbrev pub IsSaidByLine : LineCommand → Type 0
 IsSaidByLine (Spy f n) = IsNameText f × (n ≤ greatest_number)
 IsSaidByLine (Obey (core.Input k u)) = ⊥
-IsSaidByLine (Obey (core.Close k)) = Unit {0}
-IsSaidByLine (Obey (core.Undo n)) = Unit {0}
-IsSaidByLine (Obey (core.Roll n)) = Unit {0}
-IsSaidByLine (Obey (core.Redo n)) = Unit {0}
-IsSaidByLine (Obey (core.Arrange order)) = Unit {0}
 IsSaidByLine (Obey (core.Ask goals)) = ⊥
-IsSaidByLine Nothing = Unit {0}
-IsSaidByLine (Step goal choice) = Unit {0}
-IsSaidByLine (Show word) = Unit {0}
-IsSaidByLine Records = Unit {0}
-IsSaidByLine (Since number) = Unit {0}
-IsSaidByLine Causes = Unit {0}
-IsSaidByLine (GoalOf number) = Unit {0}
-IsSaidByLine (Clauses goal) = Unit {0}
-IsSaidByLine Goals = Unit {0}
-IsSaidByLine (Why number) = Unit {0}
-IsSaidByLine (Who word) = Unit {0}
-IsSaidByLine (Explain word) = Unit {0}
-IsSaidByLine (ExplainGoal goal) = Unit {0}
-IsSaidByLine (Keep word) = Unit {0}
-IsSaidByLine (KeepGoal goal) = Unit {0}
-IsSaidByLine Shelf = Unit {0}
-IsSaidByLine Save = Unit {0}
-IsSaidByLine SaveSteps = Unit {0}
-IsSaidByLine (Unspy f n) = Unit {0}
-IsSaidByLine (Input k given) = Unit {0}
-IsSaidByLine (Ask given) = Unit {0}
-IsSaidByLine (Leap limit) = Unit {0}
-IsSaidByLine (Skip goal) = Unit {0}
-IsSaidByLine Quit = Unit {0}
-IsSaidByLine Unknown = Unit {0}
+IsSaidByLine c = Unit {0}
 
 choose : (b : Bool) (x y : LineCommand) → IsSaidByLine x → IsSaidByLine y → IsSaidByLine (if b then x else y)
 choose true x y p q = p
