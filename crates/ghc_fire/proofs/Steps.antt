@@ -1,5 +1,6 @@
 -- Effects: local, one at most, of what was unbound and bound.
 use Rattle.ghc_fire.proofs.Words.{◌≡◌, ℕ, ℤ, true, false, cond, List, [], ◌∷◌, length, refl, sym, ap, ◌∙◌, subst, inl, inr, ◌⊎◌, arith, Option, Some, None, IsTrue, slice_get, option_or, eq_by_cmp, VarName, Tree, variable, integer, nil, cons, Expression, call, unify, assign, stream, In, Reaches, here, through, IsAcyclic, name_cmp, with_binding, StoreValue, value_at, name_total, same_name, leads_once, leads_agree, in_either, Clause, Program, IsClause, leaf_variables, fresh_variables, Variables, EndsIn, Number, of_integer, of_variable, computed, HasOutcome, accepts, LooksAt, Accepts, in_set, set_in, one_set, set_of, number_there, number_once, ends_once, outcome_there, outcomes_exclude, Unifies, solved, with_bindings, IsCutDown, BindsAndReads, by_value, comes_agree, passed_on, comes_reaches, leads_bound, comes_leads, binding_acyclic, by_answers, comes_end, is_local, one_ending, keeps_acyclic, binds_and_reads, made, body_made, ByClause as by_clause, Unified as unified, Assigned as assigned, Given as given, Closed as closed, Effect, IsOnChainsOf, Reduces, ReadsTail, IsClosed, EffectIsLocal, EffectIsOne, EffectBindsAndReads, EffectUnderEachNumber, EffectKeepsAcyclic}
+pub use Rattle.ghc_flat.proofs.Numbers.{clause_once}
 use Rattle.std.specs.FinMap as finite
 use Rattle.std.specs.FinSet as set
 
@@ -44,13 +45,6 @@ effect_local P (assign t a) assigned n S S' e d c =
 effect_local P (stream k s) (given u) n S S' e d c = (d.0, d.1, tail_local e d.2 c, d.3, d.4, d.5)
 effect_local P (stream k s) closed n S S' e d c = (d.0, tail_local e d.1 c, d.2, d.3, d.4)
 effect_local P g a n S S' e d c = absurd d
-
--- clause k is one clause
-pub clause_once : (P : Program) {k : ℕ} {c d : Clause} → IsClause P k c → IsClause P k d → c ≡ d
-clause_once P {c = c} {d = d} p q =
-    let same : p.0 ≡ q.0 = omega (arith, p.1, q.1) in
-    let both : Some c ≡ Some d = sym p.2 ∙ ap (λ i. slice_get P i) same ∙ q.2 in
-    cc
 
 -- an effect is its four parts
 pub same_effect : (e f : Effect) → e.reads ≡ f.reads → e.binds ≡ f.binds → e.makes ≡ f.makes → e.fresh ≡ f.fresh → e ≡ f

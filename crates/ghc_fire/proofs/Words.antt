@@ -17,7 +17,8 @@ pub use Rattle.ghc_fire.specs.declared.act.Act.TheVariants.{Assigned, ByClause, 
 pub use Rattle.ghc_fire.specs.declared.instances.terms.Front.{Front}
 pub use Rattle.ghc_flat.specs.Clause.{Clause, IsClause, IsFor, Program}
 pub use Rattle.ghc_flat.specs.Flat.{AreDefined, IsProgram, is_stream}
-pub use Rattle.ghc_flat.specs.Numbers.{AreNumbersFor}
+pub use Rattle.ghc_flat.specs.Numbers.{AreNumbersFor, AreNumbersWith}
+pub use Rattle.ghc_match.specs.inner.First.{FirstEnds}
 pub use Rattle.ghc_flat.specs.Samples.{append_cell, append_nothing, asked, store, v}
 pub use Rattle.ghc_flat.specs.Variables.{fresh_variables, leaf_variables, variables_of_list}
 pub use Rattle.ghc_match.proofs.AlikeLemmas.{shown_value}
@@ -44,7 +45,7 @@ pub use Rattle.ghc_term.proofs.Chains.{leads_agree, leads_once}
 pub use Rattle.ghc_term.proofs.Decided.{Decided, nat_decided, same_decided}
 pub use Rattle.ghc_term.proofs.Exact.{exact}
 pub use Rattle.ghc_term.proofs.GoalMaps.{in_names}
-pub use Rattle.ghc_term.proofs.ListsLemmas.{in_at, in_contains, in_either, in_get, in_last, in_left, in_map, in_more, in_right}
+pub use Rattle.ghc_term.proofs.ListsLemmas.{in_at, in_contains, in_either, in_get, in_last, in_left, in_map, in_middle, in_more, in_right}
 pub use Rattle.ghc_term.proofs.Merged.{by_answers}
 pub use Rattle.ghc_term.proofs.Names.{apart, name_antisymmetric, name_total}
 pub use Rattle.ghc_term.proofs.SetsLemmas.{any_in, in_any, in_set, one_inserted, one_set, set_in, set_of}
@@ -78,7 +79,7 @@ pub use Rattle.ghc_unify.proofs.Once.{clash_no_cycle, comes_end, solved_no_clash
 pub use Rattle.ghc_unify.specs.Laws.{BindsAndReads, IsCutDown}
 pub use Rattle.ghc_unify.specs.Solutions.{replace, replace_all}
 pub use Rattle.ghc_unify.specs.Unify.{Clashes, Cycles, Ending, HasEnding, IsCycle, Meets, Move, Moves, Pairs, Unifies, UnifyFails, both, clash, clashes, cycle, cycles, go, integers, left, no_more, nodes, one_more, right, shared, solved, stay, with_bindings}
-pub use Rattle.std.proofs.Common.{Bool, Err, IfNone, IfOk, IfSome, IsSome, IsTrue, List, MatchOption, None, Ok, Option, Result, Some, T, [], ap, append_assoc, arith, cond, drop, false, filter, get_or, if◌then◌else◌, inl, inr, is_none, is_some, length, length-append, map, nat_lt, option_map, pos, refl, reverse, rules, slice_get, slice_index_or, subst, suc, sym, take, true, zero, ℕ, ℤ, ◌&&◌, ◌*◌, ◌++◌, ◌+◌, ◌-◌, ◌<◌, ◌==◌, ◌||◌, ◌↔◌, ◌∙◌, ◌∷◌, ◌≡◌, ◌≢◌, ◌≤◌, ◌⊎◌}
+pub use Rattle.std.proofs.Common.{Bool, Err, IfNone, IfOk, IfSome, IsSome, IsTrue, List, MatchOption, None, Ok, Option, Result, Some, T, [], ap, append_assoc, arith, cond, drop, false, filter, get_or, if◌then◌else◌, inl, inr, is_none, is_some, length, length-append, map, nat_lt, option_map, pos, refl, reverse, rules, slice_get, slice_index_or, subst, suc, sym, take, true, zero, ℕ, ℤ, ◌&&◌, ◌*◌, ◌++◌, ◌+◌, ◌-◌, ◌<◌, ◌==◌, ◌||◌, ◌↔◌, ◌∙◌, ◌∷◌, ◌≡◌, ◌≢◌, ◌≤◌, ◌⊎◌, append-nil, slice_index}
 pub use Rattle.std.proofs.lemmas.Bool.{eq-eqb, eqb-true, ne_eqb}
 pub use Rattle.std.proofs.Math.Bool.{or-false, or-true}
 pub use Rattle.std.proofs.lemmas.Bool.Decides.{eqb_tells, nat_tests}

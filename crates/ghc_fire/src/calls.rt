@@ -65,15 +65,16 @@ pub fn attempt_call(
 {
     let first = first_end(arguments, store);
     let mut waits = false;
-    for number in program.clauses_for(name, arguments.len()) {
-        let clause = program.clause(*number).unwrap();
+    let mut candidates = program.candidates(name, arguments.len(), first);
+    while let Some(number) = candidates.pop_least() {
+        let clause = program.clause(number).unwrap();
         if refuses_at_first(clause, first) {
             continue;
         }
         match try_clause_as_step(alloc, clause, arguments, store, step)? {
             Verdict::Refuses => {}
             Verdict::Waits => waits = true,
-            Verdict::Reduces(effect) => return Ok((Act::ByClause(*number), effect)),
+            Verdict::Reduces(effect) => return Ok((Act::ByClause(number), effect)),
         }
     }
     if waits {

@@ -2,9 +2,8 @@
 ghost use Rattle.std.specs.Prelude.{◌≡◌, ◌≤◌, ◌↔◌, length, IfOk, IsTrue};
 ghost use Rattle.ghc_flat.specs.Flat.{most_goals};
 
-pub use ghc_term::NO_STEP;
-
 use crate::made::Made;
+pub use ghc_term::NO_STEP;
 use ghc_term::{Bindings, Goal, Variables};
 use std::alloc::{AllocError, Global};
 use std::marker::Model;
