@@ -22,6 +22,8 @@ use Rattle.ghc_records.specs.contracts.table.use_index.UseIndex as use_index
 use Rattle.ghc_records.specs.contracts.shelf.Shelf as shelf
 use Rattle.ghc_records.specs.contracts.state.State as state
 use Rattle.ghc_records.specs.contracts.history.History as history
+use Rattle.ghc_flat.specs.contracts.clause.Clause as clause
+use Rattle.ghc_flat.specs.contracts.firsts.Firsts as firsts
 use Rattle.ghc_flat.specs.contracts.program.Program as program
 use Rattle.ghc_hooks.specs.contracts.note.Note as note
 use Rattle.ghc_hooks.specs.contracts.notes.Notes as notes
@@ -120,11 +122,23 @@ history_send = search (act_send, goal_name.the_send, crosses, sendable) depth 60
 history_sync : IsSync history.the_row
 history_sync = search (act_sync, goal_name.the_sync, crosses, sendable) depth 60 fits 20000
 
+clause_send : IsSend clause.the_row
+clause_send = search (term_send, expression_send, goal_send, crosses, sendable) depth 60 fits 20000
+
+clause_sync : IsSync clause.the_row
+clause_sync = search (term_sync, expression_sync, goal_sync, crosses, sendable) depth 60 fits 20000
+
+firsts_send : IsSend firsts.the_row
+firsts_send = search (crosses, sendable) depth 60 fits 20000
+
+firsts_sync : IsSync firsts.the_row
+firsts_sync = search (crosses, sendable) depth 60 fits 20000
+
 program_send : IsSend program.the_row
-program_send = search (term_send, expression_send, goal_send, crosses, sendable) depth 60 fits 20000
+program_send = search (clause_send, firsts_send, crosses, sendable) depth 60 fits 20000
 
 program_sync : IsSync program.the_row
-program_sync = search (term_sync, expression_sync, goal_sync, crosses, sendable) depth 60 fits 20000
+program_sync = search (clause_sync, firsts_sync, crosses, sendable) depth 60 fits 20000
 
 variables_send : IsSend variables.the_row
 variables_send = search (crosses, sendable) depth 60 fits 20000
