@@ -12,7 +12,8 @@ The reply to a line that was refused memory has to be
     other replies are as ever; or
   - where it is `keep`, the beginning of its own reply, up to some rollback, and then `F1 no memory`; the line behind it is the same
     again, and its reply is the rest; or
-  - where it is `records` or `save`, its own reply with `F1 no memory` in place of some of its lines, and all other replies are as ever; or
+  - where it is `records`, `goals`, `shelf`, `save` or `save 1`, its own reply with `F1 no memory` in place of some of its lines, and all
+    other replies are as ever; or
   - where it is a run, a line for each step that it took, by number, or `F1 no memory` in its place, and then `stopped REASON`, or
     `F1 no memory` in its place. `records` before and behind the run tell which steps these are; behind it no line is refused
     memory, and each `show` and `goals` between the last run and the next change is answered as ever.
@@ -20,8 +21,9 @@ The reply to a line that was refused memory has to be
 Schedules are swept by the requests of their whole run: tests/lib/sweep_schedules.py says how, and what has to be written then; and runs by
 several workers, whose order is free, as tests/lib/sweep_workers.py says.
 
-What a session says of a line by hand (`told`) has to hold, too. Before the first line the program ends with status 2 for its words,
-or with status 1 and `PART: F1 no memory`, in the order of its parts, or it goes on as ever. It ends by itself, and by no signal.
+Of each of these listings one line is refused among others at least once. What a session says of a line by hand (`told`) has to hold,
+too. Before the first line the program ends with status 2 for its words, or with status 1 and `PART: F1 no memory`, in the order of its
+parts, or it goes on as ever. It ends by itself, and by no signal.
 
 It needs a C compiler; where there is none that is said, and nothing is tried. The last line is `N passed, M failed`.
 """
@@ -36,19 +38,21 @@ from typing import NamedTuple
 sys.dont_write_bytecode = True
 from lib.judged_runs import RUNS
 from lib.program import ROOT
-from lib.refusing import ALL_BEHIND, F1, ORDER, Session, tried
+from lib.refusing import ALL_BEHIND, F1, ORDER, Session, tells_lines, tried
 from lib.sweep_schedules import SCHEDULES, ScheduleCase, sweep_schedule, unused_events
 from lib.sweep_workers import SHARED, SharedCase, sweep_shared
 from lib.texts import APPEND, HISTORY, MANY, SUM
 
 MOST = 400
 CHANGES = ("step", "in", "end", "ask", "undo", "roll", "redo", "arrange")
-LISTINGS = ("records", "save")  # whole lines of the console
+LISTINGS = ("records", "goals", "shelf", "save", "save 1")  # whole lines of the console
 SHOWN = ("show", "goals")
+LISTED = set()  # those of the listings that were seen with F1 among other lines
 
 WAITS = "p(a,_) :- true | true.\np(_,b) :- true | true.\nq(a,b) :- true | true.\n"
 LONG = "append([1,2,3,4,5,6,7,8,9,10,11,12],[13],R), append(R,[14],Q)"
 SUM_HISTORY = "ghc-history 1\nsteps 6\n1 0.1 in 5\n4 0.2 by 2\n5 4.1 is\n2 1.1 end\n6 4.2 by 1\n7 6.1 eq\nend 9\n"
+LONG_HISTORY = f"ghc-history 1\nsteps 2\n1 0.1 in 5\n2 1.1 in [{','.join(map(str, range(1, 40)))}]\nend 3\n"
 WHOLE_HISTORY = (
     "ghc-history 2\nopening 1 5\n2 0.1 by 2\nentries 6\n5 2.1 eq\n6 - ask append(_0_1,[3],_6_1), true, _2_1 = [7]. % more\nundo 6\narrange 2 5\nredo 6\nroll 2\n"
     "spies 2\nappend/3\nappend/3\nend 7\n"
@@ -134,6 +138,7 @@ STORIES = {
         "records;leap;records;leap;records;goals;why 5;who Q;show Q;undo 9;roll 20;shelf;goals;roll 2;goals;redo 20;redo 2;records;save",
     ),
     "load_stream": Story(SUM, "instream(S), sum(S,0,R)", "goals;records;show R;in 1 3;roll 2;goals;in 1 4;shelf;redo 2;records;save 1;save", SUM_HISTORY),
+    "load_long": Story(SUM, "instream(S), sum(S,0,R)", "save 1;records;save", LONG_HISTORY),
     "load_whole": Story(APPEND, "append([1],[2],R)", "goals;records;shelf;save;redo 2;redo 6;redo 5;save 1;records;save", WHOLE_HISTORY),
     "load": Story(APPEND, "append([1],[2],R)", "goals;records;show R;undo 2;records;leap;records;leap;show R;save", HISTORY),
 }
@@ -210,7 +215,9 @@ class Case:
         if self.word(at) == "keep":
             return self.fits_keep(at, got)
         if self.lines[at - 1] in LISTINGS:
-            return tells_lines(got[at], plain[at]) and got[:at] == plain[:at] and got[at + 1 :] == plain[at + 1 :]
+            fits = tells_lines(got[at], plain[at]) and got[:at] == plain[:at] and got[at + 1 :] == plain[at + 1 :]
+            LISTED.update([self.lines[at - 1]] if fits else [])
+            return fits
         return self.word(at) in CHANGES and got == plain[:at] + [front(plain[at]) + F1] + plain[at + 1 :]
 
     def fits_run(self, at, got):
@@ -245,12 +252,6 @@ def tells_steps(told, steps):
     if len(told) != len(steps) + 1 or not (told[-1] == F1 or told[-1].startswith(b"stopped ")):
         return False
     return all(line == F1 or line.startswith(b"REDU %d " % step) for line, step in zip(told, steps))
-
-
-def tells_lines(told, whole):
-    """Whether the reply has the lines of the whole one, with F1 in place of some of them."""
-    got, lines = told.splitlines(True), whole.splitlines(True)
-    return len(got) == len(lines) and all(one in (line, F1) for one, line in zip(got, lines))
 
 
 def front(reply):
@@ -310,11 +311,13 @@ def sweeps(folder):
         for name, story, trials in named:
             if not words or any(word in name for word in words):
                 totals = [a + b for a, b in zip(totals, trials(name, story, folder / name))]
-    unused = unused_commands() | unused_events()
+    unused, whole = unused_commands() | unused_events(), set() if words else set(LISTINGS) - LISTED
     if unused:
         print(f"failed: no session or schedule uses {sorted(unused)}")
+    if whole:
+        print(f"failed: one line of these was never refused alone: {sorted(whole)}")
     print(f"sweep: {time.monotonic() - started:.0f} seconds")
-    return totals[0] + (not unused), totals[1] + bool(unused)
+    return totals[0] + (not unused) + (not whole), totals[1] + bool(unused) + bool(whole)
 
 
 if __name__ == "__main__":

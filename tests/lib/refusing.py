@@ -91,3 +91,9 @@ def tried(name, check):
         passed, failed = check(Path(folder))
     print(f"{passed} passed, {failed} failed")
     return 1 if failed or not passed else 0
+
+
+def tells_lines(told, whole):
+    """Whether the reply has the lines of the whole one, with F1 in place of some of them."""
+    got, lines = told.splitlines(True), whole.splitlines(True)
+    return len(got) == len(lines) and all(one in (line, F1) for one, line in zip(got, lines))

@@ -2,14 +2,14 @@
 
 A schedule's file is read at the start, so its lines cannot be told apart from outside: each request for memory of the whole run is
 refused in turn, alone and with all behind it. What is written then has to be what the program itself writes, with ample memory, of the
-schedule without the lines whose reply is `F1 no memory`, with these replies in their places; or a beginning of that, with status 1 and
-`schedule: F1 no memory`. (Behind a commit that was refused memory its hand is empty: later lines name another hand in its place, which
-holds nothing.) Where one request is refused, one line at most has that reply. Before the first line the program ends as
-tests/sweep.py says. It ends by itself, and by no signal.
+schedule without the lines whose reply is `F1 no memory`, with these replies in their places, and with that in place of some of the
+records at its end; or a beginning of the replies, with status 1 and `schedule: F1 no memory`. (Behind a commit that was refused memory
+its hand is empty: later lines name another hand in its place, which holds nothing.) Where one request is refused, one line at most is
+that. Before the first line the program ends as tests/sweep.py says. It ends by itself, and by no signal.
 """
 from typing import NamedTuple
 
-from lib.refusing import ALL_BEHIND, F1, Session
+from lib.refusing import ALL_BEHIND, F1, Session, tells_lines
 from lib.texts import APPEND, HISTORY, MANY, SUM
 
 BROKEN_OFF = b"schedule: F1 no memory\n"
@@ -119,13 +119,13 @@ class ScheduleCase:
         if played.status not in (0, 1):
             return False
         text = played.replies[0]
-        told = text.splitlines(True)[: len(self.lines)]
-        refused = frozenset(at for at, line in enumerate(told) if line == F1)
-        if trial.first == trial.last and len(refused) > 1:
+        lines = text.splitlines(True)
+        refused = frozenset(at for at, line in enumerate(lines[: len(self.lines)]) if line == F1)
+        if trial.first == trial.last and lines.count(F1) > 1:
             return False
         whole = self.whole(refused)
         if played.status == 0:
-            return (text, played.errors) == (whole, b"")
+            return tells_lines(text, whole) and played.errors == b""
         return whole.startswith(text) and played.errors == BROKEN_OFF
 
     def play(self, trial):

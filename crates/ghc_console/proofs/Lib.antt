@@ -23,6 +23,7 @@ pub mod Spying
 pub mod RunLines
 pub mod RunCommands
 pub mod ListedLines
+pub mod ListedGoals
 mod WholeListings
 pub mod Parting
 pub mod Keeping

@@ -1,5 +1,5 @@
 -- What commands that run are answered with.
-use Rattle.ghc_console.proofs.CitedWords.{◌≡◌, ◌⊎◌, ◌≤◌, ℕ, true, false, List, length, inl, inr, refl, sym, subst, Bor, Option, Some, None, is_some, option_copied, GoalName, Goal, World, Spies, command_of, line_limit, Fires, RepliesToSkip, no_goal, skips, Answers, IsReply, no_memory, quits, replies, refusal, AsksForListing, AsksForRun, leap_asks, records_asks, save_asks, skip_asks, IsAnsweredBy, IsCommandAnsweredBy, HasRun, SessionState, LineCommand, Answered, Told as told, Ends as ends, Asks as asks, Lists as lists}
+use Rattle.ghc_console.proofs.CitedWords.{◌≡◌, ◌⊎◌, ◌≤◌, ℕ, true, false, List, length, inl, inr, refl, sym, subst, Bor, Option, Some, None, is_some, option_copied, GoalName, Goal, World, Spies, command_of, line_limit, Fires, RepliesToSkip, no_goal, skips, Answers, IsReply, no_memory, quits, replies, refusal, AsksForListing, AsksForRun, goals_asks, leap_asks, records_asks, save_asks, save_steps_asks, shelf_asks, skip_asks, IsAnsweredBy, IsCommandAnsweredBy, HasRun, SessionState, LineCommand, Answered, Told as told, Ends as ends, Asks as asks, Lists as lists}
 use Rattle.std.specs.FinMap as finite
 use Rattle.ghc_console.specs.inner.Answered.{IsListing}
 use Rattle.ghc_console.specs.declared.answered.Listing.{Listing}
@@ -27,8 +27,14 @@ run_replied s t line root limit text short asked ran =
 -- The text of a listing for which a command asks is its reply, after which the session goes on; or memory was refused.
 listing_answers : (s : SessionState) (c : LineCommand) (listed : Listing) (text : List ℕ) → AsksForListing c listed → IsListing s.world s.spies listed text → (Answers s c text s × (quits c ≡ false)) ⊎ (text ≡ refusal fault.Memory)
 listing_answers s c listed text records_asks lines = inl (record { told = (lines, refl); spies = refl; workers = refl }, refl)
+listing_answers s c listed text goals_asks (inl lines) = inl (record { told = (lines, refl); spies = refl; workers = refl }, refl)
+listing_answers s c listed text goals_asks (inr starved) = inr starved
+listing_answers s c listed text shelf_asks (inl lines) = inl (record { told = (lines, refl); spies = refl; workers = refl }, refl)
+listing_answers s c listed text shelf_asks (inr starved) = inr starved
 listing_answers s c listed text save_asks (inl lines) = inl (record { told = (lines, refl); spies = refl; workers = refl }, refl)
 listing_answers s c listed text save_asks (inr starved) = inr starved
+listing_answers s c listed text save_steps_asks (inl lines) = inl (record { told = (lines, refl); spies = refl; workers = refl }, refl)
+listing_answers s c listed text save_steps_asks (inr starved) = inr starved
 
 listing_told : (s : SessionState) (line : List ℕ) (listed : Listing) (text : List ℕ) → length line ≤ line_limit → AsksForListing (command_of line) listed → IsListing s.world s.spies listed text → IsReply s line text s false
 listing_told s line listed text short asked lines = elim (listing_answers s (command_of line) listed text asked lines) [

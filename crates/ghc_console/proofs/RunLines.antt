@@ -42,17 +42,24 @@ going_on all xs rest a b c text g told wrote = record {
 pub going_end : (all : List (List ℕ)) (a b : Option (List ℕ)) → Going all [] a b → (text : List ℕ) × AreLinesTold all text × Appends a b text
 going_end all a b g = (g.done ++ [], g.whole [] no_line, subst (Appends a b) (sym (append-nil g.done)) g.appended)
 
+-- What was written ends in the middle of a text.
+pub cut_in : (done text rest : List ℕ) (n : ℕ) → take (length (done ++ take n text)) (done ++ (text ++ rest)) ≡ done ++ take n text
+cut_in done text rest n =
+    let part = take n text in
+    let behind = drop n text ++ rest in
+    let split : done ++ (text ++ rest) ≡ (done ++ part) ++ behind =
+    ap (λ l. done ++ (l ++ rest)) (sym (take-append-drop n text)) ∙ ap (λ l. done ++ l) (append_assoc part (drop n text) rest) ∙ sym (append_assoc done part behind) in
+    ap (take (length (done ++ part))) split ∙ take-append_seam (done ++ part) behind
+
 -- a call failed as some lines were written
 pub going_broken : (all xs rest : List (List ℕ)) (a b c : Option (List ℕ)) (text : List ℕ) (n : ℕ) → Going all (xs ++ rest) a b → AreLinesTold xs text → Appends b c (take n text)
     → (whole : List ℕ) × AreLinesTold all whole × ((m : ℕ) × Appends a c (take m whole))
 going_broken all xs rest a b c text n g told wrote =
-    let part = take n text in
-    let behind = drop n text ++ plain rest in
-    let whole = g.done ++ (text ++ plain rest) in
-    let split : whole ≡ (g.done ++ part) ++ behind =
-    ap (λ l. g.done ++ (l ++ plain rest)) (sym (take-append-drop n text)) ∙ ap (λ l. g.done ++ l) (append_assoc part (drop n text) (plain rest)) ∙ sym (append_assoc g.done part behind) in
-    let cut : take (length (g.done ++ part)) whole ≡ g.done ++ part = ap (take (length (g.done ++ part))) split ∙ take-append_seam (g.done ++ part) behind in
-    (whole, g.whole (text ++ plain rest) (told_then xs rest text (plain rest) told (plain_told rest)), (length (g.done ++ part), subst (Appends a c) (sym cut) (Appends-trans a b c g.done part g.appended wrote)))
+    let part = take n text in (
+      g.done ++ (text ++ plain rest),
+      g.whole (text ++ plain rest) (told_then xs rest text (plain rest) told (plain_told rest)),
+      (length (g.done ++ part), subst (Appends a c) (sym (cut_in g.done text (plain rest) n)) (Appends-trans a b c g.done part g.appended wrote)),
+    )
 
 -- the last lines were written, or a call failed
 pub going_last : {E : Type 0} (all xs : List (List ℕ)) (a b c : Option (List ℕ)) (result : Result Unit E) → Going all xs a b → WritesTold xs b c result → WritesTold all a c result

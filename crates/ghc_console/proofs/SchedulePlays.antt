@@ -1,5 +1,5 @@
 -- How far a schedule has come.
-use Rattle.ghc_console.proofs.CitedWords.{◌≡◌, ℕ, List, [], ◌∷◌, ◌++◌, Option, Result, Ok, Err, take, ap, sym, ◌∙◌, subst, append_assoc, Appends, Appends-nil, Appends-trans, Fault, Core, Reply, empty_hands, Hands, WritesFront, records_text, Hears, told_text, ArePlayedOut, BrokenOff, Schedule, WritesSchedule, part_of_records, part_of_reply, hand_count, then_begun, then_whole, told_at_end, with_hands}
+use Rattle.ghc_console.proofs.CitedWords.{◌≡◌, ℕ, List, [], ◌∷◌, ◌++◌, Option, Result, Ok, Err, map, take, ap, sym, ◌∙◌, subst, append_assoc, Appends, Appends-nil, Appends-trans, Fault, Core, Reply, empty_hands, Hands, WritesTold, TellsListing, lined, records_listed, Hears, told_text, ArePlayedOut, BrokenOff, Schedule, WritesSchedule, part_of_records, part_of_reply, hand_count, then_begun, then_whole, told_at_end, with_hands}
 use Rattle.ghc_core.specs.declared.world.World.{World as Played}
 
 -- what the rest gives, after what was done, is what the whole gives
@@ -39,15 +39,14 @@ going_broken first now next all lines rest bytes reply written held held' n g is
 
 -- the records stand after the last line, or a beginning of them
 pub going_last : (first now : Played) (all lines : List (List ℕ)) (written held held' : Option (List ℕ)) (core : Core) (result : Result Unit Fault)
-    → Going first now all lines written held → lines ≡ [] → core ≡ now.core → WritesFront held held' result (records_text core.world.kept) → ArePlayedOut first all written held' now result
+    → Going first now all lines written held → lines ≡ [] → core ≡ now.core → WritesTold (map lined (records_listed core.world.kept)) held held' result → ArePlayedOut first all written held' now result
 going_last first now all lines written held held' core (Ok done) g is same told =
-    let text = records_text now.core.world.kept in
-    let there = subst (λ (c : Core). Appends held held' (records_text c.world.kept)) same told in
-    (g.done ++ text, Appends-trans written held held' g.done text g.appended there, g.onward.whole text now (subst (λ l. Schedule now l text now) (sym is) told_at_end))
+    let listed = subst (λ (c : Core). TellsListing (records_listed c.world.kept) told.0) same told.1 in
+    (g.done ++ told.0, Appends-trans written held held' g.done told.0 g.appended told.2, g.onward.whole told.0 now (subst (λ l. Schedule now l told.0 now) (sym is) (told_at_end listed)))
 going_last first now all lines written held held' core (Err f) g is same told =
-    let text = take told.0 (records_text now.core.world.kept) in
-    let there = subst (λ (c : Core). Appends held held' (take told.0 (records_text c.world.kept))) same told.1 in
-    (g.done ++ text, Appends-trans written held held' g.done text g.appended there, g.onward.begun text now (subst (λ l. BrokenOff now l text now) (sym is) (part_of_records told.0)))
+    let text = take told.2.0 told.0 in
+    let listed = subst (λ (c : Core). TellsListing (records_listed c.world.kept) told.0) same told.1 in
+    (g.done ++ text, Appends-trans written held held' g.done text g.appended told.2.1, g.onward.begun text now (subst (λ l. BrokenOff now l text now) (sym is) (part_of_records told.2.0 listed)))
 
 abbrev made : Core → Hands → ℕ → ℕ → Played
 made core hands firings tries = record { core = core; hands = hands; meter = record { firings = firings; tries = tries } }

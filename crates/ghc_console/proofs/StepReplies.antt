@@ -1,5 +1,5 @@
 -- What the texts of replies say.
-use Rattle.ghc_console.proofs.CitedWords.{◌≡◌, ◌≢◌, ◌⊎◌, ◌<◌, inl, inr, refl, sym, subst, subst₂, ap, ◌∙◌, List, [], ◌∷◌, ◌++◌, append_assoc, ℕ, length, codes, Result, Ok, Err, IfOk, OnOk, OnErr, MatchResult, Option, Fault, GoalName, VarName, variable, value_at, IsTextOf, Proposal, Record, World, Comes as comes, Coming, IsCommitOf, StepFails, Port, port_text, ports_text, LinesAreOfGoals, AreGoalLines, HasTooLong, IsVariableNamed, Settled, TellsChange, takes, full, RepliesToStep, steps, fails, RepliesToShow, too_long, RepliesToGoals, no_goals, lists, goal_too_long, lined, refusal, print_limit}
+use Rattle.ghc_console.proofs.CitedWords.{◌≡◌, ◌≢◌, ◌⊎◌, ◌<◌, inl, inr, refl, sym, subst, subst₂, ap, ◌∙◌, List, [], ◌∷◌, ◌++◌, append_assoc, ℕ, length, codes, Result, Ok, Err, IfOk, OnErr, MatchResult, Option, Fault, GoalName, VarName, variable, value_at, IsTextOf, Proposal, Record, World, Comes as comes, Coming, IsCommitOf, StepFails, Port, port_text, ports_text, IsVariableNamed, Settled, TellsChange, takes, full, RepliesToStep, steps, fails, RepliesToShow, too_long, refusal, print_limit}
 use Rattle.ghc_term.specs.declared.fault.Fault.TheVariants as fault
 use Rattle.ghc_term.specs.declared.limit.Limit.TheVariants as limit
 use Rattle.ghc_console.specs.Replies.{Takes}
@@ -42,17 +42,3 @@ printed_refused w word x f text named (inl m) past told kept = absurd (kept m)
 printed_refused w word x f text named (inr q) past told kept =
     let long = past q in
     subst (RepliesToShow w word) (sym (told ∙ ap refusal q)) (too_long x long.0 named long.1.0 long.1.1)
-
--- The text has the lines of goals, or `none` where there is no line.
-pub goals_told : LinesAreOfGoals → (w : World) (lines text : List ℕ) → AreGoalLines w lines → ¬ HasTooLong w.state.goals w.state.store → (lines ≡ [] → text ≡ lined (codes "none")) → (lines ≢ [] → text ≡ lines)
-    → RepliesToGoals w text
-goals_told law w [] text are short none some = subst (RepliesToGoals w) (sym (none refl)) (no_goals ((law w [] are).0 refl))
-goals_told law w (b ∷ bs) text are short none some =
-    let line : ¬ (b ∷ bs ≡ []) = λ e. cc in
-    subst (RepliesToGoals w) (sym (some line)) (lists (λ e. line ((law w (b ∷ bs) are).1 e)) are short)
-
--- A refusal of goals says that one is too long.
-pub goals_refused : (w : World) (f : Fault) (text : List ℕ) → (f ≡ fault.Memory) ⊎ (f ≡ fault.Limit limit.Print) → (f ≡ fault.Limit limit.Print → HasTooLong w.state.goals w.state.store)
-    → text ≡ refusal f → f ≢ fault.Memory → RepliesToGoals w text
-goals_refused w f text (inl m) past told kept = absurd (kept m)
-goals_refused w f text (inr q) past told kept = subst (RepliesToGoals w) (sym (told ∙ ap refusal q)) (goal_too_long (past q))

@@ -2,11 +2,11 @@
 use Rattle.std.specs.Prelude.{◌≡◌, ◌≢◌, ◌⊎◌, ◌<◌, ◌≤◌, ℕ, Bool, true, false, List, [], ◌∷◌, ◌++◌, codes, length, map, Option, Some, None}
 use Rattle.std.specs.Fmt.{decimal}
 use Rattle.std.specs.FinMap as finite
+use Rattle.std.specs.List.{AllZip, concat}
 use Rattle.ghc_term.specs.declared.var_name.VarName.{VarName}
 use Rattle.ghc_term.specs.declared.goal_name.GoalName.{GoalName}
 use Rattle.ghc_term.specs.declared.fault.Fault.{Fault}
 use Rattle.ghc_term.specs.declared.limit.Limit.TheVariants as limit
-use Rattle.ghc_trace.specs.GoalLines.{AreGoalLines, HasTooLong, print_limit}
 use Rattle.ghc_term.specs.Tree.{Tree, variable}
 use Rattle.ghc_term.specs.Goal.{Goal}
 use Rattle.ghc_term.specs.Store.{value_at}
@@ -17,10 +17,7 @@ use Rattle.ghc_reader.specs.Read.{IsReadTerm}
 use Rattle.ghc_fire.specs.Attempt.{proposes, refused}
 use Rattle.ghc_fire.specs.Proposal.{Proposal}
 use Rattle.ghc_records.specs.inner.Slots.{SlotList, StandsIn}
-use Rattle.ghc_records.specs.Record.{Record, Shelf, numbers}
-use Rattle.ghc_records.specs.Journal.{step_of}
-use Rattle.ghc_records.specs.StepText.{record_text, step_text}
-use Rattle.ghc_records.specs.HistoryText.{history_text}
+use Rattle.ghc_records.specs.Record.{Record, numbers}
 use Rattle.ghc_depend.specs.Depend.{IsNotKept}
 use Rattle.ghc_depend.specs.Slices.{IsGoalSliceOf, IsSliceOf}
 use Rattle.ghc_core.specs.World.{World, IsFull, with_step}
@@ -34,10 +31,11 @@ use Rattle.ghc_core.specs.Gone.{all_gone}
 use Rattle.ghc_core.specs.Change.{Changes}
 use Rattle.ghc_core.specs.Answers.{Fails}
 use Rattle.ghc_core.specs.Asked.{IsAskedFor}
-use Rattle.ghc_core.specs.Load.{AskForGoals, history_of}
+use Rattle.ghc_core.specs.Load.{AskForGoals}
 use Rattle.ghc_trace.specs.Ports.{Port, ArePorts}
 use Rattle.ghc_trace.specs.PortText.{ports_text}
 use Rattle.ghc_trace.specs.News.{Standing, AreNews, news_text}
+use Rattle.ghc_trace.specs.GoalLines.{HasTooLong, IsGoalLineOf, IsTooLong, Named, print_limit}
 use Rattle.ghc_trace.specs.declared.reasons.Reason.{Reason}
 use Rattle.ghc_trace.specs.ReasonText.{reason_text}
 use Rattle.ghc_trace.specs.Why.{AreReasonsTold}
@@ -49,7 +47,7 @@ use Rattle.ghc_console.specs.Explaining.{RepliesToExplain, RepliesToExplainGoal}
 use Rattle.ghc_console.specs.Looks.{RepliesToSince, RepliesToCauses, RepliesToGoalOf, RepliesToClauses}
 use Rattle.ghc_console.specs.RunReplies.{TellsRun, RepliesToSkip}
 use Rattle.ghc_console.specs.Keeping.{TellsKept}
-pub use Rattle.ghc_console.specs.Listings.{TellsListing, records_listed, records_text, saved_text, session_listed}
+pub use Rattle.ghc_console.specs.Listings.{TellsListing, kept_listed, kept_text, records_listed, records_text, saved_text, session_listed, shelf_listed, shelf_text}
 use Rattle.ghc_console.specs.VariableNamed.{IsVariableNamed}
 use Rattle.ghc_console.specs.AskedFor.{IsReadAskFor}
 use Rattle.ghc_console.specs.Commands.{command_of}
@@ -111,19 +109,19 @@ pub data RepliesToShow (w : World) (word : List ℕ) : List ℕ → Type 0 where
 abbrev pub TellsSlot : SlotList → ℕ → List ℕ → List ℕ → Type 0
 TellsSlot ss place before after = ((r : Record) × StandsIn ss place r × (after ≡ before ++ record_lines (r ∷ []))) ⊎ (((r : Record) → ¬ StandsIn ss place r) × (after ≡ before))
 
+-- IsGoalTold w goal text: this text stands for the line of the goal, whose own text is not too long: the line, with its status; or F1 in its place, where memory was refused for it.
+abbrev pub IsGoalTold : World → Named → List ℕ → Type 0
+IsGoalTold w goal text = (IsGoalLineOf w goal.0 goal.1 text × ¬ IsTooLong w.state.store goal.1) ⊎ (text ≡ refusal Fault.Memory)
+
+-- AreGoalsTold w text: the text has all goals of the world, by name, line by line.
+abbrev pub AreGoalsTold : World → List ℕ → Type 0
+AreGoalsTold w text = (told : List (List ℕ)) × AllZip (IsGoalTold w) (finite.entries w.state.goals) told × (text ≡ concat told)
+
 -- RepliesToGoals w text: each goal with its status, by name, and `none` where there is no goal; or the refusal where the text of a goal is too long.
 pub data RepliesToGoals (w : World) : List ℕ → Type 0 where
   no_goals : w.state.goals ≡ finite.empty → RepliesToGoals w (lined (codes "none"))
-  lists : {text : List ℕ} → w.state.goals ≢ finite.empty → AreGoalLines w text → ¬ HasTooLong w.state.goals w.state.store → RepliesToGoals w text
+  lists : {text : List ℕ} → w.state.goals ≢ finite.empty → AreGoalsTold w text → RepliesToGoals w text
   goal_too_long : HasTooLong w.state.goals w.state.store → RepliesToGoals w (refusal (Fault.Limit limit.Print))
-
--- the texts of the steps of records
-abbrev pub steps_told : List (ℕ × Record) → List (List ℕ)
-steps_told rs = map (λ e. step_text (step_of e.1)) rs
-
--- the steps on the shelf, a line each by number, and `none` where there is none
-abbrev pub shelf_text : Shelf → List ℕ
-shelf_text held = lines_or_none (steps_told (finite.entries held))
 
 -- RepliesToWhy w n text: each step on which the kept step n depends directly, in recorded order, with its cause, and `none` where there is none. Or the refusal where no such step is kept.
 pub data RepliesToWhy (w : World) (n : ℕ) : List ℕ → Type 0 where
@@ -149,7 +147,7 @@ pub data RepliesToKeepGoal (w : World) (g : GoalName) : List ℕ → World → T
 
 -- RepliesToSaveSteps w text: the history of the kept steps; or the refusal where one of them asks for goals, which no text of that version tells.
 pub data RepliesToSaveSteps (w : World) : List ℕ → Type 0 where
-  tells_history : ¬ AskForGoals w.kept → RepliesToSaveSteps w (history_text (history_of w))
+  tells_history : {text : List ℕ} → ¬ AskForGoals w.kept → TellsListing (kept_listed w) text → RepliesToSaveSteps w text
   has_asked : AskForGoals w.kept → RepliesToSaveSteps w (refusal (Fault.Limit limit.Version))
 
 -- RepliesToSpy P f n text: the text says that the predicate is spied; or it is the refusal, where the program has no clause for it.
@@ -175,7 +173,7 @@ Replies workers spies w (explain word) text v = RepliesToExplain w word text × 
 Replies workers spies w (explain_goal g) text v = RepliesToExplainGoal w g text × (v ≡ w)
 Replies workers spies w (keep word) text v = RepliesToKeep w word text v
 Replies workers spies w (keep_goal g) text v = RepliesToKeepGoal w g text v
-Replies workers spies w shelf text v = (text ≡ shelf_text w.shelf) × (v ≡ w)
+Replies workers spies w shelf text v = TellsListing (shelf_listed w.shelf) text × (v ≡ w)
 Replies workers spies w save text v = TellsListing (session_listed w spies) text × (v ≡ w)
 Replies workers spies w save_steps text v = RepliesToSaveSteps w text × (v ≡ w)
 Replies workers spies w (spy f n) text v = RepliesToSpy w.opening.program f n text × (v ≡ w)

@@ -8,7 +8,7 @@ use Rattle.ghc_core.specs.Playing.{empty_hands}
 use Rattle.ghc_core.specs.declared.world.World.{World as Played}
 use Rattle.ghc_console.specs.inner.Device.{WritesFront}
 use Rattle.ghc_console.specs.Lines.{lines_of}
-use Rattle.ghc_console.specs.Listings.{records_text}
+use Rattle.ghc_console.specs.Listings.{TellsListing, records_listed}
 use Rattle.ghc_console.specs.ScheduleReplies.{Hears, told_text}
 
 -- how many hands play a schedule
@@ -21,7 +21,7 @@ with_hands core = record { core = core; hands = empty_hands hand_count; meter = 
 
 -- Schedule old lines out new: out are the replies to the lines, in order, and then the records. The core and the hands are those of old before, and those of new after.
 pub data Schedule : Played → List (List ℕ) → List ℕ → Played → Type 0 where
-  told_at_end : {new : Played} → Schedule new [] (records_text new.core.world.kept) new
+  told_at_end : {new : Played} {text : List ℕ} → TellsListing (records_listed new.core.world.kept) text → Schedule new [] text new
   then_whole :
       {old mid new : Played} {bytes rest : List ℕ} {lines : List (List ℕ)} {reply : Option Reply}
       → Hears bytes old reply mid
@@ -31,7 +31,7 @@ pub data Schedule : Played → List (List ℕ) → List ℕ → Played → Type 
 -- BrokenOff old lines out new: the same of a schedule that was broken off: of the last reply, or of the records, a beginning was written.
 pub data BrokenOff : Played → List (List ℕ) → List ℕ → Played → Type 0 where
   nothing_more : {new : Played} {lines : List (List ℕ)} → BrokenOff new lines [] new
-  part_of_records : {new : Played} (n : ℕ) → BrokenOff new [] (take n (records_text new.core.world.kept)) new
+  part_of_records : {new : Played} {text : List ℕ} (n : ℕ) → TellsListing (records_listed new.core.world.kept) text → BrokenOff new [] (take n text) new
   part_of_reply :
       {old new : Played} {bytes : List ℕ} {lines : List (List ℕ)} {reply : Option Reply} (n : ℕ)
       → Hears bytes old reply new

@@ -20,11 +20,9 @@ use crate::replies::goal_of_step::goal_of;
 use crate::replies::keep::{keep, keep_goal};
 use crate::replies::obey_reply::{ask, input, obey};
 use crate::replies::runs::skip;
-use crate::replies::save_reply::save_steps;
-use crate::replies::shelf_reply::shelf;
 use crate::replies::since::since;
 use crate::replies::spy_reply::{spy, unspy};
-use crate::replies::{goals, refused, show, step};
+use crate::replies::{refused, show, step};
 use ghc_term::{Fault, Limit};
 use std::alloc::{AllocError, Global};
 
@@ -54,15 +52,12 @@ fn tell(
         LineCommand::Causes => causes(alloc, &debugger.core, reply),
         LineCommand::GoalOf(number) => goal_of(&debugger.core, *number, reply),
         LineCommand::Clauses(goal) => clauses(alloc, &debugger.core, *goal, reply),
-        LineCommand::Goals => goals(alloc, &mut debugger.core, reply),
         LineCommand::Why(number) => why(alloc, &debugger.core, *number, reply),
         LineCommand::Who(word) => who(alloc, &debugger.core, word.as_str(), reply),
         LineCommand::Explain(word) => explain(alloc, &mut debugger.core, word.as_str(), reply),
         LineCommand::ExplainGoal(goal) => explain_goal(alloc, &mut debugger.core, *goal, reply),
         LineCommand::Keep(word) => keep(alloc, &mut debugger.core, word.as_str(), reply),
         LineCommand::KeepGoal(goal) => keep_goal(alloc, &mut debugger.core, *goal, reply),
-        LineCommand::Shelf => shelf(alloc, &debugger.core, reply),
-        LineCommand::SaveSteps => save_steps(alloc, &debugger.core, reply),
         LineCommand::Spy(name, arity) => {
             spy(
                 alloc,
@@ -79,8 +74,13 @@ fn tell(
         }
         LineCommand::Ask(text) => ask(alloc, &mut debugger.core, text.as_slice(), reply),
         LineCommand::Unknown => refused(&Fault::Command, reply),
-        LineCommand::Leap(_) | LineCommand::Skip(_) | LineCommand::Records | LineCommand::Save =>
-            unreachable!(),
+        LineCommand::Leap(_)
+        | LineCommand::Skip(_)
+        | LineCommand::Records
+        | LineCommand::Goals
+        | LineCommand::Shelf
+        | LineCommand::Save
+        | LineCommand::SaveSteps => unreachable!(),
     }
 }
 
@@ -101,7 +101,10 @@ fn execute(
         LineCommand::Leap(limit) => Ok(Answered::Asks(None, *limit)),
         LineCommand::Skip(goal) => skip(debugger, *goal, reply),
         LineCommand::Records => Ok(Answered::Lists(Listing::Records)),
+        LineCommand::Goals => Ok(Answered::Lists(Listing::Goals)),
+        LineCommand::Shelf => Ok(Answered::Lists(Listing::Shelf)),
         LineCommand::Save => Ok(Answered::Lists(Listing::Session)),
+        LineCommand::SaveSteps => Ok(Answered::Lists(Listing::KeptSteps)),
         LineCommand::Quit => Ok(Answered::Ends),
         _ => {
             tell(alloc, debugger, command, reply)?;

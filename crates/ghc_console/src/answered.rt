@@ -6,8 +6,14 @@ use ghc_term::GoalName;
 pub enum Listing {
     /// The records.
     Records,
+    /// The goals.
+    Goals,
+    /// The steps that were taken back.
+    Shelf,
     /// The whole session, as a history.
     Session,
+    /// The kept steps, as a history.
+    KeptSteps,
 }
 
 /// What a line is answered with.

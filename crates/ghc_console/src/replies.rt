@@ -1,24 +1,27 @@
 // The replies to commands, each written into a text that is empty before. Where one gives up, what stands there is no reply.
-ghost use Rattle.std.specs.Prelude.{◌≡◌, ◌≢◌, ◌⊎◌, ◌++◌, [], List, OnErr, OnOk, codes, string_bytes};
+ghost use Rattle.std.specs.Prelude.{◌≡◌, ◌≢◌, ◌⊎◌, ◌++◌, ◌∷◌, [], List, OnErr, OnOk, codes, string_bytes};
+ghost use Rattle.std.specs.Io.KnownBytes.{Keeps};
 ghost use Rattle.ghc_fire.specs.Meter.{one_more};
 ghost use Rattle.ghc_records.specs.Replay.{MakesGoal};
 ghost use Rattle.ghc_depend.specs.Depend.{Binds};
-ghost use Rattle.ghc_core.specs.Settling.{AreKept};
 ghost use Rattle.ghc_trace.specs.Disturbed.{AreDisturbed};
 ghost use Rattle.ghc_trace.specs.Laws.{IsSettled};
 ghost use Rattle.ghc_trace.specs.Ports.{Port, ArePorts};
 ghost use Rattle.ghc_trace.specs.PortText.{ports_text};
-ghost use Rattle.ghc_console.specs.Replies.{RepliesToStep, RepliesToShow, RepliesToGoals, lined, record_lines, TellsSlot, refusal};
-ghost use Rattle.ghc_console.specs.Listings.{records_text};
+ghost use Rattle.ghc_console.specs.inner.Device.{Counts};
+ghost use Rattle.ghc_console.specs.inner.WritesTold.{WritesTold};
+ghost use Rattle.ghc_console.specs.Replies.{RepliesToStep, RepliesToShow, lined, TellsSlot, refusal};
 
 pub(crate) mod all_causes;
 pub(crate) mod causes;
 pub(crate) mod clause_lines;
 pub(crate) mod explain;
 pub(crate) mod explain_goal;
+pub(crate) mod goal_listing;
 pub(crate) mod goal_of_step;
 pub(crate) mod keep;
 pub(crate) mod keep_laws;
+pub(crate) mod kept_listing;
 pub(crate) mod listing;
 pub(crate) mod listing_laws;
 pub(crate) mod obey_reply;
@@ -27,22 +30,21 @@ pub(crate) mod record_listing;
 pub(crate) mod rollbacks;
 pub(crate) mod run_lines;
 pub(crate) mod runs;
-pub(crate) mod save_reply;
 pub(crate) mod session_listing;
 pub(crate) mod settled;
-pub(crate) mod shelf_reply;
+pub(crate) mod shelf_listing;
 pub(crate) mod since;
 pub(crate) mod spy_reply;
 
+use crate::devices::device::{Broken, Device};
+use crate::devices::made_line::write_made;
 use crate::named_variable::variable_named;
 use crate::replies::obey_reply::carry_out;
 use crate::replies::settled::settle;
 use ghc_core::{Change, Coming, Core};
 use ghc_records::{Record, Records, push_record};
 use ghc_term::{Fault, GoalName, Term, print};
-use ghc_trace::{
-    Disturbed, lines_are_of_goals, notes_tell_goals, notes_tell_ports, push_goals, push_ports_of,
-};
+use ghc_trace::{Disturbed, notes_tell_ports, push_ports_of};
 use std::alloc::{AllocError, Global};
 
 /// The line of a refusal. It fails where memory is refused, and where that is the refusal.
@@ -139,18 +141,6 @@ pub(crate) fn line(records: &Records, place: usize, reply: &mut String) -> Resul
     Ok(())
 }
 
-// The records, a line each.
-fn lines(records: &Records, reply: &mut String) -> Result<(), AllocError>
-    requires { string_bytes reply.old ≡ [] }
-    ensures { OnOk result (string_bytes reply.new ≡ record_lines records.now.held) }
-{
-    let _count = records.len();
-    for place in 0..records.places() {
-        line(records, place, reply)?;
-    }
-    Ok(())
-}
-
 /// Writes `none` where the reply is empty.
 pub(crate) fn or_none(reply: &mut String) -> Result<(), AllocError>
     ensures none { OnOk result (string_bytes reply.old ≡ [] → string_bytes reply.new ≡ lined (codes "none")) }
@@ -162,34 +152,19 @@ pub(crate) fn or_none(reply: &mut String) -> Result<(), AllocError>
     Ok(())
 }
 
-/// Tells each goal with its status, by name, or `none`; or the refusal where one is too long to print. What is untried is tried
-/// first. Some look-ups for each goal, and the cost of printing each.
-#[inline(never)]
-pub fn goals(alloc: Global, core: &mut Core, reply: &mut String) -> Result<(), AllocError>
-    requires { string_bytes reply.old ≡ [] }
-    ensures text { OnOk result (RepliesToGoals core.old.world (string_bytes reply.new)) }
-    ensures world { core.new.world ≡ core.old.world }
-    ensures kept { AreKept core.old.notes core.new.notes }
-    ensures firings { core.new.meter.firings ≡ core.old.meter.firings }
+/// Writes the line of a refusal, in place of what stands in the text; or where memory is refused for it, that.
+pub(crate) fn write_refusal<D: Device>(
+    device: &mut D,
+    fault: &Fault,
+    line: &mut String,
+) -> Result<(), Broken>
+    ensures told { WritesTold (refusal fault.now ∷ []) (D.written device.old) (D.written device.new) result }
+    ensures unread { Keeps (D.unread device.old) (D.unread device.new) }
+    ensures count { Counts (D.failures device.old) (D.failures device.new) result }
+    ensures earlier { D.earlier device.new ≡ D.earlier device.old }
+    ensures latest { D.latest device.new ≡ D.latest device.old }
 {
-    settle(alloc, core)?;
-    // Called for their clauses on the lines of goals, which the proof cites.
-    notes_tell_goals();
-    lines_are_of_goals();
-    match push_goals(alloc, core.goals(), core.tries(), core.store(), reply) {
-        Ok(()) => or_none(reply),
-        Err(fault) => refused(&fault, reply),
-    }
-}
-
-/// The records, a line each, or `none`.
-#[inline(never)]
-pub fn records(core: &Core, reply: &mut String) -> Result<(), AllocError>
-    requires { string_bytes reply.old ≡ [] }
-    ensures { OnOk result (string_bytes reply.new ≡ records_text core.now.world.kept) }
-{
-    if core.records().len() == 0 {
-        return reply.push_str("none\n");
-    }
-    lines(core.records(), reply)
+    line.clear();
+    let made = refused(fault, line);
+    write_made(device, made, line)
 }

@@ -71,7 +71,7 @@ fn serve<D: Device>(
             match write_listing(
                 alloc,
                 device,
-                &debugger.core,
+                &mut debugger.core,
                 &debugger.spies,
                 listing,
                 reply,

@@ -12,7 +12,7 @@ pub use Rattle.clap.specs.declared.builder.value_parser.ValueParser.{ValueParser
 pub use Rattle.clap.specs.declared.parser.matches.ArgMatches.{ArgMatches}
 pub use Rattle.clap.specs.declared.parser.matches.Found.{Found}
 pub use Rattle.clap.specs.declared.parser.matches.MatchedArg.{MatchedArg}
-pub use Rattle.ghc_console.specs.Replies.{records_text, saved_text}
+pub use Rattle.ghc_console.specs.Replies.{saved_text}
 pub use Rattle.ghc_console.specs.ScheduleText.{BrokenOff, IsScheduleOf, Schedule, part_of_records, then_begun, then_whole, told_at_end}
 pub use Rattle.ghc_console.specs.Session.{Began, Session, Tells, at_end, broken, ends, goes_on, nothing_yet, went_on}
 pub use Rattle.ghc_console.specs.SessionState.{SessionState}

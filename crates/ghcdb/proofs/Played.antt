@@ -1,10 +1,10 @@
 -- What was told of a schedule still stands where more of it is handed on.
-use Rattle.ghcdb.proofs.CitedWords.{ℕ, List, [], Option, Result, Ok, Err, length, subst, take-length, Keeps, Appends-kept, Fault, Core, records_text, BrokenOff, IsScheduleOf, Schedule, part_of_records, then_begun, then_whole, told_at_end}
+use Rattle.ghcdb.proofs.CitedWords.{ℕ, List, [], Option, Result, Ok, Err, length, subst, take-length, Keeps, Appends-kept, Fault, Core, BrokenOff, IsScheduleOf, Schedule, part_of_records, then_begun, then_whole, told_at_end}
 use Rattle.ghc_core.specs.declared.world.World.{World as Played}
 
 -- A whole text begins itself.
 whole_begins : {old new : Played} {lines : List (List ℕ)} {out : List ℕ} → Schedule old lines out new → BrokenOff old lines out new
-whole_begins {new = new} told_at_end = let text = records_text new.core.world.kept in subst (λ t. BrokenOff new [] t new) (take-length text) (part_of_records (length text))
+whole_begins {new = new} (told_at_end {text = text} told) = subst (λ t. BrokenOff new [] t new) (take-length text) (part_of_records (length text) told)
 whole_begins (then_whole heard rest) = then_begun heard (whole_begins rest)
 
 -- Handing on writes nothing else.

@@ -11,8 +11,8 @@ use Rattle.ghc_console.specs.Commands.{command_of, run_limit}
 use Rattle.ghc_console.specs.Reading.{line_limit}
 use Rattle.ghc_console.specs.RunReplies.{TellsRun}
 use Rattle.ghc_console.specs.TextLines.{refusal}
-use Rattle.ghc_console.specs.Listings.{TellsListing, records_listed, session_listed}
-use Rattle.ghc_console.specs.Replies.{Answers, IsReply, quits}
+use Rattle.ghc_console.specs.Listings.{TellsListing, records_listed, session_listed, shelf_listed}
+use Rattle.ghc_console.specs.Replies.{Answers, IsReply, RepliesToGoals, RepliesToSaveSteps, quits}
 use Rattle.ghc_console.specs.Session.{Served}
 use Rattle.ghc_console.specs.SessionState.{SessionState}
 use Rattle.ghc_console.specs.declared.answered.Answered.{Answered}
@@ -20,30 +20,39 @@ use Rattle.ghc_console.specs.declared.answered.Answered.TheVariants.{Told as tol
 use Rattle.ghc_console.specs.declared.answered.Listing.{Listing}
 use Rattle.ghc_console.specs.declared.answered.Listing.TheVariants as listing
 use Rattle.ghc_console.specs.declared.command.LineCommand.{LineCommand}
-use Rattle.ghc_console.specs.declared.command.LineCommand.TheVariants.{Leap as leap, Skip as skip, Records as records, Save as save}
+use Rattle.ghc_console.specs.declared.command.LineCommand.TheVariants.{Leap as leap, Skip as skip, Records as records, Goals as goals, Shelf as shelf, Save as save, SaveSteps as save_steps}
 
 -- AsksForRun w c root limit: in the world w the command c asks for a run of at most so many steps. `leap` asks for one of any goals; `skip` for one of those that descend from a goal that is there, with the limit of a run for which no number is said.
 pub data AsksForRun (w : World) : LineCommand → Option GoalName → ℕ → Type 0 where
   leap_asks : (limit : ℕ) → AsksForRun w (leap limit) None limit
   skip_asks : (g : GoalName) (b : Goal) → finite.get w.state.goals g ≡ Some b → AsksForRun w (skip g) (Some g) run_limit
 
--- AsksForListing c listed: the command c asks for what is listed: `records` for the records, `save` for the whole session.
+-- AsksForListing c listed: the command c asks for what is listed: `records` for the records, `goals` for the goals, `shelf` for the shelf, `save` for the whole session, `save 1` for the kept steps.
 pub data AsksForListing : LineCommand → Listing → Type 0 where
   records_asks : AsksForListing records listing.Records
+  goals_asks : AsksForListing goals listing.Goals
+  shelf_asks : AsksForListing shelf listing.Shelf
   save_asks : AsksForListing save listing.Session
+  save_steps_asks : AsksForListing save_steps listing.KeptSteps
 
 -- The reply to the command is made at once: it asks for no run and for no listing.
 abbrev pub is_told_at_once : LineCommand → Bool
 is_told_at_once (leap limit) = false
 is_told_at_once (skip goal) = false
 is_told_at_once records = false
+is_told_at_once goals = false
+is_told_at_once shelf = false
 is_told_at_once save = false
+is_told_at_once save_steps = false
 is_told_at_once c = true
 
--- IsListing w spies listed text: the text lists the records of the world w, or the whole session with these spies; for a session it may be the refusal alone, where memory was refused for the order of the spies.
+-- IsListing w spies listed text: the text lists that of the world w, or the whole session with these spies. It may be the refusal alone, where memory was refused before the first line: to put the goals, the shelf or the spies in order, to try the goals, or to tell why nothing is listed.
 abbrev pub IsListing : World → Spies → Listing → List ℕ → Type 0
 IsListing w spies listing.Records text = TellsListing (records_listed w.kept) text
+IsListing w spies listing.Goals text = RepliesToGoals w text ⊎ (text ≡ refusal Fault.Memory)
+IsListing w spies listing.Shelf text = TellsListing (shelf_listed w.shelf) text ⊎ (text ≡ refusal Fault.Memory)
 IsListing w spies listing.Session text = TellsListing (session_listed w spies) text ⊎ (text ≡ refusal Fault.Memory)
+IsListing w spies listing.KeptSteps text = RepliesToSaveSteps w text ⊎ (text ≡ refusal Fault.Memory)
 
 -- IsAnsweredBy s line text t answered: the text is the reply to the line in the state s, which leaves the state t, and the session goes on or ends. Or the line asks for a run or a listing in the state s, which is left.
 abbrev pub IsAnsweredBy : SessionState → List ℕ → List ℕ → SessionState → Answered → Type 0

@@ -1,24 +1,53 @@
-// The listing of the records, which is written line by line.
+// The listing of the records, and of the steps of records, which is written line by line.
 ghost use Rattle.std.specs.Prelude.{◌≡◌, ◌∷◌, [], map, OnOk, string_bytes};
 ghost use Rattle.std.specs.Io.KnownBytes.{Keeps};
-ghost use Rattle.ghc_records.specs.StepText.{record_text};
 ghost use Rattle.ghc_console.specs.inner.Device.{Counts};
-ghost use Rattle.ghc_console.specs.inner.WritesTold.{WritesSlot, WritesTold};
+ghost use Rattle.ghc_console.specs.inner.WritesTold.{WritesSlot, WritesTold, form_text};
 ghost use Rattle.ghc_console.specs.TextLines.{lined};
 ghost use Rattle.ghc_console.specs.Listings.{records_listed};
 
 use crate::devices::device::{Broken, Device, write_all};
 use crate::devices::made_line::write_made;
-use ghc_records::{Record, Records, push_record};
+use ghc_records::{Record, Records, push_record, push_step};
 use std::alloc::AllocError;
 
+/// What a line tells of a record.
+#[derive(Clone, Copy, Drop)]
+pub(crate) enum RecordForm {
+    /// All that the record says.
+    Whole,
+    /// The step alone.
+    Step,
+}
+
 // The line of a record.
-fn tell_record(taken: &Record, line: &mut String) -> Result<(), AllocError>
+fn tell_record(taken: &Record, form: RecordForm, line: &mut String) -> Result<(), AllocError>
     requires { string_bytes line.old ≡ [] }
-    ensures { OnOk result (string_bytes line.new ≡ lined (record_text taken.now)) }
+    ensures { OnOk result (string_bytes line.new ≡ lined (form_text form taken.now)) }
 {
-    push_record(taken, line)?;
+    match form {
+        RecordForm::Whole => push_record(taken, line)?,
+        RecordForm::Step => push_step(taken, line)?,
+    }
     line.push_str("\n")
+}
+
+/// Writes the line of a record, in place of what stands in the text; or where memory is refused for it, that. It costs the line.
+pub(crate) fn write_record<D: Device>(
+    device: &mut D,
+    taken: &Record,
+    form: RecordForm,
+    line: &mut String,
+) -> Result<(), Broken>
+    ensures told { WritesTold (lined (form_text form taken.now) ∷ []) (D.written device.old) (D.written device.new) result }
+    ensures unread { Keeps (D.unread device.old) (D.unread device.new) }
+    ensures count { Counts (D.failures device.old) (D.failures device.new) result }
+    ensures earlier { D.earlier device.new ≡ D.earlier device.old }
+    ensures latest { D.latest device.new ≡ D.latest device.old }
+{
+    line.clear();
+    let made = tell_record(taken, form, line);
+    write_made(device, made, line)
 }
 
 // Writes the line of the record at this place, if there is one.
@@ -26,9 +55,10 @@ fn write_record_at<D: Device>(
     device: &mut D,
     records: &Records,
     place: usize,
+    form: RecordForm,
     line: &mut String,
 ) -> Result<(), Broken>
-    ensures told { WritesSlot records.now.slots place (D.written device.old) (D.written device.new) result }
+    ensures told { WritesSlot (form_text form) records.now.slots place (D.written device.old) (D.written device.new) result }
     ensures unread { Keeps (D.unread device.old) (D.unread device.new) }
     ensures count { Counts (D.failures device.old) (D.failures device.new) result }
     ensures earlier { D.earlier device.new ≡ D.earlier device.old }
@@ -37,14 +67,17 @@ fn write_record_at<D: Device>(
     let Some(taken) = records.at(place) else {
         return Ok(());
     };
-    line.clear();
-    let made = tell_record(taken, line);
-    write_made(device, made, line)
+    write_record(device, taken, form, line)
 }
 
-// Writes the lines of the records.
-fn write_each<D: Device>(device: &mut D, records: &Records, line: &mut String) -> Result<(), Broken>
-    ensures told { WritesTold (map lined (map record_text records.now.held)) (D.written device.old) (D.written device.new) result }
+/// Writes a line for each of the records, in their order. It costs the lines, and two steps for each place of the record.
+pub(crate) fn write_each<D: Device>(
+    device: &mut D,
+    records: &Records,
+    form: RecordForm,
+    line: &mut String,
+) -> Result<(), Broken>
+    ensures told { WritesTold (map lined (map (form_text form) records.now.held)) (D.written device.old) (D.written device.new) result }
     ensures unread { Keeps (D.unread device.old) (D.unread device.new) }
     ensures count { Counts (D.failures device.old) (D.failures device.new) result }
     ensures earlier { D.earlier device.new ≡ D.earlier device.old }
@@ -53,7 +86,7 @@ fn write_each<D: Device>(device: &mut D, records: &Records, line: &mut String) -
     // Called for its clause on the slots, which the proof cites.
     let _count = records.len();
     for place in 0..records.places() {
-        match write_record_at(device, records, place, line) {
+        match write_record_at(device, records, place, form, line) {
             Ok(()) => (),
             Err(Broken) => return Err(Broken),
         }
@@ -77,5 +110,5 @@ pub(crate) fn write_records<D: Device>(
     if records.len() == 0 {
         return write_all(device, b"none\n");
     }
-    write_each(device, records, line)
+    write_each(device, records, RecordForm::Whole, line)
 }

@@ -110,8 +110,8 @@ fn write_opening_line<D: Device>(
     write_made(device, made, line)
 }
 
-// Writes a line of a word and a count.
-fn write_count<D: Device>(
+/// Writes a line of a word and a count.
+pub(crate) fn write_count<D: Device>(
     device: &mut D,
     word: &str,
     count: usize,

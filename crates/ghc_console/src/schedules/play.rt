@@ -1,16 +1,18 @@
 // Playing a schedule that is in memory.
-ghost use Rattle.std.specs.Prelude.{◌≡◌, Some, MatchResult};
+ghost use Rattle.std.specs.Prelude.{◌≡◌, Some, MatchResult, map};
 ghost use Rattle.std.specs.Io.KnownBytes.{Keeps};
 ghost use Rattle.ghc_core.specs.EventCode.{reply_of};
 ghost use Rattle.ghc_console.specs.inner.Device.{WritesFront};
 ghost use Rattle.ghc_console.specs.Lines.{lines_of};
-ghost use Rattle.ghc_console.specs.Listings.{records_text};
+ghost use Rattle.ghc_console.specs.inner.WritesTold.{WritesTold};
+ghost use Rattle.ghc_console.specs.TextLines.{lined};
+ghost use Rattle.ghc_console.specs.Listings.{records_listed};
 ghost use Rattle.ghc_console.specs.ScheduleReplies.{reply_text};
 ghost use Rattle.ghc_console.specs.ScheduleText.{ArePlayedOut, EndsSo, IsScheduleOf, PlaysLine};
 
 use crate::devices::device::{Broken, Device, write_all};
 use crate::devices::text_rows::next_row;
-use crate::replies::records;
+use crate::replies::record_listing::write_records;
 use crate::schedules::reply::{hear, push_reply};
 use crate::session_loop::cut_down;
 use ghc_core::{Core, Reply, World};
@@ -72,18 +74,17 @@ fn play_line<D: Device>(
     }
 }
 
-// Writes the records.
-fn write_records<D: Device>(core: &Core, device: &mut D, text: &mut String) -> Result<(), Fault>
-    ensures written { WritesFront (D.written device.old) (D.written device.new) result (records_text core.now.world.kept) }
+// Writes the records, line by line.
+fn write_last<D: Device>(core: &Core, device: &mut D, text: &mut String) -> Result<(), Fault>
+    ensures told { WritesTold (map lined (records_listed core.now.world.kept)) (D.written device.old) (D.written device.new) result }
     ensures unread { Keeps (D.unread device.old) (D.unread device.new) }
     ensures earlier { D.earlier device.new ≡ D.earlier device.old }
     ensures latest { D.latest device.new ≡ D.latest device.old }
     ensures ends { EndsSo (D.failures device.old) (D.failures device.new) result }
 {
-    text.clear();
-    match records(core, text) {
-        Ok(()) => write(device, text.as_bytes()),
-        Err(_) => Err(Fault::Memory),
+    match write_records(device, core.records(), text) {
+        Ok(()) => Ok(()),
+        Err(Broken) => Err(Fault::Device),
     }
 }
 
@@ -111,14 +112,14 @@ fn play_lines<D: Device>(
             Err(fault) => return Err(fault),
         }
     }
-    write_records(world.core(), device, &mut text)
+    write_last(world.core(), device, &mut text)
 }
 
 /// Plays the lines of the text, one after another, on the core with 64 hands that hold nothing, and writes the reply to each;
 /// then the records. Nothing is settled, and no line is read of the device. A refused event has its refusal for a reply, F1 too, and the
-/// lines after it are played. It ends before with `Memory` where there is no room for the hands, for the line of a reply or for the text
-/// of the records, and with `Device` where the device failed. It gives back the core as the last event played left it. Each line costs
-/// what its event costs, and no more memory than its reply.
+/// lines after it are played. Where memory is refused for the line of a record, F1 stands in its place. It ends before with `Memory` where
+/// there is no room for the hands or for the line of a reply, and with `Device` where the device failed. It gives back the core as the last
+/// event played left it. Each line costs what its event costs, and no more memory than its reply.
 pub fn schedule<D: Device>(
     alloc: Global,
     core: Core,

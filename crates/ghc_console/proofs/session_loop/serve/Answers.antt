@@ -1,4 +1,4 @@
-use Rattle.ghc_console.proofs.CitedWords.{◌≡◌, false, refl, string_bytes, true, Told as told, Ends as ends, Asks as asks, Lists as lists, state_of}
+use Rattle.ghc_console.proofs.CitedWords.{◌≡◌, ap, false, refl, string_bytes, subst, sym, true, IsReply, SessionState, Told as told, Ends as ends, Asks as asks, Lists as lists, state_of}
 use Rattle.ghc_console.proofs.RunCommands.{listing_replied}
 use Rattle.ghc_console.proofs.Served.{asks_listing, asks_run, breaks, ends_reply, not_run, serves, starved_reply, told_reply}
 use Rattle.ghc_console.proofs.session_loop.serve.Goals as goal
@@ -62,19 +62,23 @@ returns-in-Ok-write_listing-clause-served g c bytes says =
     let answer = c.answer in
     let s = state_of c.args.debugger.now in
     let t = state_of answer.new.debugger in
+    let u : SessionState = record t { world = c.write_listing.new.core.world } in
     let listed = c.in-Ok-Lists.listing in
     let is : c.in-Ok-Lists.field-0 ≡ lists listed = c.in-Ok-Lists.field-0-is in
     let asked = asks_listing s t bytes (string_bytes answer.new.reply) answer.result _ listed c.in-Ok-Lists.is is (answer.ensures.reply bytes says) in
     let told = c.in-Ok-write_listing.ensures.told in
-    serves s t bytes told.0 told.0 false _ _ (listing_replied s t bytes listed told.0 asked.0 asked.1 asked.2 told.1) refl told.2
+    let same : u ≡ t = ap (λ w. record t { world = w }) c.in-Ok-write_listing.ensures.world in
+    serves s u bytes told.0 told.0 false _ _ (subst (λ v. IsReply s bytes told.0 v false) (sym same) (listing_replied s t bytes listed told.0 asked.0 asked.1 asked.2 told.1)) refl told.2
 
 pub returns-in-Err-write_listing-clause-served : goal.returns-in-Err-write_listing-clause-served
 returns-in-Err-write_listing-clause-served g c bytes says =
     let answer = c.answer in
     let s = state_of c.args.debugger.now in
     let t = state_of answer.new.debugger in
+    let u : SessionState = record t { world = c.write_listing.new.core.world } in
     let listed = c.in-Ok-Lists.listing in
     let is : c.in-Ok-Lists.field-0 ≡ lists listed = c.in-Ok-Lists.field-0-is in
     let asked = asks_listing s t bytes (string_bytes answer.new.reply) answer.result _ listed c.in-Ok-Lists.is is (answer.ensures.reply bytes says) in
     let told = c.in-Err-write_listing.ensures.told in
-    breaks _ s t bytes told.0 told.0 false _ _ (listing_replied s t bytes listed told.0 asked.0 asked.1 asked.2 told.1) refl told.2
+    let same : u ≡ t = ap (λ w. record t { world = w }) c.in-Err-write_listing.ensures.world in
+    breaks _ s u bytes told.0 told.0 false _ _ (subst (λ v. IsReply s bytes told.0 v false) (sym same) (listing_replied s t bytes listed told.0 asked.0 asked.1 asked.2 told.1)) refl told.2

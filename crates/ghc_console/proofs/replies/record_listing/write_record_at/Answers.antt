@@ -1,4 +1,4 @@
-use Rattle.ghc_console.proofs.CitedWords.{◌≡◌, ap, sym, ◌∙◌, inl, inr, [], Appends-nil, no_line, None, Some, option_copied, lined, record_text}
+use Rattle.ghc_console.proofs.CitedWords.{◌≡◌, ap, sym, ◌∙◌, inl, inr, [], Appends-nil, no_line, None, Some, option_copied}
 use Rattle.ghc_console.proofs.replies.record_listing.write_record_at.Goals as goal
 
 pub returns-in_default-clause-told : goal.returns-in_default-clause-told
@@ -7,4 +7,4 @@ returns-in_default-clause-told g c = inr ((λ r stands. let clash : None ≡ Som
 pub returns-clause-told : goal.returns-clause-told
 returns-clause-told g c =
     let r = c.in-Some.taken.now in
-    inl (r, (c.at.ensures r).0 (ap option_copied c.in-Some.is), c.write_made.ensures.told (lined (record_text r)) c.tell_record-made.ensures)
+    inl (r, (c.at.ensures r).0 (ap option_copied c.in-Some.is), c.write_record.ensures.told)

@@ -18,4 +18,4 @@ returns-in-Err-clause-played g c =
     going_broken _ _ _ _ _ _ _ _ _ _ _ played.told.0 c.loop-line.invariant.0 c.in-Some.ensures.found played.heard played.told.1
 
 pub returns-clause-played : goal.returns-clause-played
-returns-clause-played g c = going_last _ _ _ _ _ _ _ _ _ c.loop-line.invariant.0 c.in_default.ensures.none c.core.ensures c.write_records.ensures.written
+returns-clause-played g c = going_last _ _ _ _ _ _ _ _ _ c.loop-line.invariant.0 c.in_default.ensures.none c.core.ensures c.write_last.ensures.told
