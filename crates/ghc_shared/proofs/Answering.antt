@@ -1,6 +1,7 @@
 -- What a call does to the history of a core.
 use Rattle.ghc_shared.proofs.Words.{◌≡◌, ◌⊎◌, ◌++◌, ◌∙◌, ℕ, [], ◌∷◌, refl, sym, ap, subst, subst₂, inl, inr, Some, None, Result, Err, Bool, true, false, arith, MatchBool, nat_cmp_total, Fault, Entry, entered, history, Proposal, Hands, no_hands, IsHand, emptied, World, IsCommitted, command_of, commit, command, stepped, refused, CommitFails, Fails, hands_after, Counts, Meter, fired, Answers, fails, no_memory, IsNotCommittedAnyway, holds_no_goal, held_gone, hand_commits, hand_gives_up, Leaves, tells_change, AddsWhatItTells, AnswersAddWhatTheyTell, reply_of, Reply, Command, Call, AddsIfAccepted, holding, hands_of, event_of, IsToldAnyway, IsAnswerTo}
 use Rattle.std.specs.FinMap as finite
+use Rattle.ghc_term.specs.Goal.{Goal}
 use Rattle.ghc_core.proofs.Histories.{history_push}
 
 -- `Memory` is an answer to each call
@@ -34,6 +35,10 @@ not_obeyed w c f (inr why) = fails tt why
 -- the commit is refused whatever memory is left where its goal is gone, and for nothing else
 gone_alone : (w : World) (p : Proposal) (f : Fault) → IsNotCommittedAnyway w (holding p) 1 f → (f ≡ Fault.Stale) × (finite.get w.state.goals p.goal ≡ None)
 gone_alone w p f why = let is = holds_no_goal w (holding p) 1 (one_hand p) why in (is.0, held_gone w (holding p) 1 p (held_there p) is.1)
+
+-- the commit of a proposal whose goal is there is not refused whatever memory is left
+pub there_is_told : (w : World) (p : Proposal) (b : Goal) (f : Fault) → finite.get w.state.goals p.goal ≡ Some b → ¬ IsNotCommittedAnyway w (holding p) 1 f
+there_is_told w p b f there anyway = let none = (gone_alone w p f anyway).1 in cc
 
 pub told_gone : {X : Type 0} (w : World) (p : Proposal) (result : Result X Fault) (f : Fault) → (finite.get w.state.goals p.goal ≡ None → result ≡ Err Fault.Stale) → IsNotCommittedAnyway w (holding p) 1 f → result ≡ Err f
 told_gone w p result f said anyway = let is = gone_alone w p f anyway in said is.1 ∙ ap (λ (x : Fault). Err x) (sym is.0)

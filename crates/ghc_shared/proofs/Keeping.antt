@@ -1,14 +1,34 @@
 -- What the keeper and a pass know once the keeper has caught up for the pass.
-use Rattle.ghc_shared.proofs.Words.{◌≡◌, ℕ, ◌+◌, ◌≤◌, List, [], ◌∷◌, ◌++◌, length, drop, Bool, true, false, refl, sym, ap, ◌∙◌, subst, append-nil, arith, length-append, length-drop, Option, Me, Knowledge, items_of, extended, AllBy, ArePlacesBy, keeper, front, IsPass, IsKeeper, AddsIfAccepted}
+use Rattle.ghc_shared.proofs.Words.{◌≡◌, ℕ, ◌+◌, ◌≤◌, List, [], ◌∷◌, ◌++◌, length, drop, Bool, true, false, refl, sym, ap, ◌∙◌, subst, append-nil, arith, length-append, length-drop, Option, Me, Knowledge, items_of, extended, AllBy, ArePlacesBy, keeper, front, MatchBool, AddsOneIf, IsPass, IsKeeper, Known, AddsIfAccepted, IsAcceptedCall, IsRefusedCall, IsDecided}
 use mathlib.Core.List.{IsPrefix}
+use Rattle.ghc_shared.specs.declared.receipt.Receipt.{Receipt}
 use Rattle.ghc_shared.proofs.Moves.{prefix_more}
 use Rattle.ghc_shared.proofs.Extended.{items_append, length-items_of, prefix_items, extended_more, extended_same, drop_more, places_snoc, by_append, places_prefix}
 
--- a call adds one item at most
-pub grown : {E A R : Type 0} (answers : List E → A → R → Option E → Type 0) (accepted : Bool) (old new : List E) (ask : A) (reply : R) → AddsIfAccepted answers accepted old new ask reply
-    → (more : List E) × (new ≡ old ++ more)
-grown answers true old new ask reply h = (h.0 ∷ [], h.1)
-grown answers false old new ask reply h = ([], h.0 ∙ sym (append-nil old))
+-- a call adds one item, if it is accepted
+pub adds_one : {E A R : Type 0} (answers : List E → A → R → Option E → Type 0) (accepted : Bool) (old new : List E) (ask : A) (reply : R) → AddsIfAccepted answers accepted old new ask reply → AddsOneIf accepted old new
+adds_one answers true old new ask reply h = (h.0, h.1)
+adds_one answers false old new ask reply h = h.0
+
+-- the history goes on
+pub grown : {E : Type 0} (accepted : Bool) (old new : List E) → AddsOneIf accepted old new → (more : List E) × (new ≡ old ++ more)
+grown true old new h = (h.0 ∷ [], h.1)
+grown false old new h = ([], h ∙ sym (append-nil old))
+
+-- the keeper knows the items that it has seen
+pub knows_seen : {S E : Type 0} {base passes : ℕ} {history : List E} {me : Me S (Knowledge E)} {total : ℕ} → IsKeeper base passes history me total → IsKeeper base passes (items_of me.0.seen) me total
+knows_seen is = record { seated = is.seated; same = refl; made_by = is.made_by; counted = is.counted }
+
+-- what a call did, and what the pass has seen and kept of it
+module _ {E A R : Type 0} (answers : List E → A → R → Option E → Type 0) (before after : List E) (ask : A) (receipt : Receipt R) (old new : Known E) where
+  decides : (accepted : Bool) → AddsIfAccepted answers accepted before after ask receipt.reply → new.front ≡ after → MatchBool accepted (new.places ≡ old.places ++ receipt.place ∷ []) (new.places ≡ old.places)
+      → MatchBool accepted (IsAcceptedCall answers before ask receipt.reply receipt.place old new) (IsRefusedCall answers before ask receipt.reply old new)
+  decides true adds front places = record { item = adds.0; front = front ∙ adds.1; answer = adds.2; places = places }
+  decides false adds front places = record { front = front ∙ adds.0; answer = adds.1; places = places }
+
+  pub decided : IsPrefix old.front before → receipt.place ≡ length before → AddsIfAccepted answers receipt.accepted before after ask receipt.reply → new.front ≡ after
+      → MatchBool receipt.accepted (new.places ≡ old.places ++ receipt.place ∷ []) (new.places ≡ old.places) → IsDecided answers before ask receipt old new
+  decided seen place adds front places = record { seen = seen; place = place; decided = decides receipt.accepted adds front places }
 
 -- The keeper knows this history, with so many counted; the pass has such places and such a share, its front is the history, and begins with what it had seen.
 pub record IsCaughtUp {S E : Type 0} (base passes : ℕ) (legal : List E → Type 0) (number : ℕ) (history : List E) (places : List ℕ) (me told kept : Me S (Knowledge E)) (parts amount total : ℕ) : Type 0 where

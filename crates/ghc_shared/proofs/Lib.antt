@@ -6,6 +6,7 @@ pub mod PlacesOnce
 pub mod Crosses
 pub mod ExclusiveCrosses
 pub mod Answering
+pub mod AtOnce
 pub mod AnsweredCalls
 pub mod CoreCrosses
 pub mod Listing

@@ -24,7 +24,7 @@ pub use Rattle.ghc_fire.specs.declared.meter.Meter.{Meter}
 pub use Rattle.ghc_records.specs.Journal.{Entry, Item, Opening, entered, history, opened}
 pub use Rattle.ghc_records.specs.Record.{numbers}
 pub use Rattle.ghc_shared.specs.inner.Calls.{IsAnswerTo, IsToldAnyway, IsToldOnFront, code_of, event_of, hands_of, holding, receipt_behind, receipt_of}
-pub use Rattle.ghc_shared.specs.inner.Logs.{AllBy, ArePlacesBy, extended, items_of, opening_log}
+pub use Rattle.ghc_shared.specs.inner.Logs.{AddsOneIf, AllBy, ArePlacesBy, extended, items_of, opening_log}
 pub use Rattle.ghc_shared.specs.Passes.{AreAll, IsKeeper, IsPass, Known, newcomers}
 pub use Rattle.ghc_shared.specs.Places.{AreAllByTheirs, numbers_from, weight, weight_of_places}
 pub use Rattle.ghc_shared.specs.Receipts.{AddsIfAccepted, IsAcceptedCall, IsDecided, IsRefusedCall}

@@ -1,8 +1,8 @@
 // The calls of a shared core.
-ghost use Rattle.std.specs.Prelude.{◌≡◌, List, IfOk, None};
+ghost use Rattle.std.specs.Prelude.{◌≡◌, ◌≤◌, ◌↔◌, List, length, IsTrue, IfOk, IfErr, OnOk, OnErr, None, Err};
 ghost use mathlib.Core.List.{IsPrefix};
 ghost use Rattle.ghc_fire.specs.Meter.{fired, one_more};
-ghost use Rattle.ghc_records.specs.Journal.{Item};
+ghost use Rattle.ghc_records.specs.Journal.{Item, Opening};
 ghost use Rattle.ghc_core.specs.World.{World, no_hands};
 ghost use Rattle.ghc_core.specs.Events.{commit as committed, note as noted, command as commanded};
 ghost use Rattle.ghc_core.specs.Legal.{IsLegal, IsAnswered, Shows};
@@ -10,7 +10,8 @@ ghost use Rattle.ghc_core.specs.CommandCode.{command_of};
 ghost use Rattle.ghc_shared.specs.declared.calls.Call.TheVariants.{Submit as submitted, Note as asked_note, Command as asked};
 ghost use Rattle.ghc_shared.specs.Passes.{submits_after};
 ghost use Rattle.ghc_shared.specs.Receipts.{IsDecided};
-ghost use Rattle.ghc_shared.specs.inner.Calls.{holding, hands_of, event_of, receipt_of, IsAnswerTo, IsToldOnFront, IsProposal, ListsWoken, is_submit};
+ghost use Rattle.ghc_shared.specs.inner.Calls.{holding, hands_of, event_of, receipt_of, code_of, IsAnswerTo, IsToldOnFront, IsProposal, ListsWoken, is_submit};
+ghost use Rattle.ghc_shared.specs.inner.AtOnce.{IsStepAtOnce};
 
 use crate::calls::Call;
 use crate::naming::Naming;
@@ -71,11 +72,46 @@ impl<N: Naming> Shared<Core, N> {
         core.stands();
         match core.attempt(alloc, meter, goal, None) {
             Ok(proposal) => {
-                list_woken(core, &proposal, woken);
+                list_woken(core, proposal.effect().binds(), woken);
                 Ok(proposal)
             }
             Err(fault) => Err(fault),
         }
+    }
+
+    /// Proposes a step of the goal, a call by the least clause that accepts it, and submits it: what `propose_and_list` and `submit`
+    /// give one after the other, where nothing comes between. It takes one holding of the write side, and one attempt. The result is
+    /// the submit's receipt, and how many goals the step makes; the goals that it would wake are listed, as far as there is memory.
+    /// Where no step can be proposed, the fault is the attempt's, and pass and list are as they were. A submit is refused where new
+    /// steps have no room, or memory is refused for this one. It costs what preparing and applying the step cost, a look-up for each
+    /// variable bound, and a place for each goal listed.
+    pub fn step_at_once<R: Wait>(
+        &self,
+        rt: &R,
+        alloc: Global,
+        me: &mut Pass<Core, N>,
+        goal: GoalName,
+        woken: &mut Vec<GoalName>,
+    ) -> Result<(Receipt<Reply>, u32), Fault>
+        ensures begins { IsPrefix me.old.front me.new.front }
+        ensures number { me.new.number ≡ me.old.number }
+        ensures legal { IsLegal me.new.front }
+        ensures submits { OnOk result (me.new.submits ≡ one_more me.old.submits) }
+        ensures stepped { IfOk result (λ r. IsStepAtOnce N.opened goal r.0 me.old me.new woken.old.items woken.new.items) }
+        ensures refused { IfErr result (λ f. (w : World) × IsProposal N.opened w goal None (Err f)) }
+        ensures stays { OnErr result ((me.new ≡ me.old) × (woken.new.items ≡ woken.old.items)) }
+    {
+        self.lock
+            .write(rt)
+            .step_at_once(&self.table, alloc, me, goal, woken)
+    }
+
+    /// Whether the program has 32 clauses at most: a comparison, under the read side of the lock.
+    pub fn has_few_clauses<R: Wait>(&self, rt: &R) -> bool
+        ensures { (o : Opening) × (code_of o ≡ N.opened) × (IsTrue result ↔ (length o.program ≤ 32)) }
+    {
+        let held = self.lock.read(rt);
+        held.value.program().clauses().len() <= 32
     }
 
     // Asks the core, and tells it by the core's words.

@@ -1,6 +1,7 @@
 //! A value behind one lock that tells a history which only grows, as a core does, and passes, each of which knows how that history began.
 #![tactic(auto)]
 
+mod booking;
 mod calls;
 mod closing;
 mod core_calls;
@@ -14,6 +15,7 @@ mod opening;
 mod pass;
 mod receipt;
 mod shared;
+mod stepping;
 mod telling;
 mod tending;
 mod waking;

@@ -4,6 +4,7 @@ ghost use mathlib.Core.List.{IsPrefix};
 ghost use Rattle.ghc_shared.specs.Passes.{submits_after};
 ghost use Rattle.ghc_shared.specs.Receipts.{AddsIfAccepted, IsDecided};
 
+use crate::booking::book_call;
 use crate::exclusive::Exclusive;
 use crate::growing::Growing;
 use crate::keeper::catch_up;
@@ -87,26 +88,21 @@ impl<C: Growing, N: Naming> Locked<C, N> {
         let room = me.places.reserve(1).is_ok();
         me.submits = counted(me.submits, self.value.is_submit(&ask));
         let (receipt, count) = call_with(&mut self.value, alloc, ask, room);
-        let (place, accepted) = (receipt.place, receipt.accepted);
         let Some(mut kept) = self.held.replace(None) else {
             unreachable!()
         };
-        let claim = table.shared.split_seat::<Copied>(&mut me.seat);
-        me.seat = catch_up(
+        book_call(
             table,
-            &mut kept.seat,
-            claim,
             &self.value,
+            &mut kept,
+            &mut me.seat,
+            &mut me.share,
+            &mut me.places,
             me.number,
-            place,
+            receipt.place,
             count,
+            receipt.accepted,
         );
-        if !accepted {
-            drop(self.held.replace(Some(kept)));
-            return receipt;
-        }
-        kept.book.add(&mut me.share, 1);
-        me.places.push_reserved(place);
         drop(self.held.replace(Some(kept)));
         receipt
     }

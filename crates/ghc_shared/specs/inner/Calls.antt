@@ -7,7 +7,7 @@ use Rattle.ghc_term.specs.declared.var_name.VarName.{VarName}
 use Rattle.ghc_term.specs.declared.fault.Fault.{Fault}
 use Rattle.ghc_term.specs.Goal.{Goal}
 use Rattle.ghc_term.specs.Lists.{In}
-use Rattle.ghc_term.specs.Store.{value_at}
+use Rattle.ghc_term.specs.Store.{StoreValue, value_at}
 use Rattle.ghc_term.specs.Answered.{Answered}
 use Rattle.ghc_match.specs.Looked.{GoalLooksAt}
 use Rattle.ghc_fire.specs.Attempt.{refused}
@@ -96,9 +96,13 @@ pub record IsProposal (opened : Gv) (w : World) (goal : GoalName) (choice : Opti
   pub no_goal : AttemptAnswers w goal choice (refused Fault.NoGoal) → result ≡ Err Fault.NoGoal
   pub no_clause : AttemptAnswers w goal choice (refused Fault.NoClause) → result ≡ Err Fault.NoClause
 
+-- In the world w the goal named g is there, and a trial of it looks at a variable that has a value here.
+abbrev pub LooksAmong : World → StoreValue → GoalName → Type 0
+LooksAmong w binds g = (b : Goal) × (x : VarName) × (finite.get w.state.goals g ≡ Some b) × GoalLooksAt w.opening.program (value_at w.state.store) b x × IsTrue (finite.contains_key binds x)
+
 -- In the world w the goal named g is there, and a trial of it looks at a variable that the proposal binds.
 abbrev pub LooksWhereBound : World → Proposal → GoalName → Type 0
-LooksWhereBound w p g = (b : Goal) × (x : VarName) × (finite.get w.state.goals g ≡ Some b) × GoalLooksAt w.opening.program (value_at w.state.store) b x × IsTrue (finite.contains_key p.effect.binds x)
+LooksWhereBound w p g = LooksAmong w p.effect.binds g
 
 -- Where a step was proposed in the world w, each name that the list has more is that of a goal that looks where the step binds.
 abbrev pub ListsWoken : World → Result Proposal Fault → List GoalName → List GoalName → Type 0

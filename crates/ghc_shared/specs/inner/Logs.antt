@@ -1,5 +1,5 @@
 -- Logs: the items of a history, each with the number of the pass that made it.
-use Rattle.std.specs.Prelude.{◌≡◌, ℕ, suc, ◌==◌, ◌<◌, ◌++◌, List, [], ◌∷◌, length, map, drop, MatchBool}
+use Rattle.std.specs.Prelude.{◌≡◌, ℕ, suc, ◌==◌, ◌<◌, ◌++◌, List, [], ◌∷◌, length, map, drop, Bool, MatchBool}
 
 module _ {E : Type 0} where
   -- the log of a history that no pass has made: its items stand under 0
@@ -13,6 +13,10 @@ module _ {E : Type 0} where
   -- the log, and then what the history has more, which this pass made
   abbrev pub extended : List (ℕ × E) → ℕ → List E → List (ℕ × E)
   extended log by history = log ++ map (λ item. (by, item)) (drop (length log) history)
+
+  -- The history has one item more if a call was accepted, and else none.
+  abbrev pub AddsOneIf : Bool → List E → List E → Type 0
+  AddsOneIf accepted old new = MatchBool accepted ((item : E) × (new ≡ old ++ item ∷ [])) (new ≡ old)
 
   -- Each item was made by one of so many passes.
   abbrev pub AllBy : ℕ → List (ℕ × E) → Type 0

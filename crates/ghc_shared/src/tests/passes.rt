@@ -63,7 +63,20 @@ impl<N: Naming, R: Wait> Hands<'_, N, R> {
         }
     }
 
-    // The goals after those of the earlier passes.
+    fn is_taken_at_once(&self, me: &mut Pass<Core, N>, goal: GoalName) -> bool
+        ensures { me.new.number ≡ me.old.number }
+    {
+        let mut woken = Vec::new(self.alloc);
+        let taken = self
+            .shared
+            .step_at_once(self.rt, self.alloc, me, goal, &mut woken);
+        match taken {
+            Ok((receipt, made)) => receipt.accepted && made == 0,
+            Err(_) => false,
+        }
+    }
+
+    // The goals after those of the earlier passes, the last of them at once.
     fn are_taken(&self, me: &mut Pass<Core, N>) -> bool
         ensures { me.new.number ≡ me.old.number }
     {
@@ -71,12 +84,13 @@ impl<N: Naming, R: Wait> Hands<'_, N, R> {
             return false;
         };
         let front = number.wrapping_mul(25);
-        for place in 1..26 {
+        for place in 1..25 {
             if !self.is_taken(me, goal(front.wrapping_add(place))) {
                 return false;
             }
         }
-        true
+        self.shared.has_few_clauses(self.rt)
+            && self.is_taken_at_once(me, goal(front.wrapping_add(25)))
     }
 
     fn is_gone(&self) -> bool {

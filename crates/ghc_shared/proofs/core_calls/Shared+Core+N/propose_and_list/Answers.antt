@@ -1,12 +1,17 @@
-use Rattle.std.proofs.Common.{refl}
+use Rattle.std.specs.Prelude.{◌⊎◌}
+use Rattle.std.proofs.Common.{refl, ap, ◌∙◌, subst}
+use Rattle.ghc_term.specs.Lists.{In}
+use Rattle.ghc_term.specs.declared.goal_name.GoalName.{GoalName}
+use Rattle.ghc_shared.specs.inner.Calls.{LooksAmong}
 use Rattle.ghc_shared.proofs.core_calls.Shared+Core+N.propose_and_list.Goals as goal
 
 pub returns-in-Ok-clause-answer : goal.returns-in-Ok-clause-answer
 returns-in-Ok-clause-answer g c =
-    let made = c.in-Ok.ensures in (
-      c.behind-held.inside.value.world,
+    let made = c.in-Ok.ensures in
+    let w = c.behind-held.inside.value.world in (
+      w,
       record { of_opening = c.behind-held.invariant.0; standing = c.stands.ensures.standing; answer = made.answer; no_goal = made.no_goal; no_clause = made.no_clause },
-      c.list_woken.ensures,
+      subst (λ m. (g : GoalName) → In g c.list_woken.new.list.items → In g c.args.woken.now.items ⊎ LooksAmong w m g) (c.binds.ensures ∙ ap (λ e. e.binds) c.effect.ensures) c.list_woken.ensures,
     )
 
 pub returns-clause-answer : goal.returns-clause-answer

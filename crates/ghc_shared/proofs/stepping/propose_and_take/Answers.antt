@@ -1,0 +1,39 @@
+use Rattle.ghc_shared.proofs.Words.{◌≡◌, ◌⊎◌, sym, ap, ◌∙◌, subst, subst₂, inl, inr, Fault}
+use Rattle.std.proofs.Common.{rules}
+use Rattle.ghc_term.specs.Lists.{In}
+use Rattle.ghc_term.specs.declared.goal_name.GoalName.{GoalName}
+use Rattle.ghc_core.specs.World.{IsNextStep}
+use Rattle.ghc_shared.specs.inner.Calls.{LooksAmong}
+use Rattle.ghc_shared.specs.inner.AtOnce.{IsTaken}
+use Rattle.ghc_core.specs.EventCode.{reply_of}
+use Rattle.ghc_shared.proofs.Answering.{gives_up}
+use Rattle.ghc_shared.proofs.AtOnce.{found_is_told, full_has_goal, full_has_clause, found, taken_answer, full, none_proposed, at_once}
+use Rattle.ghc_shared.proofs.stepping.propose_and_take.Goals as goal
+
+pub take-requires : goal.take-requires
+take-requires c = subst (λ w. IsNextStep w c.in-Ok.addition) (sym c.in-Ok.ensures.stays.world) c.in-Ok.ensures.answer.0.3.1
+
+pub returns-in-Ok-clause-answered : goal.returns-in-Ok-clause-answered
+returns-in-Ok-clause-answered c =
+    let w = c.args.core.now.world in
+    let v = c.take.new.core.world in
+    let f = found w c.args.goal c.stands.ensures.standing c.stands.ensures.orderly.acyclic c.in-Ok.addition c.in-Ok.ensures.answer.0 in
+    let taken = subst (λ u. IsTaken u c.in-Ok.addition (reply_of c.take.result) v) c.in-Ok.ensures.stays.world c.take.ensures.taken in
+    let binds = c.binds.ensures ∙ ap (λ e. e.binds) (c.effect-effect.ensures ∙ ap (λ r. r.effect) c.step.ensures) ∙ f.3 in
+    let wakes = subst₂ (λ u m. (g : GoalName) → In g c.list_woken.new.list.items → In g c.args.woken.now.items ⊎ LooksAmong u m g) c.in-Ok.ensures.stays.world binds c.list_woken.ensures in
+    at_once w c.args.goal c.stands.ensures.standing f.0 c.take.result v c.args.woken.now.items c.list_woken.new.list.items f.1 (λ t. found_is_told (c.in-Ok.ensures.no_goal t)) (λ t. found_is_told (c.in-Ok.ensures.no_clause t))
+    (taken_answer w c.args.goal f.0 c.in-Ok.addition c.take.result v f.2 taken) wakes
+
+pub returns-in-Err-Full-clause-answered : goal.returns-in-Err-Full-clause-answered
+returns-in-Err-Full-clause-answered c =
+    let w = c.args.core.now.world in
+    let is = c.in-Err-Full.field-0-is in
+    let told = c.in-Err-Full.ensures in
+    let f = full w c.args.goal c.in-Err-Full.field-0 is told.answer.1 in
+    at_once w c.args.goal c.stands.ensures.standing f.0 _ _ _ _ f.1 (λ t. full_has_goal is (told.no_goal t)) (λ t. full_has_clause is (told.no_clause t)) (gives_up w _ f.0 Fault.Full (inr f.2) told.stays.world) (λ h i. inl i)
+
+pub returns-in-Err-clause-refused : goal.returns-in-Err-clause-refused
+returns-in-Err-clause-refused c =
+    let told = c.in-Err.ensures in
+    let not_full : c.in-Err.fault ≡ Fault.Full → ⊥ = λ e. search rules in
+    none_proposed c.args.core.now.world c.args.goal c.stands.ensures.standing c.in-Err.fault told.answer.1 not_full told.no_goal told.no_clause
