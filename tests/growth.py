@@ -31,6 +31,10 @@ waits(N,X) :- N > 0 | M := N - 1, w(X), waits(M,X).
 w(a) :- true | true.
 loop :- true | loop.
 """
+# Goals that carry a closed list.
+WALK = """walk([]) :- true | true.
+walk([_|X]) :- true | walk(X).
+"""
 
 
 class Session(NamedTuple):
@@ -41,6 +45,7 @@ class Session(NamedTuple):
     lines: list
     history: str = ""
     last: str | None = None
+    workers: int = 1
 
 
 def causes(size):
@@ -58,6 +63,12 @@ def beside_many(size):
     return Session(WAITING, f"waits({size},X), loop", [f"leap {4 * size}"] + ["leap 1"] * size)
 
 
+def walks(size):
+    """Two goals walk along closed lists of so many elements, by two workers."""
+    listed = ",".join(size * "1")
+    return Session(WALK, f"walk([{listed}]), walk([{listed}])", ["leap"], last="stopped quiet", workers=2)
+
+
 class Growth(NamedTuple):
     what: str
     session: Callable[[int], Session]
@@ -69,6 +80,7 @@ GROWTHS = [
     Growth("a history whose numbers were searched for the hash of numbers", searched(hash_of_numbers), 40_000),
     Growth("a history whose numbers were searched for the hash of the kit", searched(hash_of_kit), 40_000),
     Growth("runs of one step beside many goals that wait", beside_many, 4_000),
+    Growth("walks along closed lists by two workers", walks, 5_000),
 ]
 
 
@@ -79,6 +91,8 @@ def played(session, folder):
     if session.history:
         (folder / "run.history").write_text(session.history)
         words += ["--load", "run.history"]
+    if session.workers > 1:
+        words += ["--workers", str(session.workers)]
     times = []
     for _ in range(RUNS):
         before = os.times()

@@ -1,5 +1,6 @@
 // What a round does with a goal: a step of it is proposed and submitted, or it is noted.
 ghost use Rattle.std.specs.Prelude.{◌≡◌, ◌↔◌, IsTrue, MatchOption, true, false};
+ghost use Rattle.std.specs.FinSet as set;
 ghost use Rattle.ghc_term.specs.declared.fault.Fault.TheVariants.{Memory as memory};
 ghost use Rattle.ghc_hooks.specs.Status.{ready};
 ghost use Rattle.ghc_pool.specs.inner.Told.{IsInScope, IsSpiedGoal, IsRefusedGoal, IsStarvedGoal, IsUnspiedStep, TellsStatus};
@@ -28,6 +29,8 @@ pub struct Deciding<'a, N: Naming, R: Wait, G: Gate> {
     pub spies: &'a SpySet,
     pub gate: &'a G,
     pub steps: bool,
+    // Whether steps are light, so that one is taken at once where nothing is spied.
+    pub at_once: bool,
 }
 
 // What is to be done with a goal where steps are taken.
@@ -250,24 +253,74 @@ impl<N: Naming, R: Wait, G: Gate> Deciding<'_, N, R, G> {
         }
     }
 
+    // Whether a step of the goal is taken at once: steps are light, nothing is spied, and the round may step the goal.
+    fn is_light(&self, goal: GoalName) -> bool
+        ensures unspied { IsTrue result → (self.now.spies.now ≡ set.empty) }
+        ensures inside { IsTrue result → IsInScope self.now.scope.now goal }
+    {
+        self.at_once && self.spies.is_empty() && self.scope.has(goal)
+    }
+
+    // Takes a step of the goal at once, or notes it, where none could be proposed; or it is ready by now, and nothing comes of that.
+    fn take_at_once(&self, pass: &mut Pass<Core, N>, goal: GoalName) -> Option<Decided>
+        requires steps { self.now.steps ≡ true }
+        requires unspied { self.now.spies.now ≡ set.empty }
+        requires inside { IsInScope self.now.scope.now goal }
+        ensures { MatchOption result (GoesOnWithout N.opened self.now.scope.now self.now.spies.now self.now.steps pass.old pass.new) (IsDecidedAs N.opened self.now.scope.now self.now.spies.now self.now.steps goal pass.old pass.new) }
+    {
+        let mut woken = Vec::new(self.alloc);
+        match self
+            .shared
+            .step_at_once(self.rt, self.alloc, pass, goal, &mut woken)
+        {
+            Ok((receipt, goals)) => {
+                let stop = stop_of_submit(&receipt.reply);
+                let (step, made) = step_and_made(&receipt.reply, goals);
+                let answer = Answer::Submitted(receipt);
+                Some(Decided {
+                    answer,
+                    stop,
+                    step,
+                    made,
+                    woken,
+                })
+            }
+            Err(fault) => {
+                if is_memory(&fault) {
+                    return Some(self.starve(pass, goal));
+                }
+                self.note_refused(pass, goal)
+            }
+        }
+    }
+
+    // Decides what comes of a goal where steps are taken; or it is ready by now, and nothing comes of that.
+    fn try_step(&self, worker: usize, pass: &mut Pass<Core, N>, goal: GoalName) -> Option<Decided>
+        requires { self.now.steps ≡ true }
+        ensures { MatchOption result (GoesOnWithout N.opened self.now.scope.now self.now.spies.now self.now.steps pass.old pass.new) (IsDecidedAs N.opened self.now.scope.now self.now.spies.now self.now.steps goal pass.old pass.new) }
+    {
+        if self.is_light(goal) {
+            return self.take_at_once(pass, goal);
+        }
+        match self.plan(goal) {
+            Plan::Submit(proposal, woken) => {
+                Some(self.submit(worker, pass, goal, proposal, woken))
+            }
+            Plan::Outside => Some(self.note_outside(pass, goal)),
+            Plan::Pass => Some(self.note_spied(pass, goal)),
+            Plan::Refuse => self.note_refused(pass, goal),
+            Plan::Starve => Some(self.starve(pass, goal)),
+        }
+    }
+
     // Decides what comes of a goal where steps are taken.
     fn take_step(&self, worker: usize, pass: &mut Pass<Core, N>, goal: GoalName) -> Decided
         requires { self.now.steps ≡ true }
         ensures { IsDecidedAs N.opened self.now.scope.now self.now.spies.now self.now.steps goal pass.old pass.new result }
     {
         for _ in self.rt.forever() {
-            match self.plan(goal) {
-                Plan::Submit(proposal, woken) => {
-                    return self.submit(worker, pass, goal, proposal, woken);
-                }
-                Plan::Outside => return self.note_outside(pass, goal),
-                Plan::Pass => return self.note_spied(pass, goal),
-                Plan::Refuse => {
-                    if let Some(decided) = self.note_refused(pass, goal) {
-                        return decided;
-                    }
-                }
-                Plan::Starve => return self.starve(pass, goal),
+            if let Some(decided) = self.try_step(worker, pass, goal) {
+                return decided;
             }
         }
         unreachable!()

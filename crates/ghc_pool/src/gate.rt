@@ -9,4 +9,7 @@ pub trait Gate {
 
     /// What the worker submitted for the goal was answered.
     fn answered(&self, worker: usize, goal: GoalName);
+
+    /// Whether a worker may be held up here. Where none is, a light step is taken at once, with no call of the two above.
+    fn holds_up(&self) -> bool;
 }

@@ -14,4 +14,8 @@ impl Gate for NoGate {
     fn answered(&self, worker: usize, goal: GoalName) {
         let _ = (worker, goal);
     }
+
+    fn holds_up(&self) -> bool {
+        false
+    }
 }

@@ -55,15 +55,27 @@ fn take_apart(workers: Vec<Worker>, done: &mut Vec<Work>)
     }
 }
 
+// Whether steps are taken that are light: no worker is held up between a proposal and its submit, and the program has few clauses.
+fn are_light<N: Naming, R: Wait, G: Gate>(
+    rt: &R,
+    shared: &Shared<Core, N>,
+    gate: &G,
+    steps: bool,
+) -> bool {
+    steps && !gate.holds_up() && shared.has_few_clauses(rt)
+}
+
 /// A round over a shared core. As many workers as there are passes, from 1 to 64, each in a thread of its own, work off the names,
 /// and the goals that their steps make or wake. The first offers first what is handed in. Where steps are taken, a worker proposes and
-/// submits a step of each name in the scope, unless the goal is a call of a spied predicate. It notes a name that is not in the
-/// scope or is spied, or of which no step could be proposed. Where no steps are taken it notes each name. However names are weighed,
-/// what was offered is what was taken and what was left. Each that was taken has an answer that is a receipt in what its worker's
-/// pass has seen. Each step that a pass has made is one of these answers, and stands at the place of its receipt. Each submit,
-/// accepted or not, has its answer, and all workers together make at most as many as the limit allows. Where there is no reason to
-/// stop, nothing is left. Where a worker has one, the others end with what they have in hand. Where memory is refused for the room
-/// that the round needs, nothing is offered, and the passes come back as they were. They always come back in their order.
+/// submits a step of each name in the scope, unless the goal is a call of a spied predicate. Where the program has at most 32 clauses,
+/// nothing is spied, and the gate holds nobody up, it does both at once: under one holding of the lock, with one attempt. No such
+/// step is stale. It notes a name that is not in the scope or is spied, or of which no step could be proposed. Where no steps are
+/// taken it notes each name. However names are weighed, what was offered is what was taken and what was left. Each that was taken
+/// has an answer that is a receipt in what its worker's pass has seen. Each step that a pass has made is one of these answers, and
+/// stands at the place of its receipt. Each submit, accepted or not, has its answer, and all workers together make at most as many
+/// as the limit allows. Where there is no reason to stop, nothing is left. Where a worker has one, the others end with what they have
+/// in hand. Where memory is refused for the room that the round needs, nothing is offered, and the passes come back as they were.
+/// They always come back in their order.
 pub fn round<'a, N: Naming + Send + Sync, R: Threads + Wait + Sync, G: Gate + Sync>(
     rt: &'a R,
     alloc: Global,
@@ -88,6 +100,8 @@ pub fn round<'a, N: Naming + Send + Sync, R: Threads + Wait + Sync, G: Gate + Sy
     let Ok(mut done) = Vec::with_capacity(alloc, passes.len()) else {
         return Err(passes);
     };
+    let steps = mode.takes_steps();
+    let at_once = are_light(rt, shared, gate, steps);
     let craft = Deciding {
         rt,
         alloc,
@@ -95,7 +109,8 @@ pub fn round<'a, N: Naming + Send + Sync, R: Threads + Wait + Sync, G: Gate + Sy
         scope,
         spies,
         gate,
-        steps: mode.takes_steps(),
+        steps,
+        at_once,
     };
     let limit = mode.limit();
     let blank = Blank::new(passes.len() as u64 + 1);

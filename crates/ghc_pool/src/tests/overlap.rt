@@ -64,6 +64,10 @@ impl<R: Wait + Clock> Gate for Holding<'_, R> {
                 .compare_exchange(0, 1, Ordering::SeqCst, Ordering::SeqCst);
         }
     }
+
+    fn holds_up(&self) -> bool {
+        true
+    }
 }
 
 // Two workers run the core.

@@ -96,6 +96,10 @@ impl<R: Wait + Clock> Gate for Undoing<'_, R> {
         let _ = worker;
         let _ = goal;
     }
+
+    fn holds_up(&self) -> bool {
+        true
+    }
 }
 
 // A round of goal 1.1 alone, by a worker for each pass; none where memory is refused for it.

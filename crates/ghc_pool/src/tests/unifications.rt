@@ -22,8 +22,11 @@ use std::sync::Wait;
 use std::test::*;
 use std::thread::Threads;
 
-// A gate at which nobody waits.
-struct Open;
+// A gate at which nobody waits, though it may say that one might.
+#[derive(Drop)]
+struct Open {
+    holds_up: bool,
+}
 
 impl Gate for Open {
     fn held(&self, worker: usize, goal: GoalName) {
@@ -34,6 +37,10 @@ impl Gate for Open {
     fn answered(&self, worker: usize, goal: GoalName) {
         let _ = worker;
         let _ = goal;
+    }
+
+    fn holds_up(&self) -> bool {
+        self.holds_up
     }
 }
 
@@ -91,6 +98,7 @@ fn worked_off<N: Naming + Send + Sync, R: Threads + Wait + Abort + Sync>(
     rt: &R,
     alloc: Global,
     opening: Opening<Core>,
+    holds_up: bool,
 ) -> Option<(Core, RoundReport)>
     requires table { opening.table ≡ N.table }
     requires ledger { (opening.name ≡ N.name) × (opening.passes + 1 ≡ N.parts) }
@@ -116,7 +124,7 @@ fn worked_off<N: Naming + Send + Sync, R: Threads + Wait + Abort + Sync>(
         &Scope::Any,
         &spies,
         &names,
-        &Open,
+        &Open { holds_up },
     ) else {
         return None;
     };
@@ -132,7 +140,7 @@ fn two_unifications(rt: HostRuntime) -> Result<(), Fail> {
     let Ok(opening) = Opening::new(rt.alloc(), core, 2) else {
         return Err("memory for the table".into());
     };
-    let (core, report) = worked_off::<Brand, _>(&rt, rt.alloc(), opening).ok_or("a round")?;
+    let (core, report) = worked_off::<Brand, _>(&rt, rt.alloc(), opening, false).ok_or("a round")?;
     assert_eq!(rt; counts(&report), (2, 2, 0, 2));
     assert!(rt; report.stop.is_none());
     assert_eq!(rt; core.records().len(), 2);
@@ -144,15 +152,28 @@ fn two_unifications(rt: HostRuntime) -> Result<(), Fail> {
 }
 
 // The one worker finds that 0.1 waits, and notes it; the step of 0.2 binds what it waits for, so it is offered again and stepped.
-#[test]
-fn woken_goal_is_offered(rt: HostRuntime) -> Result<(), Fail> {
-    let core = core_of(rt.alloc(), b"p(1) :- true | true.", b"p(X), X = 1").ok_or("a core")?;
-    let Ok(opening) = Opening::new(rt.alloc(), core, 1) else {
+fn offer_woken<R: Threads + Wait + Abort + Sync>(
+    rt: &R,
+    alloc: Global,
+    holds_up: bool,
+) -> Result<(), Fail> {
+    let core = core_of(alloc, b"p(1) :- true | true.", b"p(X), X = 1").ok_or("a core")?;
+    let Ok(opening) = Opening::new(alloc, core, 1) else {
         return Err("memory for the table".into());
     };
-    let (core, report) = worked_off::<Brand, _>(&rt, rt.alloc(), opening).ok_or("a round")?;
+    let (core, report) = worked_off::<Brand, _>(rt, alloc, opening, holds_up).ok_or("a round")?;
     assert_eq!(rt; counts(&report), (3, 3, 0, 2));
     assert!(rt; report.stop.is_none());
     assert_eq!(rt; core.records().len(), 2);
     Ok(())
+}
+
+#[test]
+fn woken_goal_is_offered(rt: HostRuntime) -> Result<(), Fail> {
+    offer_woken(&rt, rt.alloc(), true)
+}
+
+#[test]
+fn woken_goal_is_offered_at_once(rt: HostRuntime) -> Result<(), Fail> {
+    offer_woken(&rt, rt.alloc(), false)
 }

@@ -1,5 +1,5 @@
 use Rattle.ghc_pool.proofs.Words.{◌+◌, length, history, code_of}
-use Rattle.ghc_pool.proofs.tests.unifications.woken_goal_is_offered.Given as goal
+use Rattle.ghc_pool.proofs.tests.unifications.offer_woken.Given as goal
 
 abbrev pub ghosts-worked_off-N-Naming : goal.ghosts-worked_off-N-Naming
 ghosts-worked_off-N-Naming g a = record { table = a.opening.table; opened = code_of a.opening.value.world.opening; base = length (history a.opening.value.world.opening a.opening.value.world.journal); passes = a.opening.passes }
