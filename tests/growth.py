@@ -66,7 +66,8 @@ def beside_many(size):
 def walks(size):
     """Two goals walk along closed lists of so many elements, by two workers."""
     listed = ",".join(size * "1")
-    return Session(WALK, f"walk([{listed}]), walk([{listed}])", ["leap"], last="stopped quiet", workers=2)
+    start = f"start :- true | walk([{listed}]), walk([{listed}]).\n"
+    return Session(WALK + start, "start", ["leap"], last="stopped quiet", workers=2)
 
 
 class Growth(NamedTuple):
@@ -76,12 +77,17 @@ class Growth(NamedTuple):
 
 
 GROWTHS = [
-    Growth("why of a step with many causes", causes, 5_000),
+    Growth("why of a step with many causes", causes, 10_000),
     Growth("a history whose numbers were searched for the hash of numbers", searched(hash_of_numbers), 40_000),
     Growth("a history whose numbers were searched for the hash of the kit", searched(hash_of_kit), 40_000),
-    Growth("runs of one step beside many goals that wait", beside_many, 4_000),
-    Growth("walks along closed lists by two workers", walks, 5_000),
+    Growth("runs of one step beside many goals that wait", beside_many, 8_000),
+    Growth("walks along closed lists by two workers", walks, 20_000),
 ]
+
+
+def share_a_processor():
+    """Threads that run side by side meet at a lock now and then, and take longer than they do in turn."""
+    os.sched_setaffinity(0, {min(os.sched_getaffinity(0))})
 
 
 def played(session, folder):
@@ -97,7 +103,8 @@ def played(session, folder):
     for _ in range(RUNS):
         before = os.times()
         text = "".join(f"{line}\n" for line in session.lines)
-        run = subprocess.run(words, input=text, capture_output=True, text=True, cwd=folder, timeout=SECONDS)
+        how = {"input": text, "capture_output": True, "text": True, "cwd": folder, "timeout": SECONDS}
+        run = subprocess.run(words, **how, preexec_fn=share_a_processor if session.workers > 1 else None)
         after = os.times()
         times.append(after.children_user + after.children_system - before.children_user - before.children_system)
     if run.returncode:
