@@ -20,7 +20,7 @@ pub use Rattle.ghc_core.specs.Load.{AskForGoals, AsksForGoals, CanLoad, IsImposs
 pub use Rattle.ghc_core.specs.LoadLaws.{reloaded}
 pub use Rattle.ghc_core.specs.Meets.{Meets, MeetsEach, Moves}
 pub use Rattle.ghc_core.specs.Playing.{AddsOneAtMost, AnswersAddWhatTheyTell, ArePlayed, IsCauseOfFailure, PlayStaysReachable, hands_with, tells_change}
-pub use Rattle.ghc_core.specs.Proposes.{AttemptAnswers, CommitFails, IsCommitOf, IsNoCandidate, IsProposedAsNext, IsReduction, IsStepOf, Notes, ProposesInFull, StepFails, StillHolds, no_goal, tells}
+pub use Rattle.ghc_core.specs.Proposes.{AttemptAnswers, CommitFails, IsCommitOf, IsFiredNext, IsNoCandidate, IsReduction, IsStepOf, Notes, ProposesInFull, StepFails, StillHolds, no_goal, tells}
 pub use Rattle.ghc_core.specs.Reached.{AreNamesOf, IsSound, Reaches, by_change, from_opening}
 pub use Rattle.ghc_core.specs.Refusals.{CanUndo, HasConsequence, IsShelvedWith, IsToldWhere, LacksGoal, OrElse, RedoFails, UndoFails}
 pub use Rattle.ghc_core.specs.Resume.{ArePredicatesOf, CarriesOut, CarriesOutEach, IsCarriedOut, IsOpened, IsPredicateOf, IsRefusedEntry, LacksBehind, Resumes, StopsBehind, chronicle_of_world, line_of_entry, line_of_spy, no_entry, no_spy, opening_of, resumes}

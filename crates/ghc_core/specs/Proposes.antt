@@ -11,7 +11,8 @@ use Rattle.ghc_fire.specs.declared.act.Act.TheVariants.{ByClause as by_clause, U
 use Rattle.ghc_fire.specs.Effect.{HasEffect, no_step}
 use Rattle.ghc_fire.specs.Proposal.{under}
 use Rattle.ghc_fire.specs.Attempt as attempt
-use Rattle.ghc_fire.specs.Attempted.{IsProposedAs, IsProposed}
+use Rattle.ghc_fire.specs.Firing.{Firing}
+use Rattle.ghc_fire.specs.Attempted.{IsProposed, IsFiredAs}
 use Rattle.ghc_records.specs.Record.{Record}
 use Rattle.ghc_hooks.specs.Status.{Status, HasStatus}
 use Rattle.ghc_core.specs.World.{Proposal, World, IsFull, IsNextStep}
@@ -26,9 +27,9 @@ AttemptAnswers w g choice a = attempt.Attempts w.opening.program (value_at w.sta
 abbrev pub IsProposedIn : World → GoalName → Option ℕ → Proposal → Type 0
 IsProposedIn w g choice p = IsProposed w.opening.program w.state.goals w.state.store g choice p
 
--- The proposal is what an attempt at the goal named g, as the next step, proposes in the present state.
-abbrev pub IsProposedAsNext : World → GoalName → Option ℕ → Proposal → Type 0
-IsProposedAsNext w g choice p = IsProposedAs w.next w.opening.program w.state.goals w.state.store g choice p
+-- The step fired is what an attempt at the goal named g, as the next step, proposes in the present state.
+abbrev pub IsFiredNext : World → GoalName → Option ℕ → Firing → Type 0
+IsFiredNext w g choice f = IsFiredAs w.next w.opening.program w.state.goals w.state.store g choice f
 
 -- The act is one of a proposal.
 abbrev pub IsReduction : Act → Type 0

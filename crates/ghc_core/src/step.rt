@@ -1,4 +1,4 @@
-// A step that is proposed and prepared in one call, with one attempt.
+// A step that is fired and prepared in one call, with one attempt.
 ghost use Rattle.std.specs.Prelude.{◌≡◌, Err};
 ghost use Rattle.ghc_term.specs.Answered.{Answered};
 ghost use Rattle.ghc_fire.specs.Attempt.{refused};
@@ -15,8 +15,8 @@ impl Core {
     /// Finds what it takes to take a step of the goal of this name, with a clause chosen or not, as the next step, and counts a
     /// firing. The refusals are those of an attempt, in their order; else `Full` exactly where the numbers are used up or
     /// 1,000,000 steps are kept. But for the meter the core stays as it is. It is what `attempt` and `prepare` give together,
-    /// with one attempt, made under the number of the next step: since nothing comes between, the proposal holds, and its goals
-    /// need no second walk.
+    /// with one attempt, made under the number of the next step: since nothing comes between, its goals need no second walk.
+    #[inline(always)]
     pub fn prepare_step(
         &mut self,
         alloc: Global,
@@ -30,8 +30,8 @@ impl Core {
         ensures counted { self.new.meter ≡ fired self.old.meter }
     {
         self.stands();
-        match self.attempt_as_next(alloc, goal, choice) {
-            Ok(proposal) => self.proposed_as_next(alloc, proposal),
+        match self.fire_next(alloc, goal, choice) {
+            Ok(fired) => self.fired_as_next(alloc, fired),
             Err(fault) => Err(fault),
         }
     }

@@ -8,6 +8,7 @@ use Rattle.ghc_fire.specs.Goals.{Goals}
 use Rattle.ghc_fire.specs.Effect.{no_step}
 use Rattle.ghc_fire.specs.Attempt.{Answer, proposes, AttemptsAs, Attempts}
 use Rattle.ghc_fire.specs.Proposal.{Proposal}
+use Rattle.ghc_fire.specs.Firing.{Firing, fired_as}
 
 -- Among these goals and in this store, an attempt at the goal named g, with a clause chosen or not, answers a.
 abbrev pub AttemptsAt : Program → Goals → StoreValue → GoalName → Option ℕ → Answer → Type 0
@@ -22,3 +23,7 @@ pub record IsProposedAs (n : ℕ) (P : Program) (G : Goals) (s : StoreValue) (g 
 -- The proposal is what an attempt at the goal named g proposes.
 abbrev pub IsProposed : Program → Goals → StoreValue → GoalName → Option ℕ → Proposal → Type 0
 IsProposed P G s g choice p = IsProposedAs no_step P G s g choice p
+
+-- The step fired is what an attempt as step n at the goal named g proposes.
+abbrev pub IsFiredAs : ℕ → Program → Goals → StoreValue → GoalName → Option ℕ → Firing → Type 0
+IsFiredAs n P G s g choice f = (p : Proposal) × IsProposedAs n P G s g choice p × (f ≡ fired_as n p)

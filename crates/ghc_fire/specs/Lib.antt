@@ -6,6 +6,7 @@ pub mod Laws
 pub mod Facts
 pub mod Goals
 pub mod Proposal
+pub mod Firing
 pub mod Meter
 pub mod Attempted
 pub mod inner

@@ -3,6 +3,7 @@ pub mod ActCode
 pub mod AskedCode
 pub mod Calls
 pub mod EffectCode
+pub mod FiringCode
 pub mod GoalsCode
 pub mod Made
 pub mod Renaming

@@ -4,7 +4,7 @@ ghost use Rattle.ghc_term.specs.Answered.{Answered};
 ghost use Rattle.ghc_term.specs.Store.{value_at};
 ghost use Rattle.ghc_flat.specs.Clause.{Program as program_spec};
 ghost use Rattle.ghc_fire.specs.Attempt.{proposes, refused, UnificationAnswers, AssignmentAnswers, AttemptsAs, Attempts};
-ghost use Rattle.ghc_fire.specs.Attempted.{AttemptsAt, IsProposedAs, IsProposed};
+ghost use Rattle.ghc_fire.specs.Attempted.{AttemptsAt, IsProposed, IsFiredAs};
 ghost use Rattle.ghc_fire.specs.Meter.{fired};
 ghost use Rattle.ghc_fire.specs.Proposal.{under};
 
@@ -12,6 +12,7 @@ use crate::act::Act;
 use crate::calls::{attempt_call, attempt_choice};
 use crate::effect::{Effect, NO_STEP};
 use crate::equations::{attempt_assignment, attempt_unification};
+use crate::firing::Firing;
 use crate::goals::Goals;
 use crate::instances::number_goals;
 use crate::meter::Meter;
@@ -19,6 +20,7 @@ use crate::proposal::Proposal;
 use ghc_flat::Program;
 use ghc_term::{Expr, Fault, Goal, GoalName, GoalView, Store, Term};
 use std::alloc::{AllocError, Global};
+use std::sync::Arc;
 
 /// Proposes a step of the goal of this name, with a clause chosen or not, and counts a firing. Without a choice it takes the
 /// least clause that accepts a call. The refusals, in this order: `NoGoal` where there is no such goal or it is a stream;
@@ -42,11 +44,16 @@ pub fn attempt(
     ensures counted { meter.new ≡ fired meter.old }
 {
     meter.count_firing();
-    propose(alloc, program, goals, store, goal, choice, NO_STEP)
+    let Some(consumed) = goals.handle(goal) else {
+        return Err(Fault::NoGoal);
+    };
+    let (act, effect) = propose_act(alloc, program, store, consumed.goal(), choice, NO_STEP)?;
+    Ok(Proposal::new(goal, consumed.share()?, act, effect))
 }
 
-/// The same, where the effect is as the step of this number has it: it needs no `finish`. The refusals are those of `attempt`.
-pub fn attempt_as(
+/// Fires a step of the goal of this name, as the step of this number, and counts a firing: what `attempt` proposes, with its effect as
+/// that step has it. The refusals are those of `attempt`.
+pub fn fire_as(
     alloc: Global,
     meter: &mut Meter,
     program: &Program,
@@ -55,8 +62,8 @@ pub fn attempt_as(
     goal: GoalName,
     choice: Option<u32>,
     step: u32,
-) -> Result<Proposal, Fault>
-    ensures answer { Answered (IsProposedAs step program.now goals.now.held store.now.held goal choice) (λ f. AttemptsAt program.now goals.now.held store.now.held goal choice (refused f)) result }
+) -> Result<Arc<Firing>, Fault>
+    ensures answer { Answered (λ f. IsFiredAs step program.now goals.now.held store.now.held goal choice f.value) (λ f. AttemptsAt program.now goals.now.held store.now.held goal choice (refused f)) result }
 
     // F1 never hides what look-ups refuse.
     ensures no_goal { AttemptsAt program.now goals.now.held store.now.held goal choice (refused Fault.NoGoal) → result ≡ Err Fault.NoGoal }
@@ -64,29 +71,14 @@ pub fn attempt_as(
     ensures counted { meter.new ≡ fired meter.old }
 {
     meter.count_firing();
-    propose(alloc, program, goals, store, goal, choice, step)
-}
-
-// Proposes the step of this number of the goal of this name.
-fn propose(
-    alloc: Global,
-    program: &Program,
-    goals: &Goals,
-    store: &Store,
-    goal: GoalName,
-    choice: Option<u32>,
-    step: u32,
-) -> Result<Proposal, Fault>
-    ensures proposed { IfOk result (IsProposedAs step program.now goals.now.held store.now.held goal choice) }
-    ensures fault { IfErr result (λ f. (f ≡ Fault.Memory) ⊎ AttemptsAt program.now goals.now.held store.now.held goal choice (refused f)) }
-    ensures no_goal { AttemptsAt program.now goals.now.held store.now.held goal choice (refused Fault.NoGoal) → result ≡ Err Fault.NoGoal }
-    ensures no_clause { AttemptsAt program.now goals.now.held store.now.held goal choice (refused Fault.NoClause) → result ≡ Err Fault.NoClause }
-{
-    let Some(consumed) = goals.handle(goal) else {
-        return Err(Fault::NoGoal);
-    };
-    let (act, effect) = propose_act(alloc, program, store, consumed.goal(), choice, step)?;
-    Ok(Proposal::new(goal, consumed.share()?, act, effect))
+    match goals.handle(goal) {
+        Some(consumed) => {
+            let (act, effect) = propose_act(alloc, program, store, consumed.goal(), choice, step)?;
+            let fired = Firing::new(step, Some(goal), Some(consumed.share()?), act, effect);
+            Ok(Arc::new(alloc, fired)?)
+        }
+        None => Err(Fault::NoGoal),
+    }
 }
 
 // The act of a step that unifies the two sides, with its effect.
@@ -119,6 +111,7 @@ fn propose_assignment(
 }
 
 // The act of the step of this number of the goal, with its effect.
+#[inline(always)]
 fn propose_act(
     alloc: Global,
     program: &Program,

@@ -12,6 +12,7 @@ use Rattle.ghc_fire.specs.Goals.{Goals}
 use Rattle.ghc_fire.specs.declared.act.Act.{Act}
 use Rattle.ghc_fire.specs.declared.act.Act.TheVariants.{ByClause as by_clause, Unified as unified, Assigned as assigned, Given as given, Closed as closed, Asked as asked}
 use Rattle.ghc_fire.specs.Asked.{Asks}
+use Rattle.ghc_fire.specs.Firing.{Firing}
 use Rattle.ghc_fire.specs.Effect.{Effect, HasEffect}
 
 -- A state is its goals and its store.
@@ -26,6 +27,10 @@ pub record Record : Type 0 where
   pub consumed : Option Goal
   pub act : Act
   pub effect : Effect
+
+-- the record of a step that fired
+abbrev pub record_of : Firing → Record
+record_of f = record { number = f.number; goal = f.goal; consumed = f.consumed; act = f.act; effect = f.effect }
 
 -- The numbers of the records, in their order.
 abbrev pub numbers : List Record → List ℕ

@@ -2,7 +2,7 @@
 ghost use Rattle.std.specs.Prelude.{◌≡◌, IfOk};
 
 use crate::step::Step;
-use ghc_fire::{Act, Effect, MadeGoal};
+use ghc_fire::{Act, Effect, Firing, MadeGoal};
 use ghc_term::{Goal, GoalName};
 use std::alloc::{AllocError, Global};
 use std::marker::Model;
@@ -12,43 +12,23 @@ use std::sync::Arc;
 /// parts are shared.
 #[derive(Drop)]
 pub struct Record {
-    parts: Arc<Parts>,
-}
-
-// The fields that a line of the step shows come first, so that one place in memory has them.
-struct Parts {
-    number: u32,
-    goal: Option<GoalName>,
-    act: Act,
-    consumed: Option<MadeGoal>,
-    effect: Effect,
-}
-
-impl Drop for Parts {
-    fn drop(self) {
-        let Parts {
-            number: _,
-            goal: _,
-            act: _act,
-            consumed: _consumed,
-            effect: _effect,
-        } = self;
-    }
+    parts: Arc<Firing>,
 }
 
 impl Model for Record {
-    ghost use Rattle.ghc_records.specs.Record.{Record};
+    ghost use Rattle.ghc_records.specs.Record.{Record, record_of};
     ghost use Rattle.ghc_records.specs.inner.RecordCode.{record_code};
 
     ghost Value = { Record };
 
     ghost coded = { record_code };
 
-    ghost view = { λ r. record { number = r.parts.value.number; goal = r.parts.value.goal; consumed = r.parts.value.consumed; act = r.parts.value.act; effect = r.parts.value.effect } };
+    ghost view = { λ r. record_of r.parts.value };
 }
 
 impl Record {
     ghost use Rattle.std.specs.Prelude.{option_copied};
+    ghost use Rattle.ghc_records.specs.Record.{record_of};
     ghost use Rattle.ghc_records.specs.Journal.{step_of};
 
     /// The record of a step of these parts. It fails only where memory is refused.
@@ -62,17 +42,19 @@ impl Record {
     ) -> Result<Record, AllocError>
         ensures { IfOk result (λ r. r ≡ record { number = number; goal = goal; consumed = consumed; act = act; effect = effect }) }
     {
-        let parts = Parts {
-            number,
-            goal,
-            act,
-            consumed,
-            effect,
-        };
+        let parts = Firing::new(number, goal, consumed, act, effect);
         match Arc::new(alloc, parts) {
             Ok(parts) => Ok(Record { parts }),
             Err(_) => Err(AllocError),
         }
+    }
+
+    /// The record of a step that fired: nothing is moved.
+    #[inline(always)]
+    pub fn of(parts: Arc<Firing>) -> Record
+        ensures { result ≡ record_of parts.value }
+    {
+        Record { parts }
     }
 
     /// The same record once more, with its parts shared: one step. Fails where a count of handles is full.
@@ -87,14 +69,14 @@ impl Record {
     pub fn number(&self) -> u32
         ensures { result ≡ self.now.number }
     {
-        self.parts.number
+        self.parts.number()
     }
 
     /// The name of the goal that the step consumed, if it consumed one.
     pub fn goal(&self) -> Option<GoalName>
         ensures { result ≡ self.now.goal }
     {
-        self.parts.goal
+        self.parts.goal()
     }
 
     /// The goal that the step consumed, as written, if it consumed one.
@@ -111,21 +93,21 @@ impl Record {
     pub fn consumed_handle(&self) -> Option<&MadeGoal>
         ensures { option_copied result ≡ self.now.consumed }
     {
-        self.parts.consumed.as_ref()
+        self.parts.consumed()
     }
 
     /// What the step did.
     pub fn act(&self) -> &Act
         ensures { result.now ≡ self.now.act }
     {
-        &self.parts.act
+        self.parts.act()
     }
 
     /// The effect of the step.
     pub fn effect(&self) -> &Effect
         ensures { result.now ≡ self.now.effect }
     {
-        &self.parts.effect
+        self.parts.effect()
     }
 
     /// The step as journals and histories have it. Fails where a count of handles is full.

@@ -6,19 +6,20 @@ ghost use Rattle.ghc_fire.specs.Attempt.{refused};
 ghost use Rattle.ghc_fire.specs.Meter.{fired};
 ghost use Rattle.ghc_fire.specs.Proposal.{under};
 ghost use Rattle.ghc_hooks.specs.Notes.{AreLeft};
-ghost use Rattle.ghc_records.specs.Record.{Record as record_spec};
+ghost use Rattle.ghc_records.specs.Record.{Record as record_spec, record_of};
 ghost use Rattle.ghc_core.specs.World.{IsReplay, IsFull, HasRoom, IsNextStep, with_step};
 ghost use Rattle.ghc_core.specs.Core.{IsCommitted, record_as, next_record, Stays};
 ghost use Rattle.ghc_depend.specs.Depend.{Binds};
-ghost use Rattle.ghc_core.specs.Proposes.{AttemptAnswers, IsProposedIn, IsProposedAsNext, IsCommitOf, CommitFails};
+ghost use Rattle.ghc_core.specs.Proposes.{AttemptAnswers, IsProposedIn, IsFiredNext, IsCommitOf, CommitFails};
 
 use crate::changes::recheck::recheck;
 use crate::changes::{Change, Coming};
 use crate::core_state::Core;
-use ghc_fire::{Meter, Proposal, attempt, attempt_as, finish};
+use ghc_fire::{Firing, Meter, Proposal, attempt, finish, fire_as};
 use ghc_records::{Addition, Record};
 use ghc_term::{Fault, GoalName};
 use std::alloc::{AllocError, Global};
+use std::sync::Arc;
 
 pub(crate) const KEPT_LIMIT: usize = 1_000_000;
 
@@ -99,20 +100,20 @@ impl Core {
         )
     }
 
-    // The same, made under the number of the next step.
-    pub(crate) fn attempt_as_next(
+    // Fires the step of the goal as the next one: what an attempt proposes, under the number of the next step.
+    pub(crate) fn fire_next(
         &mut self,
         alloc: Global,
         goal: GoalName,
         choice: Option<u32>,
-    ) -> Result<Proposal, Fault>
-        ensures answer { Answered (IsProposedAsNext self.old.world goal choice) (λ f. AttemptAnswers self.old.world goal choice (refused f)) result }
+    ) -> Result<Arc<Firing>, Fault>
+        ensures answer { Answered (λ f. IsFiredNext self.old.world goal choice f.value) (λ f. AttemptAnswers self.old.world goal choice (refused f)) result }
         ensures no_goal { AttemptAnswers self.old.world goal choice (refused Fault.NoGoal) → result ≡ Err Fault.NoGoal }
         ensures no_clause { AttemptAnswers self.old.world goal choice (refused Fault.NoClause) → result ≡ Err Fault.NoClause }
         ensures stays { Stays self.old self.new }
         ensures counted { self.new.meter ≡ fired self.old.meter }
     {
-        attempt_as(
+        fire_as(
             alloc,
             &mut self.meter,
             &self.program,
@@ -146,21 +147,17 @@ impl Core {
         Ok(addition_of(alloc, proposal, self.next)?)
     }
 
-    // The next step, which was proposed as that step, with all that it takes to take it, where a new step has room.
+    // The step that was fired as the next one, with all that it takes to take it, where a new step has room.
     #[inline(always)]
-    pub(crate) fn proposed_as_next(
-        &self,
-        alloc: Global,
-        proposal: Proposal,
-    ) -> Result<Addition, Fault>
-        ensures step { IfOk result (λ step. step ≡ record_as self.now.world.next proposal) }
+    pub(crate) fn fired_as_next(&self, alloc: Global, fired: Arc<Firing>) -> Result<Addition, Fault>
+        ensures step { IfOk result (λ step. step ≡ record_of fired.value) }
         ensures room { IfOk result (λ _. HasRoom self.now.world) }
         ensures fault { IfErr result (λ f. (f ≡ Fault.Memory) ⊎ ((f ≡ Fault.Full) × IsFull self.now.world)) }
     {
         if self.is_full() {
             return Err(Fault::Full);
         }
-        Ok(addition_of(alloc, proposal, self.next)?)
+        Ok(Addition::of(alloc, Record::of(fired))?)
     }
 
     /// Finds what it takes to take the step that was proposed, as the next step, and counts a firing. `Stale` exactly where the

@@ -1,4 +1,4 @@
-use Rattle.ghc_fire.proofs.Words.{ℕ, length, value_at}
+use Rattle.ghc_fire.proofs.Words.{length, value_at}
 use Rattle.ghc_fire.proofs.Calling.{Tried}
 use Rattle.ghc_fire.proofs.calls.attempt_call.Given as goal
 

@@ -1,10 +1,12 @@
-use Rattle.ghc_core.proofs.Words.{subst, record_as}
+use Rattle.ghc_records.specs.Record.{record_of}
+use Rattle.ghc_core.proofs.Words.{subst}
 use Rattle.ghc_core.proofs.Preparing.{IsNext, step_answered}
 use Rattle.ghc_core.proofs.core_state.Core.prepare_step.Goals as goal
 
 pub returns-in-Ok-clause-answer : goal.returns-in-Ok-clause-answer
 returns-in-Ok-clause-answer c =
     let w = c.args.self.now.world in
-    let same = c.in-Ok.ensures.stays.world in
-    let next = subst (λ v. IsNext v (record_as v.next c.in-Ok.proposal) c.proposed_as_next.result) same (c.proposed_as_next.ensures.step, c.proposed_as_next.ensures.room, c.proposed_as_next.ensures.fault) in
-    step_answered w c.stands.ensures.orderly.acyclic c.args.goal c.args.choice c.in-Ok.proposal c.proposed_as_next.result c.in-Ok.ensures.answer.0 next
+    let f = c.in-Ok.fired.value in
+    let next = c.fired_as_next.ensures in
+    step_answered w c.stands.ensures.orderly.acyclic c.args.goal c.args.choice f c.fired_as_next.result c.in-Ok.ensures.answer.0
+    (subst (λ v. IsNext v (record_of f) c.fired_as_next.result) c.in-Ok.ensures.stays.world (next.step, next.room, next.fault))

@@ -1,0 +1,105 @@
+// Steps as they fire.
+ghost use Rattle.std.specs.Prelude.{◌≡◌};
+
+use crate::act::Act;
+use crate::effect::Effect;
+use crate::made::MadeGoal;
+use ghc_term::{Goal, GoalName};
+use std::marker::Model;
+
+/// A step that fires: its number, the goal that it consumes, if any, by name and as written, its act, and its effect.
+pub struct Firing {
+    // The fields that a line of the step shows come first, so that one place in memory has them.
+    number: u32,
+    goal: Option<GoalName>,
+    act: Act,
+    consumed: Option<MadeGoal>,
+    effect: Effect,
+}
+
+impl Drop for Firing {
+    fn drop(self) {
+        let Firing {
+            number: _,
+            goal: _,
+            act: _act,
+            consumed: _consumed,
+            effect: _effect,
+        } = self;
+    }
+}
+
+impl Model for Firing {
+    ghost use Rattle.ghc_fire.specs.Firing.{Firing};
+    ghost use Rattle.ghc_fire.specs.inner.FiringCode.{firing_code};
+
+    ghost Value = { Firing };
+
+    ghost coded = { firing_code };
+
+    ghost view = { λ f. record { number = f.number; goal = f.goal; consumed = f.consumed; act = f.act; effect = f.effect } };
+}
+
+impl Firing {
+    ghost use Rattle.std.specs.Prelude.{option_copied};
+
+    /// The step of these parts.
+    #[inline(always)]
+    pub fn new(
+        number: u32,
+        goal: Option<GoalName>,
+        consumed: Option<MadeGoal>,
+        act: Act,
+        effect: Effect,
+    ) -> Firing
+        ensures { result ≡ record { number = number; goal = goal; consumed = consumed; act = act; effect = effect } }
+    {
+        Firing {
+            number,
+            goal,
+            act,
+            consumed,
+            effect,
+        }
+    }
+
+    /// The number of the step.
+    #[inline(always)]
+    pub fn number(&self) -> u32
+        ensures { result ≡ self.now.number }
+    {
+        self.number
+    }
+
+    /// The name of the goal that the step consumes, if it consumes one.
+    #[inline(always)]
+    pub fn goal(&self) -> Option<GoalName>
+        ensures { result ≡ self.now.goal }
+    {
+        self.goal
+    }
+
+    /// The handle of the goal that the step consumes, if it consumes one.
+    #[inline(always)]
+    pub fn consumed(&self) -> Option<&MadeGoal>
+        ensures { option_copied result ≡ self.now.consumed }
+    {
+        self.consumed.as_ref()
+    }
+
+    /// What the step does.
+    #[inline(always)]
+    pub fn act(&self) -> &Act
+        ensures { result.now ≡ self.now.act }
+    {
+        &self.act
+    }
+
+    /// The effect of the step.
+    #[inline(always)]
+    pub fn effect(&self) -> &Effect
+        ensures { result.now ≡ self.now.effect }
+    {
+        &self.effect
+    }
+}
