@@ -67,6 +67,7 @@ pub(crate) fn strike(records: &mut Records, number: u32)
 
 impl Core {
     // Makes room for the step that comes.
+    #[inline(always)]
     pub(crate) fn reserve_to_add(&mut self, addition: &Addition) -> Result<(), AllocError>
         ensures room { OnOk result (HasRoomFor self.new.world self.new.room (comes Coming.Next addition.now)) }
         ensures stays { Stays self.old self.new }

@@ -19,6 +19,7 @@ pub fn is_stream(goal: &Goal) -> bool
 }
 
 // Takes away the note or the mark of the goal of this name, if one is named.
+#[inline(always)]
 fn drop_named(tries: &mut Tries, name: Option<GoalName>)
     ensures dropped { AreDropped (λ g. name ≡ Some g) tries.old tries.new }
     ensures room { tries.old.room ≤ tries.new.room }
@@ -53,6 +54,7 @@ fn wake_at_bound(tries: &mut Tries, binds: &Bindings)
 }
 
 // Marks the goal untried, unless it is a stream goal.
+#[inline(always)]
 fn mark(tries: &mut Tries, name: GoalName, goal: &Goal)
     requires room { 0 < tries.old.room }
     requires new { finite.get tries.old.notes name ≡ None }
