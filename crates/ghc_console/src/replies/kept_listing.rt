@@ -1,12 +1,7 @@
 // The listing of the kept steps, as a history of version 1, which is written line by line.
-ghost use Rattle.std.specs.Prelude.{◌≡◌, ◌⊎◌, ◌↔◌, List, ℕ, IsTrue, map};
+ghost use Rattle.std.specs.Prelude.{◌≡◌, ◌⊎◌, List, ℕ, map};
 ghost use Rattle.std.specs.Io.KnownBytes.{Keeps};
 ghost use Rattle.ghc_term.specs.declared.fault.Fault.{Fault};
-ghost use Rattle.ghc_term.specs.Goal.{Goal};
-ghost use Rattle.ghc_fire.specs.declared.act.Act.TheVariants.{Asked as asked};
-ghost use Rattle.ghc_records.specs.Record.{Record as record_spec};
-ghost use Rattle.ghc_records.specs.inner.Slots.{StandsIn};
-ghost use Rattle.ghc_core.specs.Load.{AsksForGoals, AskForGoals};
 ghost use Rattle.ghc_console.specs.inner.Device.{Counts, WritesFront};
 ghost use Rattle.ghc_console.specs.inner.WritesTold.{WritesTold};
 ghost use Rattle.ghc_console.specs.TextLines.{lined, refusal};
@@ -18,42 +13,7 @@ use crate::replies::record_listing::{RecordForm, write_each};
 use crate::replies::session_listing::write_count;
 use crate::replies::write_refusal;
 use ghc_core::Core;
-use ghc_fire::Act;
-use ghc_records::Records;
 use ghc_term::{Fault, Limit};
-
-// Whether the act asks for goals.
-fn asks(act: &Act) -> bool
-    ensures { IsTrue result ↔ ((gs : List Goal) × (act.now ≡ asked gs)) }
-{
-    match act {
-        Act::Asked(_) => true,
-        Act::ByClause(_) | Act::Unified | Act::Assigned | Act::Given(_) | Act::Closed => false,
-    }
-}
-
-// Whether the record at this place asks for goals, if there is one.
-fn asks_at(records: &Records, place: usize) -> bool
-    ensures { IsTrue result ↔ ((r : record_spec) × StandsIn records.now.slots place r × AsksForGoals r) }
-{
-    let Some(record) = records.at(place) else {
-        return false;
-    };
-    asks(record.act())
-}
-
-// Whether one of the records asks for goals: one step for each place.
-fn ask_for_goals(records: &Records) -> bool
-    ensures { IsTrue result ↔ AskForGoals records.now.held }
-{
-    let _count = records.len();
-    for place in 0..records.places() {
-        if asks_at(records, place) {
-            return true;
-        }
-    }
-    false
-}
 
 // Writes the lines of the history.
 fn write_history<D: Device>(device: &mut D, core: &Core, line: &mut String) -> Result<(), Broken>
@@ -92,7 +52,7 @@ pub(crate) fn write_kept<D: Device>(
     ensures earlier { D.earlier device.new ≡ D.earlier device.old }
     ensures latest { D.latest device.new ≡ D.latest device.old }
 {
-    if ask_for_goals(core.records()) {
+    if core.asks_for_goals() {
         return write_refusal(device, &Fault::Limit(Limit::Version), line);
     }
     write_history(device, core, line)

@@ -96,6 +96,13 @@ impl Core {
         Ok(kept)
     }
 
+    /// Whether a kept step asks for goals: one step for each place of the record.
+    pub fn asks_for_goals(&self) -> bool
+        ensures { IsTrue result ↔ AskForGoals self.now.world.kept }
+    {
+        ask_for_goals(&self.records)
+    }
+
     /// The history of the steps that the core keeps: two steps for each place of the record. `Limit` of the version exactly where a
     /// kept step asks for goals, which it reports before it asks for memory. Else it fails only where memory is refused or a count
     /// of handles is full.
