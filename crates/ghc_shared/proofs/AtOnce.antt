@@ -1,7 +1,9 @@
 -- A step that is proposed and submitted at once.
 use base.Stored.{Gv}
-use Rattle.ghc_shared.proofs.Words.{◌≡◌, ◌⊎◌, ◌∙◌, refl, sym, ap, subst, inl, inr, List, Bool, Ok, Err, Result, Some, None, Option, Fault, Item, Opening, history, Proposal, World, emptied, commit, CommitFails, Answers, Leaves, LegalIsReachable, LeavesIsOne, AnswersAddWhatTheyTell, tells_change, reply_of, Reply, Known, AddsIfAccepted, IsDecided, IsAnswerTo, holding}
+use Rattle.ghc_shared.proofs.Words.{◌≡◌, ◌⊎◌, ◌∙◌, refl, sym, ap, subst, inl, inr, ℕ, List, length, Bool, Ok, Err, Result, Some, None, Option, Fault, Item, Opening, history, Proposal, World, emptied, commit, CommitFails, Answers, Leaves, LegalIsReachable, LeavesIsOne, AnswersAddWhatTheyTell, tells_change, reply_of, Reply, Known, AddsIfAccepted, IsDecided, IsAnswerTo, holding}
+use Rattle.std.specs.Prelude.{IsTrue}
 use Rattle.std.specs.FinMap as finite
+use Rattle.std.proofs.lemmas.List.{length-map}
 use Rattle.ghc_term.specs.declared.goal_name.GoalName.{GoalName}
 use Rattle.ghc_term.specs.declared.var_name.VarName.{VarName}
 use Rattle.ghc_term.specs.Bindings.{IsAcyclic}
@@ -62,8 +64,9 @@ module _ (w : World) (g : GoalName) where
   abbrev pub IsFound : Proposal → Type 0
   IsFound p = IsProposedIn w g None p × (finite.get w.state.goals p.goal ≡ Some p.consumed)
 
-  -- a step that is found is proposed, and its commit takes it; it binds what was proposed
-  pub found : IsStanding w → IsAcyclic (value_at w.state.store) → (r : Record) → IsStepOf w g None r → (p : Proposal) × IsFound p × IsCommitOf w p r × (r.effect.binds ≡ p.effect.binds)
+  -- a step that is found is proposed, and its commit takes it; it binds what was proposed, and makes as many goals
+  pub found : IsStanding w → IsAcyclic (value_at w.state.store) → (r : Record) → IsStepOf w g None r
+      → (p : Proposal) × IsFound p × IsCommitOf w p r × (r.effect.binds ≡ p.effect.binds) × (length r.effect.makes ≡ length p.effect.makes)
   found standing acyclic r (p, named, t, c) =
       let b = c.0.0 in
       let q = step_of b p in
@@ -71,7 +74,7 @@ module _ (w : World) (g : GoalName) where
       let commit_of : IsCommitOf w q r = ((b, c.0.1, there, c.0.3), c.1, c.2 ∙ ap Some named, c.3) in
       let next = next_step w q b standing commit_of.0 there c.1.2 in
       let same = step_once effect_once w acyclic r _ g c.1 next.1 commit_of.2 next.2 (c.3 ∙ sym next.3) in
-      (q, (record { named = refl; there = there; proposed = t }, there), commit_of, ap (λ s. s.effect.binds) same)
+      (q, (record { named = refl; there = there; proposed = t }, there), commit_of, ap (λ s. s.effect.binds) same, ap (λ s. length s.effect.makes) same ∙ length-map q.effect.makes _)
 
   -- what the commit of a step that is found is answered
   pub taken_answer : (p : Proposal) (r : Record) (reply : Reply) (v : World) → IsCommitOf w p r → IsTaken w r (reply_of reply) v → Answers (Unit {0}) w (holding p) (commit 1) (reply_of reply) v (emptied 1 (holding p))
@@ -111,19 +114,20 @@ module _ (w : World) (g : GoalName) where
   }
 
   -- a commit of what was found, answered
-  pub at_once : IsStanding w → (p : Proposal) (reply : Reply) (v : World) (old new : List GoalName) → IsFound p
+  pub at_once : IsStanding w → (p : Proposal) (reply : Reply) (made : ℕ) (v : World) (old new : List GoalName) → IsFound p
       → (AttemptAnswers w g None (attempt.refused Fault.NoGoal) → ⊥) → (AttemptAnswers w g None (attempt.refused Fault.NoClause) → ⊥)
       → Answers (Unit {0}) w (holding p) (commit 1) (reply_of reply) v (emptied 1 (holding p))
-      → ((h : GoalName) → In h new → In h old ⊎ LooksAmong w p.effect.binds h) → IsAnsweredAtOnce w g reply v old new
-  at_once standing p reply v old new is goal clause answer wakes = record {
+      → (IsTrue (tells_change (reply_of reply)) → made ≡ length p.effect.makes) → ((h : GoalName) → In h new → In h old ⊎ LooksAmong w p.effect.binds h) → IsAnsweredAtOnce w g reply made v old new
+  at_once standing p reply made v old new is goal clause answer makes wakes = record {
     step = p;
     proposed = record { of_opening = refl; standing = standing; answer = (is.0, tt); no_goal = λ t. absurd (goal t); no_clause = λ t. absurd (clause t) };
     answer = answer;
     anyway = λ f fails. absurd (there_is_told w p p.consumed f is.1 fails);
+    makes = makes;
     wakes = wakes;
   }
 
-module _ {w v : World} {g : GoalName} {reply : Reply} {listed woken : List GoalName} (is : IsAnsweredAtOnce w g reply v listed woken) where
+module _ {w v : World} {g : GoalName} {reply : Reply} {made : ℕ} {listed woken : List GoalName} (is : IsAnsweredAtOnce w g reply made v listed woken) where
   -- a step that is taken adds its entry
   pub adds_at_once : AnswersAddWhatTheyTell → (accepted : Bool) → accepted ≡ tells_change (reply_of reply) → Leaves (history w.opening w.journal) w
       → AddsIfAccepted IsAnswerTo accepted (history w.opening w.journal) (history v.opening v.journal) (Submit is.step) reply
@@ -134,13 +138,15 @@ module _ {w v : World} {g : GoalName} {reply : Reply} {listed woken : List GoalN
   opened_at_once law = ap (λ (o : Opening). code_of o) (law w v (holding is.step) (emptied 1 (holding is.step)) (commit 1) (reply_of reply) is.answer).0
 
 -- what a pass learns of a step that was proposed and submitted at once
-pub told_at_once : LegalIsReachable → LeavesIsOne → (opened : Gv) (w v : World) (g : GoalName) (before : List Item) (receipt : given.Receipt Reply) (old new : Known Item) (listed woken : List GoalName) → code_of w.opening ≡ opened
-    → (is : IsAnsweredAtOnce w g receipt.reply v listed woken) → IsDecided IsAnswerTo before (Submit is.step) receipt old new → IsStepAtOnce opened g receipt old new listed woken
-told_at_once law one opened w v g before receipt old new listed woken of_opening is decided = record {
+pub told_at_once : LegalIsReachable → LeavesIsOne → (opened : Gv) (w v : World) (g : GoalName) (before : List Item) (receipt : given.Receipt Reply) (made : ℕ) (old new : Known Item) (listed woken : List GoalName)
+    → receipt.accepted ≡ tells_change (reply_of receipt.reply) → code_of w.opening ≡ opened → (is : IsAnsweredAtOnce w g receipt.reply made v listed woken) → IsDecided IsAnswerTo before (Submit is.step) receipt old new
+    → IsStepAtOnce opened g receipt made old new listed woken
+told_at_once law one opened w v g before receipt made old new listed woken tells of_opening is decided = record {
   world = w;
   step = is.step;
   before = before;
   proposed = subst (λ o. IsProposal o w g None (Ok is.step)) of_opening is.proposed;
+  makes = λ accepted. is.makes (sym tells ∙ accepted);
   wakes = is.wakes;
   decided = decided;
   anyway = told_anyway one (Submit is.step) before receipt old new decided;

@@ -97,7 +97,7 @@ impl<N: Naming> Shared<Core, N> {
         ensures number { me.new.number ≡ me.old.number }
         ensures legal { IsLegal me.new.front }
         ensures submits { OnOk result (me.new.submits ≡ one_more me.old.submits) }
-        ensures stepped { IfOk result (λ r. IsStepAtOnce N.opened goal r.0 me.old me.new woken.old.items woken.new.items) }
+        ensures stepped { IfOk result (λ r. IsStepAtOnce N.opened goal r.0 r.1 me.old me.new woken.old.items woken.new.items) }
         ensures refused { IfErr result (λ f. (w : World) × IsProposal N.opened w goal None (Err f)) }
         ensures stays { OnErr result ((me.new ≡ me.old) × (woken.new.items ≡ woken.old.items)) }
     {

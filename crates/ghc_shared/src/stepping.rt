@@ -49,7 +49,7 @@ fn propose_and_take(
     room: bool,
     woken: &mut Vec<GoalName>,
 ) -> Result<(Reply, u32), Fault>
-    ensures answered { IfOk result (λ r. IsAnsweredAtOnce core.old.world goal r.0 core.new.world woken.old.items woken.new.items) }
+    ensures answered { IfOk result (λ r. IsAnsweredAtOnce core.old.world goal r.0 r.1 core.new.world woken.old.items woken.new.items) }
     ensures room { IfOk result (λ r. IsTrue (tells_change (reply_of r.0)) → IsTrue room) }
     ensures refused { IfErr result (λ f. IsProposal (code_of core.old.world.opening) core.old.world goal None (Err f)) }
     ensures stays { OnErr result ((core.new.world ≡ core.old.world) × (woken.new.items ≡ woken.old.items)) }
@@ -83,7 +83,7 @@ impl<N: Naming> Locked<Core, N> {
         ensures number { me.new.number ≡ me.old.number }
         ensures legal { IsLegal me.new.front }
         ensures submits { OnOk result (me.new.submits ≡ one_more me.old.submits) }
-        ensures stepped { IfOk result (λ r. IsStepAtOnce N.opened goal r.0 me.old me.new woken.old.items woken.new.items) }
+        ensures stepped { IfOk result (λ r. IsStepAtOnce N.opened goal r.0 r.1 me.old me.new woken.old.items woken.new.items) }
         ensures refused { IfErr result (λ f. (w : World) × IsProposal N.opened w goal None (Err f)) }
         ensures stays { OnErr result ((me.new ≡ me.old) × (woken.new.items ≡ woken.old.items)) }
     {

@@ -1,4 +1,4 @@
-use Rattle.ghc_shared.proofs.Words.{◌≡◌, ◌⊎◌, sym, ap, ◌∙◌, subst, subst₂, inl, inr, Fault}
+use Rattle.ghc_shared.proofs.Words.{◌≡◌, ◌⊎◌, sym, ap, ◌∙◌, subst, subst₂, inl, inr, length, true, false, Fault}
 use Rattle.std.proofs.Common.{rules}
 use Rattle.ghc_term.specs.Lists.{In}
 use Rattle.ghc_term.specs.declared.goal_name.GoalName.{GoalName}
@@ -19,10 +19,12 @@ returns-in-Ok-clause-answered c =
     let v = c.take.new.core.world in
     let f = found w c.args.goal c.stands.ensures.standing c.stands.ensures.orderly.acyclic c.in-Ok.addition c.in-Ok.ensures.answer.0 in
     let taken = subst (λ u. IsTaken u c.in-Ok.addition (reply_of c.take.result) v) c.in-Ok.ensures.stays.world c.take.ensures.taken in
-    let binds = c.binds.ensures ∙ ap (λ e. e.binds) (c.effect-effect.ensures ∙ ap (λ r. r.effect) c.step.ensures) ∙ f.3 in
+    let effect = c.effect-effect.ensures ∙ ap (λ r. r.effect) c.step.ensures in
+    let binds = c.binds.ensures ∙ ap (λ e. e.binds) effect ∙ f.3 in
+    let makes = c.made-made.ensures ∙ ap (λ e. length e.makes) effect ∙ f.4 in
     let wakes = subst₂ (λ u m. (g : GoalName) → In g c.list_woken.new.list.items → In g c.args.woken.now.items ⊎ LooksAmong u m g) c.in-Ok.ensures.stays.world binds c.list_woken.ensures in
-    at_once w c.args.goal c.stands.ensures.standing f.0 c.take.result v c.args.woken.now.items c.list_woken.new.list.items f.1 (λ t. found_is_told (c.in-Ok.ensures.no_goal t)) (λ t. found_is_told (c.in-Ok.ensures.no_clause t))
-    (taken_answer w c.args.goal f.0 c.in-Ok.addition c.take.result v f.2 taken) wakes
+    at_once w c.args.goal c.stands.ensures.standing f.0 c.take.result c.made-made.result v c.args.woken.now.items c.list_woken.new.list.items f.1 (λ t. found_is_told (c.in-Ok.ensures.no_goal t)) (λ t. found_is_told (c.in-Ok.ensures.no_clause t))
+    (taken_answer w c.args.goal f.0 c.in-Ok.addition c.take.result v f.2 taken) (λ _. makes) wakes
 
 pub returns-in-Err-Full-clause-answered : goal.returns-in-Err-Full-clause-answered
 returns-in-Err-Full-clause-answered c =
@@ -30,7 +32,7 @@ returns-in-Err-Full-clause-answered c =
     let is = c.in-Err-Full.field-0-is in
     let told = c.in-Err-Full.ensures in
     let f = full w c.args.goal c.in-Err-Full.field-0 is told.answer.1 in
-    at_once w c.args.goal c.stands.ensures.standing f.0 _ _ _ _ f.1 (λ t. full_has_goal is (told.no_goal t)) (λ t. full_has_clause is (told.no_clause t)) (gives_up w _ f.0 Fault.Full (inr f.2) told.stays.world) (λ h i. inl i)
+    at_once w c.args.goal c.stands.ensures.standing f.0 _ _ _ _ _ f.1 (λ t. full_has_goal is (told.no_goal t)) (λ t. full_has_clause is (told.no_clause t)) (gives_up w _ f.0 Fault.Full (inr f.2) told.stays.world) (λ t. let clash : false ≡ true = t in cc) (λ h i. inl i)
 
 pub returns-in-Err-clause-refused : goal.returns-in-Err-clause-refused
 returns-in-Err-clause-refused c =

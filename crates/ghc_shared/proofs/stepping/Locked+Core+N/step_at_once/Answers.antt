@@ -56,7 +56,7 @@ returns-clause-stepped g c =
     let receipt : given.Receipt Reply = record { place = place; accepted = accepted; reply = c.in_ok-reply.reply } in
     let before = history w.opening w.journal in
     let places = c.book_call.new.places.items in
-    told_at_once c.legal_is_reachable.ensures c.leaves_is_one.ensures g.N.Naming.opened w v c.args.goal before receipt _ _ c.args.woken.now.items c.propose_and_take.new.woken.items had.0 is
+    told_at_once c.legal_is_reachable.ensures c.leaves_is_one.ensures g.N.Naming.opened w v c.args.goal before receipt c.in_ok-reply.made _ _ c.args.woken.now.items c.propose_and_take.new.woken.items c.tells_change-accepted.ensures had.0 is
     (decided IsAnswerTo before (history v.opening v.journal) (Submit is.step) receipt _ _
     (subst (λ k. IsPrefix k.front before) c.me.view_is (subst (λ l. IsPrefix (items_of c.me.inside.seat.me.0.seen) l) had.1.1.same c.book_call.ensures.seen))
     c.len-place.ensures.length
