@@ -63,10 +63,13 @@ fn serve<D: Device>(
             Ok(()) => Ok(Answered::Ends),
             Err(Broken) => Err(Broken),
         },
-        Ok(Answered::Asks(root, limit)) => match device.flush() {
-            Ok(()) => Ok(Answered::Asks(root, limit)),
-            Err(Broken) => Err(Broken),
-        },
+        Ok(Answered::Asks(root, limit)) => {
+            let handed_on = device.flush();
+            match handed_on {
+                Ok(()) => Ok(Answered::Asks(root, limit)),
+                Err(Broken) => Err(Broken),
+            }
+        }
         Ok(Answered::Lists(listing)) => {
             match write_listing(
                 alloc,

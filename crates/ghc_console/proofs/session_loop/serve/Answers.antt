@@ -31,19 +31,19 @@ returns-in-Err-write_all-2-clause-served g c bytes says =
     let reply = ends_reply (state_of c.args.debugger.now) (state_of answer.new.debugger) bytes (string_bytes answer.new.reply) answer.result _ c.in-Ok-Ends.is is (answer.ensures.reply bytes says) in
     breaks _ (state_of c.args.debugger.now) (state_of answer.new.debugger) bytes _ _ true _ _ reply c.as_bytes-in-Ok-Ends.ensures.value c.in-Err-write_all-2.ensures.bytes
 
-pub returns-in-Ok-flush-clause-served : goal.returns-in-Ok-flush-clause-served
-returns-in-Ok-flush-clause-served g c bytes says =
+pub returns-in-Ok-handed_on-clause-served : goal.returns-in-Ok-handed_on-clause-served
+returns-in-Ok-handed_on-clause-served g c bytes says =
     let answer = c.answer in
     let is : c.in-Ok-Asks.field-0 ≡ asks c.in-Ok-Asks.root c.in-Ok-Asks.limit = c.in-Ok-Asks.field-0-is in
     let asked = asks_run (state_of c.args.debugger.now) (state_of answer.new.debugger) bytes (string_bytes answer.new.reply) answer.result _ c.in-Ok-Asks.root c.in-Ok-Asks.limit c.in-Ok-Asks.is is (answer.ensures.reply bytes says) in
-    (asked.0, c.in-Ok-flush.ensures.written, asked.1, asked.2)
+    (asked.0, c.in-Ok-handed_on.ensures.written, asked.1, asked.2)
 
-pub returns-in-Err-flush-clause-served : goal.returns-in-Err-flush-clause-served
-returns-in-Err-flush-clause-served g c bytes says =
+pub returns-in-Err-handed_on-clause-served : goal.returns-in-Err-handed_on-clause-served
+returns-in-Err-handed_on-clause-served g c bytes says =
     let answer = c.answer in
     let is : c.in-Ok-Asks.field-0 ≡ asks c.in-Ok-Asks.root c.in-Ok-Asks.limit = c.in-Ok-Asks.field-0-is in
     let asked = asks_run (state_of c.args.debugger.now) (state_of answer.new.debugger) bytes (string_bytes answer.new.reply) answer.result _ c.in-Ok-Asks.root c.in-Ok-Asks.limit c.in-Ok-Asks.is is (answer.ensures.reply bytes says) in
-    not_run _ (state_of c.args.debugger.now) (state_of answer.new.debugger) bytes _ _ asked.0 c.in-Err-flush.ensures.written
+    not_run _ (state_of c.args.debugger.now) (state_of answer.new.debugger) bytes _ _ asked.0 c.in-Err-handed_on.ensures.written
 
 pub returns-in-Ok-write_all-2-clause-served : goal.returns-in-Ok-write_all-2-clause-served
 returns-in-Ok-write_all-2-clause-served g c bytes says =
