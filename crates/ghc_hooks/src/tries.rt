@@ -149,6 +149,7 @@ impl Tries {
     }
 
     /// Marks a goal that has no note as untried, where there is room: one look-up.
+    #[inline(always)]
     pub fn add_goal(&mut self, goal: GoalName)
         requires room { 0 < self.old.room }
         requires new { finite.get self.old.notes goal ≡ None }

@@ -59,6 +59,7 @@ pub fn small_sides(test: &Test) -> Option<(Comparison, Small<'_>, Small<'_>)>
 }
 
 // What a variable says. Where it ends unbound, that variable is wanted, and its chain is looked at.
+#[inline(always)]
 fn ask_variable(
     store: &Store,
     stands: &Stands<'_>,
@@ -112,6 +113,7 @@ fn apply_to(operator: Operator, left: Option<i64>, right: Option<i64>) -> Option
 }
 
 // What an operation on two leaves says, with what they want and look at.
+#[inline(always)]
 fn ask_operation(
     store: &Store,
     stands: &Stands<'_>,

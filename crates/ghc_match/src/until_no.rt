@@ -20,6 +20,7 @@ use ghc_term::{Store, Term, Variables};
 use std::alloc::{AllocError, Global};
 
 // What the positions of the clause's head show, up to the first one that clashes; where none does, it goes once to each of them.
+#[inline(always)]
 fn match_until_clash<'a>(
     alloc: Global,
     clause: &'a Clause,
@@ -70,6 +71,7 @@ fn try_until_no(
 /// Lays the clause over a call with these arguments for a step, which uses nothing of a clause that does not accept. It says what
 /// `lay_clause` does, and ends at the first position that clashes and at the first test that says no: it costs as much at most.
 /// A clause of a program is linear.
+#[inline(always)]
 pub fn lay_until_no<'a>(
     alloc: Global,
     clause: &'a Clause,

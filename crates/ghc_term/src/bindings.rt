@@ -30,6 +30,7 @@ enum Held {
 }
 
 impl Drop for Held {
+    #[inline(always)]
     fn drop(self) {
         match self {
             Held::Nothing(_) => {}

@@ -6,6 +6,7 @@ ghost use Rattle.ghc_term.specs.Store.{value_at};
 use ghc_term::{Store, Term, TermView, VarName};
 
 // Whether the term is closed, or another variable that is unbound or has a closed value: one look-up at most.
+#[inline(always)]
 fn is_leaf_apart(store: &Store, term: &Term, x: VarName) -> bool
     ensures { IsTrue result → ¬ Reaches (value_at store.now.held) term.now x }
 {

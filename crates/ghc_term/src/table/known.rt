@@ -16,6 +16,7 @@ use std::alloc::AllocError;
 const SHORT: usize = 32;
 
 // Whether the term is closed, or a variable that is unbound or has a closed value: one look-up at most.
+#[inline(always)]
 fn is_near_leaf(map: &VariableMap<Term>, term: &Term) -> bool {
     let TermView::Var(y) = term.view() else {
         return term.is_closed();

@@ -141,6 +141,7 @@ impl VariableList {
     }
 
     // Puts a variable after the others.
+    #[inline(always)]
     pub fn push(&mut self, x: VarName) -> Result<(), AllocError>
         requires { ¬ In x self.old }
         ensures ok { OnOk result (self.new ≡ self.old ++ x ∷ []) }

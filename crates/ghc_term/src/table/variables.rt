@@ -52,6 +52,7 @@ impl Variables {
     }
 
     /// Adds the variable.
+    #[inline(always)]
     pub fn insert(&mut self, x: VarName) -> Result<(), AllocError>
         ensures ok { OnOk result (self.new ≡ set.insert self.old x) }
         ensures err { OnErr result (self.new ≡ self.old) }
@@ -91,6 +92,7 @@ impl Variables {
 }
 
 impl Drop for Variables {
+    #[inline(always)]
     fn drop(self) {
         let Variables { members: _members } = self;
     }
