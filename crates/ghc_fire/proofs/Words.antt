@@ -5,6 +5,7 @@ pub use Rattle.ghc_fire.specs.Attempted.{AttemptsAt, IsProposed}
 pub use Rattle.ghc_fire.specs.inner.Calls.{HasVerdict}
 pub use Rattle.ghc_fire.specs.Effect.{Assigns, Closes, Effect, Feeds, HasEffect, IsOnChainsOf, ReadsTail, Reduces, Unites, no_step}
 pub use Rattle.ghc_fire.specs.inner.EffectCode.{effect_code}
+pub use Rattle.ghc_fire.specs.Firing.{Firing, IsReductionOf}
 pub use Rattle.ghc_fire.specs.Facts.{AppendRun, BoundTailTakesNothing, InputAndClose, InputReadsAlias, list_1, list_2, partial_list}
 pub use Rattle.ghc_fire.specs.Goals.{Goals, goal_cmp}
 pub use Rattle.ghc_fire.specs.Instance.{becomes, body_made, made, place_in, replace_in_expression, replace_in_goal}

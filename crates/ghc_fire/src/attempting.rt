@@ -3,8 +3,10 @@ ghost use Rattle.std.specs.Prelude.{◌≡◌, ◌⊎◌, Err, IfOk, IfErr};
 ghost use Rattle.ghc_term.specs.Answered.{Answered};
 ghost use Rattle.ghc_term.specs.Store.{value_at};
 ghost use Rattle.ghc_flat.specs.Clause.{Program as program_spec};
-ghost use Rattle.ghc_fire.specs.Attempt.{proposes, refused, UnificationAnswers, AssignmentAnswers, AttemptsAs, Attempts};
+ghost use Rattle.ghc_fire.specs.Attempt.{proposes, refused, ChoiceAnswers, UnificationAnswers, AssignmentAnswers, AttemptsAs, Attempts};
 ghost use Rattle.ghc_fire.specs.Attempted.{AttemptsAt, IsProposed, IsFiredAs};
+ghost use Rattle.ghc_fire.specs.Effect.{no_step};
+ghost use Rattle.ghc_fire.specs.Firing.{IsReductionOf};
 ghost use Rattle.ghc_fire.specs.Meter.{fired};
 ghost use Rattle.ghc_fire.specs.Proposal.{under};
 
@@ -12,13 +14,13 @@ use crate::act::Act;
 use crate::calls::{attempt_call, attempt_choice};
 use crate::effect::{Effect, NO_STEP};
 use crate::equations::{attempt_assignment, attempt_unification};
-use crate::firing::Firing;
+use crate::firing::{Firing, Reduction};
 use crate::goals::Goals;
 use crate::instances::number_goals;
 use crate::meter::Meter;
 use crate::proposal::Proposal;
 use ghc_flat::Program;
-use ghc_term::{Expr, Fault, Goal, GoalName, GoalView, Store, Term};
+use ghc_term::{Expr, Fault, GoalName, GoalView, Name, Store, Term};
 use std::alloc::{AllocError, Global};
 use std::sync::Arc;
 
@@ -47,8 +49,20 @@ pub fn attempt(
     let Some(consumed) = goals.handle(goal) else {
         return Err(Fault::NoGoal);
     };
-    let (act, effect) = propose_act(alloc, program, store, consumed.goal(), choice, NO_STEP)?;
-    Ok(Proposal::new(goal, consumed.share()?, act, effect))
+    let reduction = Reduction {
+        step: NO_STEP,
+        name: goal,
+        goal: consumed,
+    };
+    let fired = reduce(alloc, program, store, choice, &reduction)?;
+    let consumed = consumed.share()?;
+    match Arc::try_unwrap(fired) {
+        Ok(fired) => {
+            let (act, effect) = fired.into_act();
+            Ok(Proposal::new(goal, consumed, act, effect))
+        }
+        Err(_) => Err(Fault::Memory),
+    }
 }
 
 /// Fires a step of the goal of this name, as the step of this number, and counts a firing: what `attempt` proposes, with its effect as
@@ -73,68 +87,110 @@ pub fn fire_as(
     meter.count_firing();
     match goals.handle(goal) {
         Some(consumed) => {
-            let (act, effect) = propose_act(alloc, program, store, consumed.goal(), choice, step)?;
-            let fired = Firing::new(step, Some(goal), Some(consumed.share()?), act, effect);
-            Ok(Arc::new(alloc, fired)?)
+            let reduction = Reduction {
+                step,
+                name: goal,
+                goal: consumed,
+            };
+            let fired = reduce(alloc, program, store, choice, &reduction)?;
+            Ok(fired)
         }
         None => Err(Fault::NoGoal),
     }
 }
 
-// The act of a step that unifies the two sides, with its effect.
-fn propose_unification(
+// The step that reduces a call by the clause of this number.
+fn reduce_by_choice(
+    alloc: Global,
+    program: &Program,
+    store: &Store,
+    name: &Name,
+    arguments: &[Term],
+    number: u32,
+    reduction: &Reduction<'_>,
+) -> Result<Arc<Firing>, Fault>
+    ensures fired { IfOk result (λ f. IsReductionOf reduction.now.step reduction.now.name reduction.now.goal.now f.value) }
+    ensures proposed { IfOk result (λ f. ChoiceAnswers reduction.now.step program.now name.now arguments.now number (value_at store.now.held) (proposes f.value.act f.value.effect)) }
+    ensures fault { IfErr result (λ f. (f ≡ Fault.Memory) ⊎ ChoiceAnswers no_step program.now name.now arguments.now number (value_at store.now.held) (refused f)) }
+    ensures no_clause { ChoiceAnswers no_step program.now name.now arguments.now number (value_at store.now.held) (refused Fault.NoClause) → result ≡ Err Fault.NoClause }
+{
+    let effect = attempt_choice(
+        alloc,
+        program,
+        store,
+        name,
+        arguments,
+        number,
+        reduction.step,
+    )?;
+    let fired = reduction.fire(alloc, Act::ByClause(number), effect)?;
+    Ok(fired)
+}
+
+// The step that unifies the two sides.
+fn reduce_unification(
     alloc: Global,
     store: &Store,
     left: &Term,
     right: &Term,
-) -> Result<(Act, Effect), Fault>
-    ensures proposed { IfOk result (λ p. (P : program_spec) → UnificationAnswers P left.now right.now (value_at store.now.held) (proposes p.0 p.1)) }
+    reduction: &Reduction<'_>,
+) -> Result<Arc<Firing>, Fault>
+    ensures fired { IfOk result (λ f. IsReductionOf reduction.now.step reduction.now.name reduction.now.goal.now f.value) }
+    ensures proposed { IfOk result (λ f. (P : program_spec) → UnificationAnswers P left.now right.now (value_at store.now.held) (proposes f.value.act f.value.effect)) }
     ensures fault { IfErr result (λ f. (f ≡ Fault.Memory) ⊎ ((P : program_spec) → UnificationAnswers P left.now right.now (value_at store.now.held) (refused f))) }
 {
     let effect = attempt_unification(alloc, store, left, right)?;
-    Ok((Act::Unified, effect))
+    let fired = reduction.fire(alloc, Act::Unified, effect)?;
+    Ok(fired)
 }
 
-// The act of a step that assigns the value of the expression, with its effect.
+// The step that assigns the value of the expression.
 #[inline(never)]
-fn propose_assignment(
+fn reduce_assignment(
     alloc: Global,
     store: &Store,
     left: &Term,
     value: &Expr,
-) -> Result<(Act, Effect), Fault>
-    ensures proposed { IfOk result (λ p. (P : program_spec) → AssignmentAnswers P left.now value.now (value_at store.now.held) (proposes p.0 p.1)) }
+    reduction: &Reduction<'_>,
+) -> Result<Arc<Firing>, Fault>
+    ensures fired { IfOk result (λ f. IsReductionOf reduction.now.step reduction.now.name reduction.now.goal.now f.value) }
+    ensures proposed { IfOk result (λ f. (P : program_spec) → AssignmentAnswers P left.now value.now (value_at store.now.held) (proposes f.value.act f.value.effect)) }
     ensures fault { IfErr result (λ f. (f ≡ Fault.Memory) ⊎ ((P : program_spec) → AssignmentAnswers P left.now value.now (value_at store.now.held) (refused f))) }
 {
     let effect = attempt_assignment(alloc, store, left, value)?;
-    Ok((Act::Assigned, effect))
+    let fired = reduction.fire(alloc, Act::Assigned, effect)?;
+    Ok(fired)
 }
 
-// The act of the step of this number of the goal, with its effect.
+// The step that reduces the goal.
 #[inline(always)]
-fn propose_act(
+fn reduce(
     alloc: Global,
     program: &Program,
     store: &Store,
-    goal: &Goal,
     choice: Option<u32>,
-    step: u32,
-) -> Result<(Act, Effect), Fault>
-    ensures proposed { IfOk result (λ p. AttemptsAs step program.now (value_at store.now.held) (Some goal.now) choice (proposes p.0 p.1)) }
-    ensures fault { IfErr result (λ f. (f ≡ Fault.Memory) ⊎ Attempts program.now (value_at store.now.held) (Some goal.now) choice (refused f)) }
-    ensures no_goal { Attempts program.now (value_at store.now.held) (Some goal.now) choice (refused Fault.NoGoal) → result ≡ Err Fault.NoGoal }
-    ensures no_clause { Attempts program.now (value_at store.now.held) (Some goal.now) choice (refused Fault.NoClause) → result ≡ Err Fault.NoClause }
+    reduction: &Reduction<'_>,
+) -> Result<Arc<Firing>, Fault>
+    ensures fired { IfOk result (λ f. IsReductionOf reduction.now.step reduction.now.name reduction.now.goal.now f.value) }
+    ensures proposed { IfOk result (λ f. AttemptsAs reduction.now.step program.now (value_at store.now.held) (Some reduction.now.goal.now) choice (proposes f.value.act f.value.effect)) }
+    ensures fault { IfErr result (λ f. (f ≡ Fault.Memory) ⊎ Attempts program.now (value_at store.now.held) (Some reduction.now.goal.now) choice (refused f)) }
+    ensures no_goal { Attempts program.now (value_at store.now.held) (Some reduction.now.goal.now) choice (refused Fault.NoGoal) → result ≡ Err Fault.NoGoal }
+    ensures no_clause { Attempts program.now (value_at store.now.held) (Some reduction.now.goal.now) choice (refused Fault.NoClause) → result ≡ Err Fault.NoClause }
 {
-    match (goal.view(), choice) {
+    match (reduction.goal.goal().view(), choice) {
         (GoalView::Stream(_, _), _) => Err(Fault::NoGoal),
         (GoalView::Call(name, arguments), None) => {
-            attempt_call(alloc, program, store, name, arguments, step)
+            attempt_call(alloc, program, store, name, arguments, reduction)
         }
         (GoalView::Call(name, arguments), Some(number)) => {
-            attempt_choice(alloc, program, store, name, arguments, number, step)
+            reduce_by_choice(alloc, program, store, name, arguments, number, reduction)
         }
-        (GoalView::Unify(left, right), None) => propose_unification(alloc, store, left, right),
-        (GoalView::Assign(left, value), None) => propose_assignment(alloc, store, left, value),
+        (GoalView::Unify(left, right), None) => {
+            reduce_unification(alloc, store, left, right, reduction)
+        }
+        (GoalView::Assign(left, value), None) => {
+            reduce_assignment(alloc, store, left, value, reduction)
+        }
         _ => Err(Fault::NoClause),
     }
 }

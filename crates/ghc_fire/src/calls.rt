@@ -2,16 +2,20 @@
 ghost use Rattle.std.specs.Prelude.{◌≡◌, ◌⊎◌, length, Err, IfOk, IfErr};
 ghost use Rattle.ghc_term.specs.Store.{value_at};
 ghost use Rattle.ghc_fire.specs.Attempt.{proposes, refused, CallAnswers, ChoiceAnswers};
+ghost use Rattle.ghc_fire.specs.declared.act.Act.TheVariants.{ByClause as by_clause};
 ghost use Rattle.ghc_fire.specs.Effect.{no_step};
+ghost use Rattle.ghc_fire.specs.Firing.{IsReductionOf};
 ghost use Rattle.ghc_fire.specs.inner.Calls.{HasVerdict};
 
 use crate::act::Act;
 use crate::effect::Effect;
+use crate::firing::{Firing, Reduction};
 use crate::instances::instance;
 use ghc_flat::{Clause, Program};
 use ghc_match::{Met, Says, first_end, lay_until_no, refuses_at_first};
 use ghc_term::{Bindings, Fault, Name, Store, Term};
 use std::alloc::{AllocError, Global};
+use std::sync::Arc;
 
 // What a clause makes of a call.
 #[derive(Drop)]
@@ -49,7 +53,7 @@ fn try_clause_as_step(
     }
 }
 
-/// The step of this number of a call, by the least of its clauses that accepts it; where none does, `Waits` if one waits, and else
+/// The step that reduces a call by the least of its clauses that accepts it; where none does, `Waits` if one waits, and else
 /// `NoMatch`. It tries the clauses in order up to the one that it takes, but for those that refuse the call for its first
 /// argument, whose chain it follows once more.
 pub fn attempt_call(
@@ -58,9 +62,10 @@ pub fn attempt_call(
     store: &Store,
     name: &Name,
     arguments: &[Term],
-    step: u32,
-) -> Result<(Act, Effect), Fault>
-    ensures proposed { IfOk result (λ p. CallAnswers step program.now name.now arguments.now (value_at store.now.held) (proposes p.0 p.1)) }
+    reduction: &Reduction<'_>,
+) -> Result<Arc<Firing>, Fault>
+    ensures fired { IfOk result (λ f. IsReductionOf reduction.now.step reduction.now.name reduction.now.goal.now f.value) }
+    ensures proposed { IfOk result (λ f. CallAnswers reduction.now.step program.now name.now arguments.now (value_at store.now.held) (proposes f.value.act f.value.effect)) }
     ensures fault { IfErr result (λ f. (f ≡ Fault.Memory) ⊎ CallAnswers no_step program.now name.now arguments.now (value_at store.now.held) (refused f)) }
 {
     let first = first_end(arguments, store);
@@ -71,10 +76,13 @@ pub fn attempt_call(
         if refuses_at_first(clause, first) {
             continue;
         }
-        match try_clause_as_step(alloc, clause, arguments, store, step)? {
+        match try_clause_as_step(alloc, clause, arguments, store, reduction.step)? {
             Verdict::Refuses => {}
             Verdict::Waits => waits = true,
-            Verdict::Reduces(effect) => return Ok((Act::ByClause(number), effect)),
+            Verdict::Reduces(effect) => {
+                let fired = reduction.fire(alloc, Act::ByClause(number), effect)?;
+                return Ok(fired);
+            }
         }
     }
     if waits {
@@ -84,7 +92,7 @@ pub fn attempt_call(
     }
 }
 
-/// The step of a call by the clause of this number, or `NoClause` where that is not for the call, or else `Waits` or
+/// The effect of a step of a call by the clause of this number, or `NoClause` where that is not for the call, or else `Waits` or
 /// `NoMatch`. The number of the step is `step`. It tries no other clause.
 #[inline(never)]
 pub fn attempt_choice(
@@ -95,8 +103,8 @@ pub fn attempt_choice(
     arguments: &[Term],
     number: u32,
     step: u32,
-) -> Result<(Act, Effect), Fault>
-    ensures proposed { IfOk result (λ p. ChoiceAnswers step program.now name.now arguments.now number (value_at store.now.held) (proposes p.0 p.1)) }
+) -> Result<Effect, Fault>
+    ensures proposed { IfOk result (λ e. ChoiceAnswers step program.now name.now arguments.now number (value_at store.now.held) (proposes (by_clause number) e)) }
     ensures fault { IfErr result (λ f. (f ≡ Fault.Memory) ⊎ ChoiceAnswers no_step program.now name.now arguments.now number (value_at store.now.held) (refused f)) }
     ensures no_clause { ChoiceAnswers no_step program.now name.now arguments.now number (value_at store.now.held) (refused Fault.NoClause) → result ≡ Err Fault.NoClause }
 {
@@ -110,6 +118,6 @@ pub fn attempt_choice(
     match verdict {
         Verdict::Refuses => Err(Fault::NoMatch),
         Verdict::Waits => Err(Fault::Waits),
-        Verdict::Reduces(effect) => Ok((Act::ByClause(number), effect)),
+        Verdict::Reduces(effect) => Ok(effect),
     }
 }

@@ -1,11 +1,14 @@
 // Steps as they fire.
-ghost use Rattle.std.specs.Prelude.{◌≡◌};
+ghost use Rattle.std.specs.Prelude.{◌≡◌, Some, IfOk, IfErr};
+ghost use Rattle.ghc_term.specs.declared.fault.Fault.{Fault as fault_spec};
 
 use crate::act::Act;
 use crate::effect::Effect;
 use crate::made::MadeGoal;
-use ghc_term::{Goal, GoalName};
+use ghc_term::{Fault, GoalName};
+use std::alloc::Global;
 use std::marker::Model;
+use std::sync::Arc;
 
 /// A step that fires: its number, the goal that it consumes, if any, by name and as written, its act, and its effect.
 pub struct Firing {
@@ -101,5 +104,42 @@ impl Firing {
         ensures { result.now ≡ self.now.effect }
     {
         &self.effect
+    }
+
+    // The act of the step and its effect, given up.
+    pub(crate) fn into_act(self) -> (Act, Effect)
+        ensures act { result.0 ≡ self.act }
+        ensures effect { result.1 ≡ self.effect }
+    {
+        let Firing {
+            number: _,
+            goal: _,
+            act,
+            consumed: _consumed,
+            effect,
+        } = self;
+        (act, effect)
+    }
+}
+
+// A goal that a step is to reduce: its name, the handle under which it is there, and the number of the step.
+#[derive(Clone, Copy)]
+pub(crate) struct Reduction<'a> {
+    pub step: u32,
+    pub name: GoalName,
+    pub goal: &'a MadeGoal,
+}
+
+impl Reduction<'_> {
+    // The step that does this to the goal, in the piece of memory in which it stays. It fails where memory is refused, or where a
+    // count of handles is full.
+    #[inline(always)]
+    pub(crate) fn fire(&self, alloc: Global, act: Act, effect: Effect) -> Result<Arc<Firing>, Fault>
+        ensures step { IfOk result (λ f. f.value ≡ record { number = self.now.step; goal = Some self.now.name; consumed = Some self.now.goal.now; act = act; effect = effect }) }
+        ensures fault { IfErr result (λ f. f ≡ fault_spec.Memory) }
+    {
+        let consumed = self.goal.share()?;
+        let fired = Firing::new(self.step, Some(self.name), Some(consumed), act, effect);
+        Ok(Arc::new(alloc, fired)?)
     }
 }

@@ -40,7 +40,7 @@ fn by_clause(
 {
     store.acyclic();
     match attempt_choice(alloc, program, store, name, arguments, clause, step) {
-        Ok((_act, effect)) => Ok(Some(effect)),
+        Ok(effect) => Ok(Some(effect)),
         Err(fault) => none_but_memory(fault),
     }
 }

@@ -1,4 +1,4 @@
-use Rattle.ghc_fire.proofs.Words.{length, ap, ◌∙◌, subst, inr, arith, MatchOption-at_some, IsClause, IsFor}
+use Rattle.ghc_fire.proofs.Words.{length, refl, sym, ap, ◌∙◌, subst, inr, arith, MatchOption-at_some, IsClause, IsFor, IsReductionOf}
 use Rattle.ghc_fire.proofs.Calling.{some_there, tried_nothing, next_for, next_refuses, next_waits, all_wait, all_refuse, least_reduces}
 use Rattle.ghc_fire.proofs.Steps.{clause_once}
 use Rattle.ghc_fire.proofs.calls.attempt_call.Goals as goal
@@ -20,13 +20,19 @@ try_clause_as_step-requires c =
     let is = MatchOption-at_some _ _ c.unwrap-clause.result c.unwrap-clause.ensures c.clause.ensures.found in
     ap (λ d. length d.head) (clause_once c.args.program.now is n.1) ∙ n.2.1
 
+pub returns-in-Reduces-clause-fired : goal.returns-in-Reduces-clause-fired
+returns-in-Reduces-clause-fired c =
+    let r = c.args.reduction.now in
+    subst (λ f. IsReductionOf r.step r.name r.goal.now f) (sym c.in_ok-fired-in-Reduces.ensures.step) refl
+
 pub returns-in-Reduces-clause-proposed : goal.returns-in-Reduces-clause-proposed
 returns-in-Reduces-clause-proposed c =
     let n = next_for _ _ _ _ _ _ c.loop-number.invariant _ _ c.in-Some.ensures.least in
     let is = MatchOption-at_some _ _ c.unwrap-clause.result c.unwrap-clause.ensures c.clause.ensures.found in
     let for = subst (IsFor c.args.name.now c.args.arguments.now) (clause_once c.args.program.now n.1 is) n.2 in
     let v = rw c.in-Reduces.is at c.in_ok-try_clause_as_step.ensures in
-    least_reduces _ _ _ _ _ _ c.loop-number.invariant _ _ c.in-Some.ensures.least c.args.step _ c.in-Reduces.effect is for v
+    rw c.in_ok-fired-in-Reduces.ensures.step
+    (least_reduces _ _ _ _ _ _ c.loop-number.invariant _ _ c.in-Some.ensures.least c.args.reduction.now.step _ c.in-Reduces.effect is for v)
 
 pub loop-number-preserved-then-refuses_at_first : goal.loop-number-preserved-then-refuses_at_first
 loop-number-preserved-then-refuses_at_first c =

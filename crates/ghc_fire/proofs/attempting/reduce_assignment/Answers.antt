@@ -1,0 +1,10 @@
+use Rattle.ghc_fire.proofs.Words.{refl, sym, subst, AssignmentAnswers, IsReductionOf}
+use Rattle.ghc_fire.proofs.attempting.reduce_assignment.Goals as goal
+
+pub returns-clause-fired : goal.returns-clause-fired
+returns-clause-fired c =
+    let r = c.args.reduction.now in
+    subst (λ f. IsReductionOf r.step r.name r.goal.now f) (sym c.in_ok-fired.ensures.step) refl
+
+pub returns-clause-proposed : goal.returns-clause-proposed
+returns-clause-proposed c = λ P. rw c.in_ok-fired.ensures.step (AssignmentAnswers.assigns c.in_ok-effect.ensures.effect)
