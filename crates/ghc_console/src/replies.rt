@@ -42,7 +42,7 @@ use crate::named_variable::variable_named;
 use crate::replies::obey_reply::carry_out;
 use crate::replies::settled::settle;
 use ghc_core::{Change, Coming, Core};
-use ghc_records::{Record, Records, push_record};
+use ghc_records::{Addition, Record, Records, push_record};
 use ghc_term::{Fault, GoalName, Term, print};
 use ghc_trace::{Disturbed, notes_tell_ports, push_ports_of};
 use std::alloc::{AllocError, Global};
@@ -97,7 +97,10 @@ pub fn step(
 {
     settle(alloc, core)?;
     match core.prepare_step(alloc, goal, choice) {
-        Ok(addition) => carry_out(alloc, core, Change::Comes(Coming::Next, addition), reply),
+        Ok(step) => {
+            let addition = Addition::of(alloc, step)?;
+            carry_out(alloc, core, Change::Comes(Coming::Next, addition), reply)
+        }
         Err(fault) => refused(&fault, reply),
     }
 }

@@ -26,7 +26,7 @@ use crate::changes::arrange::Arrangement;
 use crate::changes::carrying::carry_over;
 use crate::changes::rollback::Rollback;
 use crate::core_state::Core;
-use ghc_records::{Addition, Entry, Records};
+use ghc_records::{Addition, Entry, Record, Records};
 use std::alloc::AllocError;
 
 /// Where a step is from that comes.
@@ -68,12 +68,11 @@ pub(crate) fn strike(records: &mut Records, number: u32)
 impl Core {
     // Makes room for the step that comes.
     #[inline(always)]
-    pub(crate) fn reserve_to_add(&mut self, addition: &Addition) -> Result<(), AllocError>
-        ensures room { OnOk result (HasRoomFor self.new.world self.new.room (comes Coming.Next addition.now)) }
+    pub(crate) fn reserve_to_add(&mut self, step: &Record) -> Result<(), AllocError>
+        ensures room { OnOk result (HasRoomFor self.new.world self.new.room (comes Coming.Next step.now)) }
         ensures stays { Stays self.old self.new }
         ensures meter { self.new.meter ≡ self.old.meter }
     {
-        let step = addition.step();
         self.state.reserve_for(step)?;
         self.tries
             .reserve(step.effect().makes().len(), step.number())?;
@@ -88,7 +87,7 @@ impl Core {
         ensures meter { self.new.meter ≡ self.old.meter }
     {
         match change {
-            Change::Comes(_, addition) => self.reserve_to_add(addition),
+            Change::Comes(_, addition) => self.reserve_to_add(addition.step()),
             Change::Goes(_, rollback) => self.reserve_to_roll(rollback),
             Change::Reorders(_) => self.reserve_to_arrange(),
         }

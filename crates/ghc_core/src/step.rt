@@ -7,13 +7,12 @@ ghost use Rattle.ghc_core.specs.Proposes.{AttemptAnswers, IsStepOf, StepFails};
 ghost use Rattle.ghc_core.specs.Core.{Stays};
 
 use crate::core_state::Core;
-use ghc_records::Addition;
+use ghc_records::Record;
 use ghc_term::{Fault, GoalName};
 use std::alloc::Global;
 
 impl Core {
-    /// Finds what it takes to take a step of the goal of this name, with a clause chosen or not, as the next step, and counts a
-    /// firing. The refusals are those of an attempt, in their order; else `Full` exactly where the numbers are used up or
+    /// Fires a step of the goal of this name, with a clause chosen or not, as the next step, and counts a firing. The refusals are those of an attempt, in their order; else `Full` exactly where the numbers are used up or
     /// 1,000,000 steps are kept. But for the meter the core stays as it is. It is what `attempt` and `prepare` give together,
     /// with one attempt, made under the number of the next step: since nothing comes between, its goals need no second walk.
     #[inline(always)]
@@ -22,7 +21,7 @@ impl Core {
         alloc: Global,
         goal: GoalName,
         choice: Option<u32>,
-    ) -> Result<Addition, Fault>
+    ) -> Result<Record, Fault>
         ensures answer { Answered (IsStepOf self.old.world goal choice) (StepFails self.old.world goal choice) result }
         ensures no_goal { AttemptAnswers self.old.world goal choice (refused Fault.NoGoal) → result ≡ Err Fault.NoGoal }
         ensures no_clause { AttemptAnswers self.old.world goal choice (refused Fault.NoClause) → result ≡ Err Fault.NoClause }
@@ -31,7 +30,7 @@ impl Core {
     {
         self.stands();
         match self.fire_next(alloc, goal, choice) {
-            Ok(fired) => self.fired_as_next(alloc, fired),
+            Ok(fired) => self.fired_as_next(fired),
             Err(fault) => Err(fault),
         }
     }

@@ -1,16 +1,16 @@
 // States: the goals and the store.
-ghost use Rattle.std.specs.Prelude.{◌≡◌, ◌+◌, ◌<◌, ◌≤◌, length, IfOk, OnOk};
+ghost use Rattle.std.specs.Prelude.{◌≡◌, ◌+◌, ◌<◌, ◌≤◌, length, IfOk, OnOk, OnErr};
 ghost use Rattle.ghc_flat.specs.Flat.{most_goals};
 
 use crate::addition::Addition;
 use crate::binding::unbind_all;
 use crate::entry::Entry;
-use crate::handles::handles_of;
+use crate::handles::{Handles, handles_of};
 use crate::making::{consume_goal, make_goals, restore_consumed, unmake_goals};
 use crate::record::Record;
 use crate::removal::Removal;
 use ghc_fire::{Goals, Made};
-use ghc_term::{Goal, Store};
+use ghc_term::{Bindings, Goal, Store};
 use std::alloc::{AllocError, Global};
 use std::marker::Model;
 
@@ -59,6 +59,7 @@ impl State {
     ghost use Rattle.ghc_records.specs.Replay.{query_state};
     ghost use Rattle.ghc_records.specs.Journal.{took, step_of};
     ghost use Rattle.ghc_records.specs.inner.EntryCode.{entry_of};
+    ghost use Rattle.ghc_records.specs.inner.Handles.{goals_of};
     ghost use Rattle.ghc_records.specs.State.{HasRoomToTake, IsTakenBack};
 
     /// The state of a query before any step, of no more goals than a query may have. It costs a look-up for each goal, and
@@ -110,6 +111,20 @@ impl State {
         self.store.reserve(effect.binds().len(), step.number())
     }
 
+    // Takes a step, of which these are handles of the goals that it makes and of the terms to which it binds variables.
+    #[inline(always)]
+    fn apply(&mut self, step: &Record, makes: Handles, binds: Bindings)
+        requires room { HasRoomToTake self.old.room step.now }
+        requires acyclic { IsAcyclic (value_at (after self.old.held step.now).store) }
+        requires makes { goals_of makes ≡ step.now.effect.makes }
+        requires binds { binds ≡ step.now.effect.binds }
+        ensures { self.new.held ≡ after self.old.held step.now }
+    {
+        consume_goal(&mut self.goals, step.goal());
+        make_goals(&mut self.goals, step.number(), makes, step.effect().made());
+        self.store.put(binds);
+    }
+
     /// Takes a step, where there is room for it and the store stays acyclic: the goal that it consumes is gone, the goals that
     /// it makes are there, and its bindings are made. It cannot fail, gives the record and its entry, and costs a look-up for
     /// each goal and each binding.
@@ -122,11 +137,24 @@ impl State {
         ensures state { self.new.held ≡ after self.old.held addition }
     {
         let (step, entry, makes, binds) = addition.into_parts();
-        let made = step.effect().made();
-        consume_goal(&mut self.goals, step.goal());
-        make_goals(&mut self.goals, step.number(), makes, made);
-        self.store.put(binds);
+        self.apply(&step, makes, binds);
         (step, entry)
+    }
+
+    /// Takes a step as `take` does, with handles of its own of the goals that the step makes and of the terms to which it binds
+    /// variables: one step for each. Where memory for them is refused, or a count of handles is full, the state stays.
+    #[inline(always)]
+    pub fn take_step(&mut self, alloc: Global, step: &Record) -> Result<(), AllocError>
+        requires room { HasRoomToTake self.old.room step.now }
+        requires acyclic { IsAcyclic (value_at (after self.old.held step.now).store) }
+        ensures state { OnOk result (self.new.held ≡ after self.old.held step.now) }
+        ensures stays { OnErr result (self.new ≡ self.old) }
+    {
+        let effect = step.effect();
+        let makes = handles_of(alloc, effect.piece(), effect.made())?;
+        let binds = effect.binds().share()?;
+        self.apply(step, makes, binds);
+        Ok(())
     }
 
     /// Takes a step back, where there is room for a goal: what it bound is unbound, the goals that it made are gone, and the goal

@@ -17,24 +17,22 @@ use crate::naming::Naming;
 use crate::pass::{Pass, counted};
 use crate::receipt::Receipt;
 use crate::waking::list_woken;
-use ghc_core::{
-    Change, Coming, Core, Reply, answers_add_what_they_tell, leaves_is_one, legal_is_reachable,
-};
-use ghc_records::Addition;
+use ghc_core::{Core, Reply, answers_add_what_they_tell, leaves_is_one, legal_is_reachable};
+use ghc_records::Record;
 use ghc_term::{Fault, GoalName};
 use std::alloc::Global;
 
 // Takes a step that was found, if there is room for its place. Where memory is refused, nothing changes.
-fn take(core: &mut Core, addition: Addition, room: bool) -> Reply
-    requires { IsNextStep core.old.world addition }
-    ensures taken { IsTaken core.old.world addition (reply_of result) core.new.world }
+fn take(core: &mut Core, alloc: Global, step: Record, room: bool) -> Reply
+    requires { IsNextStep core.old.world step }
+    ensures taken { IsTaken core.old.world step (reply_of result) core.new.world }
     ensures room { IsTrue (tells_change (reply_of result)) → IsTrue room }
 {
     if !room {
         return Reply::Refused(Fault::Memory);
     }
-    let number = addition.step().number();
-    match core.make(Change::Comes(Coming::Next, addition)) {
+    let number = step.number();
+    match core.take_step(alloc, step) {
         Ok(()) => Reply::Stepped(number),
         Err(_) => Reply::Refused(Fault::Memory),
     }
@@ -56,11 +54,11 @@ fn propose_and_take(
 {
     core.stands();
     match core.prepare_step(alloc, goal, None) {
-        Ok(addition) => {
-            let effect = addition.step().effect();
+        Ok(step) => {
+            let effect = step.effect();
             let made = effect.made();
             list_woken(core, effect.binds(), woken);
-            Ok((take(core, addition, room), made))
+            Ok((take(core, alloc, step, room), made))
         }
         Err(Fault::Full) => Ok((Reply::Refused(Fault::Full), 0)),
         Err(fault) => Err(fault),

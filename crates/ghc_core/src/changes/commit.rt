@@ -8,15 +8,18 @@ ghost use Rattle.ghc_fire.specs.Proposal.{under};
 ghost use Rattle.ghc_hooks.specs.Notes.{AreLeft};
 ghost use Rattle.ghc_records.specs.Record.{Record as record_spec, record_of};
 ghost use Rattle.ghc_core.specs.World.{IsReplay, IsFull, HasRoom, IsNextStep, with_step};
+ghost use Rattle.ghc_core.specs.declared.changes.Change.TheVariants.{Comes as comes};
+ghost use Rattle.ghc_core.specs.Change.{HasRoomFor};
 ghost use Rattle.ghc_core.specs.Core.{IsCommitted, record_as, next_record, Stays};
 ghost use Rattle.ghc_depend.specs.Depend.{Binds};
 ghost use Rattle.ghc_core.specs.Proposes.{AttemptAnswers, IsProposedIn, IsFiredNext, IsCommitOf, CommitFails};
 
+use crate::changes::carrying::carry_over;
 use crate::changes::recheck::recheck;
 use crate::changes::{Change, Coming};
 use crate::core_state::Core;
 use ghc_fire::{Firing, Meter, Proposal, attempt, finish, fire_as};
-use ghc_records::{Addition, Record};
+use ghc_records::{Addition, Entry, Record};
 use ghc_term::{Fault, GoalName};
 use std::alloc::{AllocError, Global};
 use std::sync::Arc;
@@ -147,9 +150,9 @@ impl Core {
         Ok(addition_of(alloc, proposal, self.next)?)
     }
 
-    // The step that was fired as the next one, with all that it takes to take it, where a new step has room.
+    // The step that was fired as the next one, where a new step has room.
     #[inline(always)]
-    pub(crate) fn fired_as_next(&self, alloc: Global, fired: Arc<Firing>) -> Result<Addition, Fault>
+    pub(crate) fn fired_as_next(&self, fired: Arc<Firing>) -> Result<Record, Fault>
         ensures step { IfOk result (λ step. step ≡ record_of fired.value) }
         ensures room { IfOk result (λ _. HasRoom self.now.world) }
         ensures fault { IfErr result (λ f. (f ≡ Fault.Memory) ⊎ ((f ≡ Fault.Full) × IsFull self.now.world)) }
@@ -157,7 +160,7 @@ impl Core {
         if self.is_full() {
             return Err(Fault::Full);
         }
-        Ok(Addition::of(alloc, Record::of(fired))?)
+        Ok(Record::of(fired))
     }
 
     /// Finds what it takes to take the step that was proposed, as the next step, and counts a firing. `Stale` exactly where the
@@ -190,6 +193,40 @@ impl Core {
         let number = addition.step().number();
         self.make(Change::Comes(Coming::Next, addition))?;
         Ok(number)
+    }
+
+    // Takes the next step, where there is room for it. Where a handle of what it makes or binds is refused, nothing changes.
+    #[inline(always)]
+    fn add_next(&mut self, alloc: Global, step: Record) -> Result<(), AllocError>
+        requires found { IsNextStep self.old.world step }
+        requires room { HasRoomFor self.old.world self.old.room (comes Coming.Next step) }
+        ensures world { OnOk result (self.new.world ≡ with_step step self.old.world) }
+        ensures notes { OnOk result (AreLeft self.new.world.state.goals (Binds step) self.old.notes self.new.notes) }
+        ensures stays { OnErr result (Stays self.old self.new) }
+        ensures meter { self.new.meter ≡ self.old.meter }
+    {
+        let entry = Entry::Took(step.share()?);
+        self.state.take_step(alloc, &step)?;
+        carry_over(&mut self.tries, &step);
+        self.streams.tell(&step);
+        self.records.put(step);
+        self.journal.put(entry);
+        self.next += 1;
+        Ok(())
+    }
+
+    /// Takes a step that was fired as the next one, as `make` takes it, and moves less. Room in the tables is made first, and where
+    /// memory is refused nothing changes.
+    #[inline(never)]
+    pub fn take_step(&mut self, alloc: Global, step: Record) -> Result<(), AllocError>
+        requires found { IsNextStep self.old.world step }
+        ensures world { OnOk result (self.new.world ≡ with_step step self.old.world) }
+        ensures notes { OnOk result (AreLeft self.new.world.state.goals (Binds step) self.old.notes self.new.notes) }
+        ensures stays { OnErr result (Stays self.old self.new) }
+        ensures meter { self.new.meter ≡ self.old.meter }
+    {
+        self.reserve_to_add(&step)?;
+        self.add_next(alloc, step)
     }
 
     /// Takes the step that was proposed, under the next number, and gives that number: what it binds is in the store, the goals

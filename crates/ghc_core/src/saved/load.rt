@@ -138,7 +138,7 @@ impl Core {
         };
         let loaded = record.step()?;
         let addition = Addition::of(alloc, record)?;
-        self.reserve_to_add(&addition)?;
+        self.reserve_to_add(addition.step())?;
         self.add_loaded(addition, loaded)?;
         Ok(Outcome::CarriedOut)
     }

@@ -14,9 +14,9 @@ ghost use Rattle.ghc_pool.specs.Runs.{HasMetNoFailure};
 ghost use Rattle.ghc_pool.specs.inner.Meeting.{TookInQuestion, WasTried, WasTaken, IsMet, IsPassed, IsNotedReady, IsNotedWaiting, IsToMeet};
 
 use crate::runs::question::{is_in_question_since, is_spied_in};
-use ghc_core::{Change, Coming, Core};
+use ghc_core::Core;
 use ghc_hooks::Verdict;
-use ghc_records::Addition;
+use ghc_records::Record;
 use ghc_term::{Fault, GoalName};
 use ghc_trace::SpySet;
 use std::alloc::Global;
@@ -110,14 +110,14 @@ fn pass_spied(core: &mut Core, alloc: Global, goal: GoalName) -> Met
 }
 
 // Takes a step that was found; where memory is refused for it nothing changes.
-fn take(core: &mut Core, addition: Addition) -> Met
-    requires { IsNextStep core.old.world addition }
-    ensures taken { WasTaken core.old.world core.old.notes addition result core.new.world core.new.notes }
+fn take(core: &mut Core, alloc: Global, step: Record) -> Met
+    requires { IsNextStep core.old.world step }
+    ensures taken { WasTaken core.old.world core.old.notes step result core.new.world core.new.notes }
     ensures passed { (before : core_spec) (g : goal_name) → IsPassed before g result core.new }
 {
-    let (step, count) = (addition.step().number(), addition.step().effect().made());
-    match core.make(Change::Comes(Coming::Next, addition)) {
-        Ok(()) => Met::Stepped(step, count),
+    let (number, count) = (step.number(), step.effect().made());
+    match core.take_step(alloc, step) {
+        Ok(()) => Met::Stepped(number, count),
         Err(_) => Met::Stop,
     }
 }
@@ -148,7 +148,7 @@ pub fn meet(
     }
     core.stands();
     match core.prepare_step(alloc, goal, None) {
-        Ok(addition) => take(core, addition),
+        Ok(step) => take(core, alloc, step),
         Err(Fault::Waits) => pass(core, alloc, goal),
         Err(_) => Met::Stop,
     }

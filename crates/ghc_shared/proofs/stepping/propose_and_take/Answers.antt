@@ -11,20 +11,20 @@ use Rattle.ghc_shared.proofs.AtOnce.{found_is_told, full_has_goal, full_has_clau
 use Rattle.ghc_shared.proofs.stepping.propose_and_take.Goals as goal
 
 pub take-requires : goal.take-requires
-take-requires c = subst (λ w. IsNextStep w c.in-Ok.addition) (sym c.in-Ok.ensures.stays.world) c.in-Ok.ensures.answer.0.3.1
+take-requires c = subst (λ w. IsNextStep w c.in-Ok.step) (sym c.in-Ok.ensures.stays.world) c.in-Ok.ensures.answer.0.3.1
 
 pub returns-in-Ok-clause-answered : goal.returns-in-Ok-clause-answered
 returns-in-Ok-clause-answered c =
     let w = c.args.core.now.world in
     let v = c.take.new.core.world in
-    let f = found w c.args.goal c.stands.ensures.standing c.stands.ensures.orderly.acyclic c.in-Ok.addition c.in-Ok.ensures.answer.0 in
-    let taken = subst (λ u. IsTaken u c.in-Ok.addition (reply_of c.take.result) v) c.in-Ok.ensures.stays.world c.take.ensures.taken in
-    let effect = c.effect-effect.ensures ∙ ap (λ r. r.effect) c.step.ensures in
+    let f = found w c.args.goal c.stands.ensures.standing c.stands.ensures.orderly.acyclic c.in-Ok.step c.in-Ok.ensures.answer.0 in
+    let taken = subst (λ u. IsTaken u c.in-Ok.step (reply_of c.take.result) v) c.in-Ok.ensures.stays.world c.take.ensures.taken in
+    let effect = c.effect-effect.ensures in
     let binds = c.binds.ensures ∙ ap (λ e. e.binds) effect ∙ f.3 in
     let makes = c.made-made.ensures ∙ ap (λ e. length e.makes) effect ∙ f.4 in
     let wakes = subst₂ (λ u m. (g : GoalName) → In g c.list_woken.new.list.items → In g c.args.woken.now.items ⊎ LooksAmong u m g) c.in-Ok.ensures.stays.world binds c.list_woken.ensures in
     at_once w c.args.goal c.stands.ensures.standing f.0 c.take.result c.made-made.result v c.args.woken.now.items c.list_woken.new.list.items f.1 (λ t. found_is_told (c.in-Ok.ensures.no_goal t)) (λ t. found_is_told (c.in-Ok.ensures.no_clause t))
-    (taken_answer w c.args.goal f.0 c.in-Ok.addition c.take.result v f.2 taken) (λ _. makes) wakes
+    (taken_answer w c.args.goal f.0 c.in-Ok.step c.take.result v f.2 taken) (λ _. makes) wakes
 
 pub returns-in-Err-Full-clause-answered : goal.returns-in-Err-Full-clause-answered
 returns-in-Err-Full-clause-answered c =

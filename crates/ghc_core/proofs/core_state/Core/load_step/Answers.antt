@@ -1,5 +1,11 @@
-use Rattle.ghc_core.proofs.Words.{sym, subst, ◌∙◌, ap, World, IsPossibleAs, with_loaded}
+use Rattle.ghc_core.proofs.Words.{sym, subst, ◌∙◌, ap, World, IsPossibleAs, with_loaded, Comes as comes, Coming}
+use Rattle.ghc_core.specs.Change.{HasRoomFor}
 use Rattle.ghc_core.proofs.core_state.Core.load_step.Goals as goal
+
+pub add_loaded-requires-clause-room : goal.add_loaded-requires-clause-room
+add_loaded-requires-clause-room c =
+    let v = c.reserve_to_add.new.self in
+    subst (λ r. HasRoomFor v.world v.room (comes Coming.Next r)) c.step-2.ensures c.in_ok-reserve_to_add.ensures.room
 
 pub returns-clause-carried : goal.returns-clause-carried
 returns-clause-carried c _ =

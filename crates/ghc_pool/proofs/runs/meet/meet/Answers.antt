@@ -31,8 +31,8 @@ returns-in-Ok-clause-met c =
     let stays = c.prepare_step.ensures.stays in
     let asked = c.is_in_question_since.ensures.0 c.if-not-is_in_question_since.false in
     let unspied : ¬ IsSpiedIn c.args.spies.now before.world c.args.goal = λ s. not_both c.is_spied_in.result c.if-is_spied_in.false (c.is_spied_in.ensures.1 s) in
-    taken_met c.args.spies.now c.args.root before.world after.world c.args.goal before.notes after.notes before.untried c.in-Ok.addition c.take.result c.stands.ensures.standing c.stands.ensures.exact c.in-Ok.ensures.answer.0 asked unspied c.requires.unfailed
-    (subst₂ (λ (w : World) (n : NotesByGoal). WasTaken w n c.in-Ok.addition c.take.result after.world after.notes) stays.world stays.notes c.take.ensures.taken)
+    taken_met c.args.spies.now c.args.root before.world after.world c.args.goal before.notes after.notes before.untried c.in-Ok.step c.take.result c.stands.ensures.standing c.stands.ensures.exact c.in-Ok.ensures.answer.0 asked unspied c.requires.unfailed
+    (subst₂ (λ (w : World) (n : NotesByGoal). WasTaken w n c.in-Ok.step c.take.result after.world after.notes) stays.world stays.notes c.take.ensures.taken)
 
 pub returns-in-Ok-clause-passed : goal.returns-in-Ok-clause-passed
 returns-in-Ok-clause-passed c = c.take.ensures.passed c.args.core.now c.args.goal
