@@ -40,6 +40,15 @@ given_by_name rs users binders is r m a i e (inl c) = inl (inl (ap step_named c.
 given_by_name rs users binders is r m a i e (inr (inl x)) = inl (inr (x.0, x.1.0, (is.bound x.0 m).1 (a, i, e, x.1.1)))
 given_by_name rs users binders is r m a i e (inr (inr x)) = inr (x.0, x.1.0.0, (a, i, e, x.1.1))
 
+-- so there is room under each step that it uses, where room was made by that name and under what made what it names
+pub room_made : (rs : List Record) (users : UsersByStep) (binders : BindersByVariable) → IsIndexOf rs users binders → (r : Record) (maker : Option ℕ) → maker ≡ step_named r.goal → (mid new : UsersByStep)
+    → ((m n : ℕ) → Gave binders maker r.effect.reads m → CanTake mid m n) → ((m n : ℕ) → CanTake mid m n → CanTake new m n) → ((m n : ℕ) → MadeOneOf rs (variables_asked r.act) m → CanTake new m n)
+    → (a : Record) → In a rs → Uses r a → CanTake new a.number r.number
+room_made rs users binders is r maker named mid new taking kept room a i u = elim (subst (λ o. Gives rs binders o r a.number) (sym named) (given_by_name rs users binders is r a.number a i refl u)) [
+  | inl g ↦ kept a.number r.number (taking a.number r.number g)
+  | inr g ↦ room a.number r.number g
+]
+
 -- what gave something to a step that is put after the others is what the step uses
 module _ (rs : List Record) (users : UsersByStep) (binders : BindersByVariable) (is : IsIndexOf rs users binders) (r : Record) (maker : Option ℕ)
     (made : (m : ℕ) → (maker ≡ Some m) ↔ IsMakerFor rs r m) where
@@ -163,10 +172,6 @@ module _ (rs left : List Record) (users : UsersByStep) (binders : BindersByVaria
 
   pub index_taken : IsIndexOf left users' binders'
   index_taken = record { used = used_taken; bound = bound_taken }
-
--- two steps that bound one variable are one step, by its number
-pub bound_once : {rs : List Record} {users : UsersByStep} {binders : BindersByVariable} → IsIndexOf rs users binders → (a b : Record) (x : VarName) → In a rs → In b rs → Binds a x → Binds b x → a.number ≡ b.number
-bound_once is a b x i j p q = one_value _ _ (sym ((is.bound x a.number).1 (a, i, refl, p)) ∙ (is.bound x b.number).1 (b, j, refl, q))
 
 -- no steps
 pub index_none : (users : UsersByStep) (binders : BindersByVariable) → users ≡ finite.empty → binders ≡ finite.empty → IsIndexOf [] users binders

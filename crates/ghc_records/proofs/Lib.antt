@@ -24,6 +24,7 @@ pub mod IndexOf
 pub mod SlotLemmas
 pub mod SlotPlaces
 pub mod SlotClosing
+pub mod SlotFronts
 pub mod StrayPlaces
 pub mod SlotStrays
 pub mod SlotRanks

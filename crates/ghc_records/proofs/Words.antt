@@ -51,10 +51,10 @@ pub use Rattle.ghc_records.specs.Predicates.{GoTogether, SaysPredicate, predicat
 pub use Rattle.ghc_records.specs.Record.{Fires, HasStepEffect, IsThere, Record, State, after, numbers, with_makes, without_goal}
 pub use Rattle.ghc_records.specs.Replay.{IsVariableOf, MakesVariable, Runs, query_state}
 pub use Rattle.ghc_records.specs.Sections.{IsFirstWrongOf, TellsItems, TellsNoMoreItems, TellsSection, no_count, no_item}
-pub use Rattle.ghc_records.specs.inner.Slots.{AreOnceIn, AreStraysOf, HasNumberIn, HasStrayIn, IsChangedAt, PlacesByNumber, SlotList, StandsIn, held_in, places_of, room_beside}
+pub use Rattle.ghc_records.specs.inner.Slots.{AreOnceIn, AreStraysOf, HasNumberIn, HasStrayIn, IsChangedAt, PlacesByNumber, SlotList, StandsIn, held_before, held_in, places_of, room_beside}
 pub use Rattle.ghc_records.specs.State.{GoalsTakenBack, StateTables, with_goal, without_makes}
 pub use Rattle.ghc_records.specs.StepText.{act_text, binding_text, bindings_text, body_text, by_name, consumed_text, followed_by, goal_name_text, listed, makes_text, names_given, step_text, variables_text}
-pub use Rattle.ghc_records.specs.UseIndex.{AreAllEmpty, BindersByVariable, BoundOneOf, CanTake, Gave, HasGrown, HasRoomToKeep, Index, IsIndexOf, IsMakerFor, IsMakerOf, IsUser, MadeOneOf, RecordsTables, StepBinds, StepDependsOn, UsersByStep, numbered, numbers_in, room_in, step_named, users_at, users_in}
+pub use Rattle.ghc_records.specs.UseIndex.{AreAllEmpty, BindersByVariable, BoundOnce, BoundOneOf, CanTake, Gave, HasGrown, Index, IsIndexOf, IsMakerFor, IsMakerOf, IsUser, MadeOneOf, RecordsTables, StepBinds, StepDependsOn, UsersByStep, numbered, numbers_in, room_in, step_named, users_at, users_in}
 pub use Rattle.ghc_records.specs.Uses.{Binds, Consumes, MakesGoal, Uses}
 pub use Rattle.ghc_records.specs.inner.WrittenEntryCode.{said_by}
 pub use Rattle.ghc_records.specs.declared.predicate.Predicate.{Predicate}

@@ -1,5 +1,5 @@
 -- The index of a record: which steps used what a step gave, and which step bound a variable.
-use Rattle.std.specs.Prelude.{◌≡◌, ◌⊎◌, ◌↔◌, ◌<◌, ◌≤◌, ◌+◌, ℕ, List, [], ◌∷◌, ◌++◌, Option, Some, None, IsTrue}
+use Rattle.std.specs.Prelude.{◌≡◌, ◌⊎◌, ◌↔◌, ◌<◌, ◌+◌, ℕ, List, [], ◌∷◌, ◌++◌, Option, Some, None, IsTrue}
 use Rattle.std.specs.Ordering.{nat_cmp}
 use Rattle.std.specs.FinMap as finite
 use Rattle.std.specs.FinSet as set
@@ -11,7 +11,7 @@ use Rattle.ghc_term.specs.Sets.{Variables}
 use Rattle.ghc_term.specs.Table.{Table}
 use Rattle.ghc_records.specs.Record.{Record}
 use Rattle.ghc_records.specs.inner.Slots.{SlotList}
-use Rattle.ghc_records.specs.Uses.{Binds, Consumes, MakesVariable, Uses, DependsOn}
+use Rattle.ghc_records.specs.Uses.{Binds, Consumes, MakesVariable, DependsOn}
 
 -- The numbers of steps by the number of the step that they used, each with the room for more.
 abbrev pub UsersByStep : Type 0
@@ -103,21 +103,17 @@ pub record IsIndexOf (rs : List Record) (users : UsersByStep) (binders : Binders
   pub used : (m n : ℕ) → IsUser users m n ↔ StepDependsOn rs n m
   pub bound : (x : VarName) (n : ℕ) → (finite.get binders x ≡ Some n) ↔ StepBinds rs n x
 
--- How many more records and bindings a record takes without memory, and how many more users each of its steps takes.
-pub record RecordsRoom : Type 0 where
-  pub records : ℕ
-  pub binders : ℕ
-  pub users : UsersByStep
-
--- A record in recorded order, the slots in which its steps stand, and its room.
+-- A record in recorded order, the slots in which its steps stand, how many of these, from the first on, its index has, and how many
+-- more steps it takes without memory.
 pub record RecordsTables : Type 0 where
   pub held : List Record
   pub slots : SlotList
-  pub room : RecordsRoom
+  pub indexed : ℕ
+  pub room : ℕ
 
--- There is room for the step after the others: its record, what it binds, and its number under each step that it used.
-abbrev pub HasRoomToKeep : List Record → RecordsRoom → Record → Type 0
-HasRoomToKeep rs room r = (0 < room.records) × (finite.len r.effect.binds ≤ room.binders) × ((a : Record) → In a rs → Uses r a → CanTake room.users a.number r.number)
+-- No two steps of the record bound one variable.
+abbrev pub BoundOnce : List Record → Type 0
+BoundOnce rs = (a b : Record) (x : VarName) → In a rs → In b rs → Binds a x → Binds b x → a.number ≡ b.number
 
 -- The step numbered m of the record made the goal that r consumed.
 abbrev pub IsMakerFor : List Record → Record → ℕ → Type 0

@@ -1,38 +1,42 @@
 // The records of the kept steps, in recorded order.
-ghost use Rattle.std.specs.Prelude.{◌≡◌, ◌≢◌, ◌↔◌, ℕ, length, [], ◌∷◌, ◌++◌, IfSome, IfNone, IfOk, OnOk, Some};
+ghost use Rattle.std.specs.Prelude.{◌≡◌, ◌≢◌, ◌↔◌, ◌+◌, ◌<◌, ◌≤◌, ℕ, length, [], ◌∷◌, ◌++◌, IfSome, IfNone, IfOk, OnOk, IsTrue, Some};
 ghost use Rattle.ghc_term.specs.declared.var_name.VarName.{VarName};
 ghost use Rattle.ghc_records.specs.Uses.{Binds};
-ghost use Rattle.ghc_records.specs.UseIndex.{StepDependsOn, StepBinds, HasRoomToKeep, IsMakerFor};
+ghost use Rattle.ghc_records.specs.UseIndex.{StepDependsOn, StepBinds};
 
 use crate::record::Record;
 use crate::table::slots::Slots;
-use crate::table::use_index::{UseIndex, step_of_name};
+use crate::table::use_index::UseIndex;
 use ghc_term::VarName;
 use std::alloc::{AllocError, Global};
 use std::marker::Model;
 
-/// Records in recorded order, no two of one number, each found by its number, with the steps that depend directly on each, and
-/// the step that bound each variable. A place is that of a slot: of two records that one stands before the other whose place is
+/// Records in recorded order, no two of one number, each found by its number, with an index of the steps that depend directly on each,
+/// and of the step that bound each variable. A step that is put is not in the index until this is made whole, by whoever asks: so runs
+/// do not pay for questions that nobody asks. A place is that of a slot: of two records that one stands before the other whose place is
 /// less. Places are compared, never counted: a record that is taken out leaves a gap, which may be closed up at a later removal. A
 /// look-up by number is one step where numbers run with the places, else the logarithm of how many do not, whatever they are.
 #[derive(Drop)]
 pub struct Records {
     slots: Slots,
     index: UseIndex,
+    // how many slots, from the first on, the index has
+    indexed: usize,
 }
 
 impl Model for Records {
-    ghost use Rattle.ghc_records.specs.inner.Slots.{held_in};
-    ghost use Rattle.ghc_records.specs.UseIndex.{RecordsTables, IsIndexOf};
+    ghost use Rattle.std.specs.Prelude.{◌≤◌, length};
+    ghost use Rattle.ghc_records.specs.inner.Slots.{held_in, held_before};
+    ghost use Rattle.ghc_records.specs.UseIndex.{RecordsTables, IsIndexOf, BoundOnce};
     ghost use Rattle.ghc_records.specs.inner.RecordCode.{records_tables_code};
 
     ghost Value = { RecordsTables };
 
     ghost coded = { records_tables_code };
 
-    ghost view = { λ r. record { held = held_in r.slots.held; slots = r.slots.held; room = record { records = r.slots.room; binders = r.index.binders.room; users = r.index.users } } };
+    ghost view = { λ r. record { held = held_in r.slots.held; slots = r.slots.held; indexed = r.indexed; room = r.slots.room } };
 
-    ghost invariant = { λ r. IsIndexOf (held_in r.slots.held) r.index.users r.index.binders.held };
+    ghost invariant = { λ r. (r.indexed ≤ length r.slots.held) × IsIndexOf (held_before r.indexed r.slots.held) r.index.users r.index.binders.held × BoundOnce (held_in r.slots.held) };
 }
 
 impl Records {
@@ -49,6 +53,7 @@ impl Records {
         Records {
             slots: Slots::new(alloc),
             index: UseIndex::new(alloc),
+            indexed: 0,
         }
     }
 
@@ -93,7 +98,7 @@ impl Records {
     }
 
     /// The records of these numbers in this order, shared with these. It fails only where memory is refused. It goes once over
-    /// the order, with some look-ups for each number, and for each variable that its step read or bound.
+    /// the order, with some look-ups for each number.
     pub fn in_order(&self, alloc: Global, order: &[u32]) -> Result<Records, AllocError>
         requires kept { (n : ℕ) → In n order.now → In n (numbers self.now.held) }
         requires distinct { AreDistinct order.now }
@@ -104,78 +109,99 @@ impl Records {
         let mut new = Records::new(alloc);
         for number in order {
             let step = self.get(*number).unwrap().share()?;
-            new.reserve_for(&step)?;
+            new.reserve()?;
             new.put(step);
         }
         Ok(new)
     }
 
-    /// The numbers of the steps that depend directly on the step of this number, in no order that is promised: one look-up.
-    pub fn users_of(&self, number: u32) -> &[u32]
-        ensures { (n : ℕ) → In n result.now ↔ StepDependsOn self.now.held n number }
+    // Whether the index has all slots: one test.
+    fn is_whole(&self) -> bool
+        ensures whole { IsTrue result ↔ (self.now.indexed ≡ length self.now.slots) }
+        ensures within { self.now.indexed ≤ length self.now.slots }
     {
-        self.index.users_of(number)
+        self.indexed == self.slots.slot_count()
     }
 
-    /// The number of the step that bound the variable, if one did: one look-up.
+    // Puts the next slot in the index, which does not have it: some look-ups for each variable that its step read, bound or names.
+    fn index_next(&mut self) -> Result<(), AllocError>
+        requires { self.old.indexed < length self.old.slots }
+        ensures held { self.new.held ≡ self.old.held }
+        ensures slots { self.new.slots ≡ self.old.slots }
+        ensures room { self.new.room ≡ self.old.room }
+        ensures indexed { OnOk result (self.new.indexed ≡ self.old.indexed + 1) }
+    {
+        let place = self.indexed;
+        let _slots = self.slots.slot_count();
+        let Some(step) = self.slots.at(place) else {
+            self.indexed = place + 1;
+            return Ok(());
+        };
+        self.index.add(&self.slots, place, step)?;
+        self.indexed = place + 1;
+        Ok(())
+    }
+
+    /// Makes the index whole, so that each question about users and binders is a look-up. The records stay, and so does what was indexed
+    /// where memory is refused. It costs some look-ups for each variable that a step read, bound or names which was put since.
+    pub fn index_all(&mut self) -> Result<(), AllocError>
+        ensures held { self.new.held ≡ self.old.held }
+        ensures slots { self.new.slots ≡ self.old.slots }
+        ensures room { self.new.room ≡ self.old.room }
+        ensures whole { OnOk result (self.new.indexed ≡ length self.new.slots) }
+    {
+        for _ in self.indexed..self.slots.slot_count() {
+            self.index_next()?;
+        }
+        Ok(())
+    }
+
+    /// The numbers of the steps that depend directly on the step of this number, in no order that is promised: one look-up. None where
+    /// the index is not whole.
+    pub fn users_of(&self, number: u32) -> Option<&[u32]>
+        ensures users { IfSome result (λ users. (n : ℕ) → In n users.now ↔ StepDependsOn self.now.held n number) }
+        ensures none { IfNone result (self.now.indexed < length self.now.slots) }
+    {
+        if !self.is_whole() {
+            return None;
+        }
+        Some(self.index.users_of(number))
+    }
+
+    /// The number of the step that bound the variable, if one did: one look-up, and one for each step that the index does not have.
     pub fn binder_of(&self, x: VarName) -> Option<u32>
         ensures { (n : ℕ) → (result ≡ Some n) ↔ StepBinds self.now.held n x }
     {
-        self.index.binder_of(x)
-    }
-
-    // The number of the step that made the goal that the step consumed, if it consumed one that a step of the record made: one
-    // look-up.
-    #[inline(always)]
-    fn maker_for(&self, step: &Record) -> Option<u32>
-        ensures { (m : ℕ) → (result ≡ Some m) ↔ IsMakerFor self.now.held step.now m }
-    {
-        let _count = self.len();
-        let Some(name) = step.goal() else {
-            return None;
-        };
-        let Some(maker) = self.get(name.step) else {
-            return None;
-        };
-        if name.place == 0 || name.place > maker.effect().made() {
-            return None;
+        match self.index.binder_of(x) {
+            Some(binder) => Some(binder),
+            None => self.slots.binder_from(self.indexed, x),
         }
-        Some(name.step)
     }
 
-    /// Makes room to put this step, at the cost of some look-ups for each variable that it read. The records stay, and so does
-    /// the room for any step, where memory is refused too.
+    /// Makes room to put one more step. The records stay, and so does the room where memory is refused.
     #[inline(always)]
-    pub fn reserve_for(&mut self, step: &Record) -> Result<(), AllocError>
+    pub fn reserve(&mut self) -> Result<(), AllocError>
         ensures held { self.new.held ≡ self.old.held }
-        ensures room { OnOk result (HasRoomToKeep self.new.held self.new.room step.now) }
-        ensures kept { (r : Record) → HasRoomToKeep self.old.held self.old.room r → HasRoomToKeep self.new.held self.new.room r }
+        ensures room { OnOk result (0 < self.new.room) }
+        ensures kept { self.old.room ≤ self.new.room }
     {
-        // Room under the step that the goal's name names is enough, whether that step made the goal or not.
-        let named = step_of_name(step.goal());
-        let slots = self.slots.slot_count();
-        self.index.reserve(named, step, slots)?;
-        self.index.reserve_named(&self.slots, step)?;
         self.slots.reserve()
     }
 
-    /// Puts a step at the end, whose number no other has, and which binds no variable that another bound, where there is room:
-    /// some look-ups for each variable that it read, and one for each that it bound.
+    /// Puts a step at the end, whose number no other has, and which binds no variable that another bound, where there is room: one step.
     #[inline(always)]
     pub fn put(&mut self, step: Record)
-        requires room { HasRoomToKeep self.old.held self.old.room step }
+        requires room { 0 < self.old.room }
         requires new { (r : Record) → In r self.old.held → r.number ≢ step.number }
         requires unbound { (r : Record) (x : VarName) → In r self.old.held → Binds r x → ¬ Binds step x }
         ensures { self.new.held ≡ self.old.held ++ step ∷ [] }
     {
-        let maker = self.maker_for(&step);
-        self.index.put(maker, &step);
-        self.index.put_named(&self.slots, &step);
         self.slots.put(step);
     }
 
-    /// Takes the record of the step of this number away and gives it, if there was one; the others keep their order. It costs some
-    /// look-ups, and some for each variable that the step read or bound. The records after it stay where they are.
+    /// Takes the record of the step of this number away and gives it, if there was one; the others keep their order. Where the index is
+    /// whole, it costs some look-ups, and some for each variable that the step read, bound or names; else the index is empty then. The
+    /// records after it stay where they are.
     pub fn remove(&mut self, number: u32) -> Option<Record>
         ensures found { IfSome result (λ r. In r self.old.held × (r.number ≡ number)) }
         ensures rest { (r : Record) → In r self.old.held → r.number ≡ number → Picks (λ s. ¬ (s ≡ r)) self.old.held self.new.held }
@@ -183,11 +209,16 @@ impl Records {
         ensures none_left { IfNone result (self.new.held ≡ self.old.held) }
     {
         let _count = self.len();
-        let Some(removed) = self.slots.remove(number) else {
-            return None;
-        };
-        self.index.remove(&removed);
-        self.index.take_named(&self.slots, &removed);
+        let was_whole = self.is_whole();
+        self.slots.place_of(number)?;
+        let removed = self.slots.remove(number)?;
+        if was_whole {
+            self.indexed = self.slots.slot_count();
+            self.index.remove(&self.slots, &removed);
+        } else {
+            self.indexed = 0;
+            self.index.clear();
+        }
         Some(removed)
     }
 }

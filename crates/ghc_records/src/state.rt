@@ -3,7 +3,7 @@ ghost use Rattle.std.specs.Prelude.{◌≡◌, ◌+◌, ◌<◌, ◌≤◌, leng
 ghost use Rattle.ghc_flat.specs.Flat.{most_goals};
 
 use crate::addition::Addition;
-use crate::binding::unbind_all;
+use crate::binding::{bind_all, unbind_all};
 use crate::entry::Entry;
 use crate::handles::{Handles, handles_of};
 use crate::making::{consume_goal, make_goals, restore_consumed, unmake_goals};
@@ -122,7 +122,7 @@ impl State {
     {
         consume_goal(&mut self.goals, step.goal());
         make_goals(&mut self.goals, step.number(), makes, step.effect().made());
-        self.store.put(binds);
+        bind_all(&mut self.store, binds);
     }
 
     /// Takes a step, where there is room for it and the store stays acyclic: the goal that it consumes is gone, the goals that

@@ -19,7 +19,7 @@ use Rattle.ghc_fire.specs.Effect.{Effect}
 use Rattle.ghc_fire.specs.inner.EffectCode.{effect_code}
 use Rattle.ghc_records.specs.Record.{State, Record, Shelf}
 use Rattle.ghc_records.specs.State.{StateRoom, StateTables}
-use Rattle.ghc_records.specs.UseIndex.{UsersByStep, BindersByVariable, Index, RecordsRoom, RecordsTables}
+use Rattle.ghc_records.specs.UseIndex.{UsersByStep, BindersByVariable, Index, RecordsTables}
 use Rattle.ghc_records.specs.inner.Slots.{SlotList, PlacesByNumber}
 use Rattle.ghc_records.specs.Journal.{Step, Entry, took, undid, rolled, redid, reordered, Opening}
 
@@ -72,17 +72,12 @@ binders_code = finite.code name_code coded_ℕ
 abbrev pub index_code : Coded Index
 index_code = code_by (UsersByStep × Table BindersByVariable) (coded× users_code (table_code binders_code)) (λ i. (i.users, i.binders)) (λ p. record { users = p.0; binders = p.1 }) (λ _. refl)
 
--- the code of how many more steps, bindings and users a record takes, which no other such room has
-abbrev pub records_room_code : Coded RecordsRoom
-records_room_code =
-    code_by (ℕ × (ℕ × UsersByStep)) (coded× coded_ℕ (coded× coded_ℕ users_code)) (λ r. (r.records, (r.binders, r.users)))
-    (λ p. record { records = p.0; binders = p.1.0; users = p.1.1 }) (λ _. refl)
-
--- the code of the tables of a record, its steps, their slots and its room, which no other such tables have
+-- the code of the tables of a record, its steps, their slots, how many of these its index has, and its room, which no other such
+-- tables have
 abbrev pub records_tables_code : Coded RecordsTables
 records_tables_code =
-    code_by (List Record × (SlotList × RecordsRoom)) (coded× records_code (coded× slots_code records_room_code)) (λ t. (t.held, (t.slots, t.room)))
-    (λ p. record { held = p.0; slots = p.1.0; room = p.1.1 }) (λ _. refl)
+    code_by (List Record × (SlotList × (ℕ × ℕ))) (coded× records_code (coded× slots_code (coded× coded_ℕ coded_ℕ))) (λ t. (t.held, (t.slots, (t.indexed, t.room))))
+    (λ p. record { held = p.0; slots = p.1.0; indexed = p.1.1.0; room = p.1.1.1 }) (λ _. refl)
 
 -- the code of a shelf, its records by number, which no other shelf has
 abbrev pub shelf_code : Coded Shelf

@@ -1,5 +1,5 @@
 -- Records in slots, in recorded order, with a gap in each slot whose record was taken out.
-use Rattle.std.specs.Prelude.{◌≡◌, ◌≢◌, ◌↔◌, ◌+◌, ℕ, List, [], ◌∷◌, Option, Some, None, slice_get}
+use Rattle.std.specs.Prelude.{◌≡◌, ◌≢◌, ◌↔◌, ◌+◌, ℕ, List, [], ◌∷◌, take, Option, Some, None, slice_get}
 use Rattle.std.specs.Ordering.{nat_cmp}
 use Rattle.std.specs.FinMap as finite
 use Rattle.ghc_records.specs.Record.{Record}
@@ -13,6 +13,10 @@ abbrev pub held_in : SlotList → List Record
 held_in [] = []
 held_in (None ∷ slots) = held_in slots
 held_in (Some r ∷ slots) = r ∷ held_in slots
+
+-- the records in the slots before this place, gaps left out
+abbrev pub held_before : ℕ → SlotList → List Record
+held_before place slots = held_in (take place slots)
 
 -- The slot of this place has the record. Places are compared, never counted.
 abbrev pub StandsIn : SlotList → ℕ → Record → Type 0

@@ -4,10 +4,14 @@ ghost use Rattle.ghc_term.specs.Lists.{In};
 ghost use Rattle.std.specs.Option.{option_copied};
 ghost use Rattle.ghc_records.specs.Orders.{AreDistinct};
 ghost use Rattle.ghc_records.specs.Record.{Record as record_spec, numbers};
-ghost use Rattle.ghc_records.specs.inner.Slots.{held_in, StandsIn, HasNumberIn, AreStraysOf};
+ghost use Rattle.ghc_term.specs.declared.var_name.VarName.{VarName as var_name};
+ghost use Rattle.ghc_records.specs.Uses.{Binds};
+ghost use Rattle.ghc_records.specs.UseIndex.{StepBinds};
+ghost use Rattle.ghc_records.specs.inner.Slots.{held_in, held_before, StandsIn, HasNumberIn, AreStraysOf};
 
 use crate::record::Record;
 use crate::table::strays::Strays;
+use ghc_term::VarName;
 use std::alloc::{AllocError, Global};
 use std::marker::Model;
 use std::mem;
@@ -46,6 +50,18 @@ fn record_in(slots: &[Option<Record>], place: usize) -> Option<&Record>
 {
     match slots.get(place) {
         Some(slot) => slot.as_ref(),
+        None => None,
+    }
+}
+
+// The number of the step in the slot of this place, if it has one that bound the variable: one look-up.
+fn binder_in(slots: &[Option<Record>], place: usize, x: VarName) -> Option<u32>
+    ensures some { IfSome result (λ n. (r : record_spec) × StandsIn slots.now place r × Binds r x × (r.number ≡ n)) }
+    ensures none { IfNone result ((r : record_spec) → StandsIn slots.now place r → ¬ Binds r x) }
+{
+    let record = record_in(slots, place)?;
+    match record.effect().binds().get(x) {
+        Some(_) => Some(record.number()),
         None => None,
     }
 }
@@ -168,6 +184,31 @@ impl Slots {
             return self.at(place);
         }
         self.find(number)
+    }
+
+    // The record of the step of this number, if it stands before this place: one look-up.
+    pub(crate) fn get_before(&self, before: usize, number: u32) -> Option<&Record>
+        ensures found { IfSome result (λ r. In r.now (held_before before self.now.held) × (r.now.number ≡ number)) }
+        ensures none { IfNone result ((r : Record) → In r (held_before before self.now.held) → r.number ≢ number) }
+    {
+        let _count = self.len();
+        match self.place_of(number) {
+            Some(place) => { if place < before { self.at(place) } else { None } }
+            None => None,
+        }
+    }
+
+    // The number of the step that bound the variable, if one from this place on did: it goes once over these, up to that step.
+    pub(crate) fn binder_from(&self, first: usize, x: VarName) -> Option<u32>
+        ensures some { IfSome result (λ n. StepBinds (held_in self.now.held) n x) }
+        ensures none { IfNone result ((p : ℕ) (r : Record) → first ≤ p → StandsIn self.now.held p r → ¬ Binds r x) }
+    {
+        for place in first..self.slots.len() {
+            if let Some(binder) = binder_in(self.slots.as_slice(), place, x) {
+                return Some(binder);
+            }
+        }
+        None
     }
 
     // Makes room for one more record where it is not known to be there.

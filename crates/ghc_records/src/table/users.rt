@@ -60,6 +60,11 @@ impl Users {
         }
     }
 
+    // The allocator.
+    pub(crate) fn allocator(&self) -> Global {
+        *self.near.allocator()
+    }
+
     // The numbers under the step of this number: one step, or a search in the tree.
     pub(crate) fn at(&self, step: u32) -> &[u32]
         ensures { result.now ≡ users_at self.now step }

@@ -1,6 +1,5 @@
 use Rattle.ghc_records.proofs.Words.{◌≡◌, ◌≢◌, ℕ, List, ◌∷◌, ◌++◌, [], get_or, sym, ap, ◌∙◌, subst, Option, Some, None, IfSome, IfNone, IsSome, true, Bor, In, in_get, at_some, Record, numbers}
 use Rattle.ghc_records.proofs.OrderLemmas.{number_of}
-use Rattle.ghc_records.proofs.IndexOf.{bound_once}
 use Rattle.ghc_records.proofs.InOrder.{one_more, is_new, still_of}
 use Rattle.ghc_records.proofs.records.Records.in_order.Goals as goal
 
@@ -23,7 +22,7 @@ put-requires-clause-new c r j =
     let order = c.args.order.now in
     let i = c.loop-number.number-index in
     let mine = shared c.get.result c.unwrap.result c.args.self.now.held (get_or order i 0) c.in_ok-step.step c.unwrap.ensures c.get.ensures.found c.in_ok-step.ensures in
-    is_new order i c.loop-number.new.held c.in_ok-step.step c.loop-number-test.true c.loop-number.invariant.numbered mine.1 c.requires.distinct r (subst (In r) c.reserve_for.ensures.held j)
+    is_new order i c.loop-number.new.held c.in_ok-step.step c.loop-number-test.true c.loop-number.invariant.numbered mine.1 c.requires.distinct r (subst (In r) c.reserve.ensures.held j)
 
 pub put-requires-clause-unbound : goal.put-requires-clause-unbound
 put-requires-clause-unbound c r x j p q =
@@ -31,8 +30,8 @@ put-requires-clause-unbound c r x j p q =
     let i = c.loop-number.number-index in
     let step = c.in_ok-step.step in
     let mine = shared c.get.result c.unwrap.result c.args.self.now.held (get_or order i 0) step c.unwrap.ensures c.get.ensures.found c.in_ok-step.ensures in
-    let before = subst (In r) c.reserve_for.ensures.held j in
-    let one = bound_once c.self.invariant r step x (rw (← c.self.view_is) at (c.loop-number.invariant.kept r before)) (rw (← c.self.view_is) at mine.0) p q in
+    let before = subst (In r) c.reserve.ensures.held j in
+    let one = c.self.invariant.2 r step x (rw (← c.self.view_is) at (c.loop-number.invariant.kept r before)) (rw (← c.self.view_is) at mine.0) p q in
     is_new order i c.loop-number.new.held step c.loop-number-test.true c.loop-number.invariant.numbered mine.1 c.requires.distinct r before one
 
 pub loop-number-preserved : goal.loop-number-preserved
@@ -42,7 +41,7 @@ loop-number-preserved c =
     let rs = c.loop-number.new.held in
     let r = c.in_ok-step.step in
     let mine = shared c.get.result c.unwrap.result c.args.self.now.held (get_or order i 0) r c.unwrap.ensures c.get.ensures.found c.in_ok-step.ensures in
-    let now = c.put.ensures ∙ ap (λ l. l ++ r ∷ []) c.reserve_for.ensures.held in
+    let now = c.put.ensures ∙ ap (λ l. l ++ r ∷ []) c.reserve.ensures.held in
     record {
       numbered = ap numbers now ∙ one_more order i rs r c.loop-number-test.true c.loop-number.invariant.numbered mine.1;
       kept = subst (λ l. (s : Record) → In s l → In s c.args.self.now.held) (sym now) (still_of c.args.self.now.held rs r c.loop-number.invariant.kept mine.0);
