@@ -1,5 +1,5 @@
 -- From a step one goes to its users and to theirs, always to the first that is ahead: so its consequences come in recorded order.
-use Rattle.ghc_depend.proofs.Words.{◌≡◌, ℕ, zero, suc, ◌+◌, ◌-◌, ◌<◌, ◌≤◌, ◌⊎◌, List, [], ◌∷◌, ◌++◌, length, map, take, refl, sym, ap, ◌∙◌, subst, inl, inr, arith, ◌↔◌, Some, All, slice_get, Ordering, Less, Equal, Greater, nat_cmp, match_ordering, MatchOrdering, ranks, insert_key, IsLtBy, All-contains, cases_lt, take_all, length-map, In, in_contains, in_left, in_more, in_last, in_at, Picks, nothing, leave, AreDistinct, Record, numbers, SlotList, held_in, StandsIn, StepDependsOn, stands_held, once_of, rank, rank_stands, rank_back, rank_less, of_map, map_of, is_before, before_in, record_once, numbers_append, picks_in, picks_has, pick_last, leave_last, DependsOn, Follows, directly, further, IsPlaceOfUser, slice_get_within, slice_get_cases, length-take}
+use Rattle.ghc_depend.proofs.Words.{◌≡◌, ℕ, zero, suc, ◌+◌, ◌-◌, ◌<◌, ◌≤◌, ◌⊎◌, List, [], ◌∷◌, ◌++◌, length, map, take, refl, sym, ap, ◌∙◌, subst, inl, inr, arith, ◌↔◌, Some, All, slice_get, Ordering, Less, Equal, Greater, nat_cmp, match_ordering, MatchOrdering, ranks, insert_key, IsLtBy, All-contains, cases_lt, take_all, length-map, In, in_contains, in_left, in_more, in_last, in_at, Picks, nothing, leave, AreDistinct, Record, numbers, SlotList, held_in, StandsIn, StepDependsOn, stands_held, once_of, rank, rank_stands, rank_back, rank_less, of_map, map_of, is_before, before_in, record_once, numbers_append, picks_in, picks_has, pick_last, leave_last, DependsOn, Follows, directly, further, IsPlaceOfUser, HasPlacesOf, slice_get_within, slice_get_cases, length-take}
 use Rattle.ghc_records.specs.Orders.{take as taken}
 use Rattle.ghc_depend.proofs.Finding.{same_value}
 use Rattle.ghc_depend.proofs.Following.{follows_in}
@@ -20,10 +20,6 @@ in_inserted (x ∷ xs) k p = by_order (nat_cmp k x) (ranks k x) (insert_key nat_
 pub all_behind : (place : ℕ) (rest : List ℕ) → All (IsLtBy nat_cmp place) rest → (p : ℕ) → In p rest → place < p
 all_behind place rest all p i =
     subst (λ o. MatchOrdering o (place < p) (place ≡ p) (p < place)) (All-contains (IsLtBy nat_cmp place) rest p all (in_contains rest p i)) (ranks place p)
-
--- the places of the records of these numbers were put to the old ones
-abbrev pub HasPlacesOf : SlotList → List ℕ → List ℕ → List ℕ → Type 0
-HasPlacesOf ss ns old new = (p : ℕ) → In p new ↔ (In p old ⊎ ((b : Record) × StandsIn ss p b × In b.number ns))
 
 module _ (ss : SlotList) (ns : List ℕ) (n : ℕ) (old ks : List ℕ) (has : HasPlacesOf ss ns old ks) where
   pub places_still : ((r : Record) → In r (held_in ss) → ¬ (r.number ≡ n)) → HasPlacesOf ss (ns ++ n ∷ []) old ks

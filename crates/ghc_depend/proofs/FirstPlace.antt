@@ -1,18 +1,18 @@
 -- The first place where one of some records stands, and the first consequence of a step.
-use Rattle.ghc_depend.proofs.Words.{◌≡◌, ℕ, ◌<◌, ◌≤◌, ◌⊎◌, List, [], ◌∷◌, ◌++◌, length, refl, sym, ap, ◌∙◌, subst, inl, inr, arith, ◌↔◌, Option, Some, None, IfSome, slice_get, option_map, In, in_at, in_more, in_left, in_last, Precedes, AreDistinct, Record, numbers, SlotList, held_in, StandsIn, StepDependsOn, stands_held, once_of, rank, rank_stands, rank_back, rank_least, is_before, before_in, record_once, Uses, Follows, IsKeptAs, IsFirstConsequence, IsFirstAmong}
+use Rattle.ghc_depend.proofs.Words.{◌≡◌, ℕ, ◌<◌, ◌≤◌, ◌⊎◌, List, [], ◌∷◌, ◌++◌, length, refl, sym, ap, ◌∙◌, subst, inl, inr, arith, Option, Some, None, IfSome, slice_get, option_map, In, in_at, in_more, in_left, in_last, Precedes, AreDistinct, Record, numbers, SlotList, held_in, StandsIn, StepDependsOn, stands_held, once_of, rank, rank_stands, rank_back, rank_least, is_before, before_in, record_once, Uses, Follows, IsKeptAs, IsFirstConsequence, IsFirstAmong, IsFirstWhere}
 use Rattle.ghc_depend.proofs.Finding.{same_value}
 use Rattle.ghc_depend.proofs.Causes.{NoneBetween, place_at, stands_before, place_before}
 use Rattle.ghc_depend.proofs.Nearest.{is_first, none_of_it}
 
--- the first place in the record where one of these numbers stands
-abbrev pub IsFirstOf : List Record → List ℕ → Option ℕ → Type 0
-IsFirstOf rs ns None = (r : Record) → In r rs → ¬ In r.number ns
-IsFirstOf rs ns (Some p) = ((b : Record) × (slice_get rs p ≡ Some b) × In b.number ns) × ((c : Record) (q : ℕ) → slice_get rs q ≡ Some c → In c.number ns → p ≤ q)
+-- the first place in the record where a record stands of whose number P holds
+abbrev pub IsFirstOf : List Record → (ℕ → Type 0) → Option ℕ → Type 0
+IsFirstOf rs P None = (r : Record) → In r rs → ¬ P r.number
+IsFirstOf rs P (Some p) = ((b : Record) × (slice_get rs p ≡ Some b) × P b.number) × ((c : Record) (q : ℕ) → slice_get rs q ≡ Some c → P c.number → p ≤ q)
 
 -- the first slot has the first rank
-pub first_ranked : (ss : SlotList) (ns : List ℕ) (first : Option ℕ) → IsFirstAmong ss ns first → IsFirstOf (held_in ss) ns (option_map (rank ss) first)
-first_ranked ss ns None h = h
-first_ranked ss ns (Some p) h = (
+pub first_ranked : (ss : SlotList) (P : ℕ → Type 0) (first : Option ℕ) → IsFirstWhere ss P first → IsFirstOf (held_in ss) P (option_map (rank ss) first)
+first_ranked ss P None h = h
+first_ranked ss P (Some p) h = (
   (h.0.0, rank_stands ss p h.0.0 h.0.1, h.0.2),
   λ c q at j.
       let w = rank_back ss q c at in
@@ -50,14 +50,14 @@ module _ (ss : SlotList) (distinct : AreDistinct (numbers (held_in ss))) (ns : L
       below (Some p) h least c q there k = let l = h.1 c q there k in omega (arith, l, least)
 
 module _ (rs : List Record) (distinct : AreDistinct (numbers rs)) where
-  module _ (ns : List ℕ) (number : ℕ) (users : (n : ℕ) → In n ns ↔ StepDependsOn rs n number) where
+  module _ (number : ℕ) where
     -- a later step that uses this one is among its users
-    among : (a c : Record) (i j : ℕ) → a.number ≡ number → slice_get rs i ≡ Some a → slice_get rs j ≡ Some c → i < j → Uses c a → In c.number ns
-    among a c i j e p q l used = (users c.number).1 (a, c, e, refl, (stands_before rs i j a c p q l, used))
+    among : (a c : Record) (i j : ℕ) → a.number ≡ number → slice_get rs i ≡ Some a → slice_get rs j ≡ Some c → i < j → Uses c a → StepDependsOn rs c.number number
+    among a c i j e p q l used = (a, c, e, refl, (stands_before rs i j a c p q l, used))
 
-    pub first_is : (p : ℕ) → IsFirstOf rs ns (Some p) → (b : Record) → slice_get rs p ≡ Some b → (a : Record) × IsKeptAs rs number a × IsFirstConsequence rs a b
+    pub first_is : (p : ℕ) → IsFirstOf rs (λ n. StepDependsOn rs n number) (Some p) → (b : Record) → slice_get rs p ≡ Some b → (a : Record) × IsKeptAs rs number a × IsFirstConsequence rs a b
     first_is p h b at =
-        let d = (users h.0.0.number).0 h.0.2 in
+        let d = h.0.2 in
         let a = d.0 in
         let both = before_in rs a d.1 (is_before rs a d.1 d.4.0) in
         let own : d.1 ≡ b = record_once rs d.1 b distinct both.1 (in_at rs p b at) (d.3 ∙ ap (λ (z : Record). z.number) (same_value h.0.1 at)) in
@@ -66,7 +66,7 @@ module _ (rs : List Record) (distinct : AreDistinct (numbers rs)) where
         let none : NoneBetween (λ c. Uses c a) rs there.0 p = λ k c low high at used. let l = h.1 c k at (among a c there.0 k d.2 there.1 at low used) in omega (arith, l, high) in
         (a, (both.0, d.2), is_first rs distinct a there.0 there.1 p none b at behind (subst (λ z. Uses z a) own d.4.1))
 
-    pub first_none : IsFirstOf rs ns None → (a b : Record) → IsKeptAs rs number a → ¬ Follows rs a b
+    pub first_none : IsFirstOf rs (λ n. StepDependsOn rs n number) None → (a b : Record) → IsKeptAs rs number a → ¬ Follows rs a b
     first_none h a b kept follows =
         let there = place_at rs a kept.0 in
         let none : NoneBetween (λ c. Uses c a) rs there.0 (length rs) = λ k c low high at used. h c (in_at rs k c at) (among a c there.0 k kept.1 there.1 at low used) in

@@ -17,6 +17,7 @@ pub mod Causes
 pub mod Nearest
 pub mod FirstPlace
 pub mod Ahead
+pub mod Using
 pub mod TakingBack
 pub mod Arranging
 pub mod Undoing

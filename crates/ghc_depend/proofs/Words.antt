@@ -6,7 +6,7 @@ pub use Rattle.ghc_depend.specs.Facts.{AppendDepends, AppendOrders, WakingDepend
 pub use Rattle.ghc_depend.specs.Kept.{IsSplitAt, IsWithout, Keeps, taken_numbers, with_shelved}
 pub use Rattle.ghc_depend.specs.Lawful.{AreInTime, IsFirstMissing, IsFirstNeeded, IsFirstTooEarly, IsFirstWrong, IsInOrder, IsInTime, IsLawful, IsNoFurther, IsOfKept, IsOrderOf, IsTooEarly, IsUnlawful, StandsBehind, missing, too_early, wrong}
 pub use Rattle.ghc_depend.specs.Laws.{ConsequencesHaveOneAnswer, GoneComeBack, KeepsIsOne, LawOfDeletion, LawfulOrderKeepsReplay, NeighboursChangePlaces, OrdersAreDecided, OrdersHaveOneAnswer, RollKeepsReplay, UndoKeepsReplay, WithoutStepsIsOne}
-pub use Rattle.ghc_depend.specs.inner.Places.{IsFirstAmong, IsPlaceOfUser}
+pub use Rattle.ghc_depend.specs.inner.Places.{HasPlacesOf, HasPlacesOfUsers, IsFirstAmong, IsFirstUser, IsFirstWhere, IsPlaceOfUser}
 pub use Rattle.ghc_depend.specs.declared.cause.Cause.TheVariants.{Made, Named, Read}
 pub use Rattle.ghc_fire.proofs.Asking.{asks_once}
 pub use Rattle.ghc_fire.proofs.GoalNames.{goal_total, same_goal, same_parts, goal_antisymmetric}
@@ -65,7 +65,7 @@ pub use Rattle.ghc_unify.proofs.Extension.{Hold, all_extend}
 pub use Rattle.ghc_unify.proofs.Locality.{by_value, comes_more}
 pub use Rattle.ghc_unify.specs.Laws.{BindsAndReads}
 pub use Rattle.ghc_unify.specs.Unify.{Unifies, with_bindings}
-pub use Rattle.std.proofs.Common.{All, Bool, Err, IfNone, IfSome, IsSome, IsTrue, List, None, Ok, Option, Result, Some, [], ap, append-nil, append_assoc, arith, cond, false, get_or, if◌then◌else◌, inl, inr, is_some, length, map, nat_eq, not, option_map, refl, slice_get, subst, subst₂, suc, sym, take, true, zero, ℕ, ℤ, ◌++◌, ◌+◌, ◌-◌, ◌<◌, ◌||◌, ◌↔◌, ◌∙◌, ◌∷◌, ◌≡◌, ◌≢◌, ◌≤◌, ◌⊎◌, drop}
+pub use Rattle.std.proofs.Common.{All, Bool, Err, IfNone, IfSome, IsSome, IsTrue, List, None, Ok, OnOk, Option, Result, Some, [], ap, append-nil, append_assoc, arith, cond, false, get_or, if◌then◌else◌, inl, inr, is_some, length, map, nat_eq, not, option_map, refl, slice_get, subst, subst₂, suc, sym, take, true, zero, ℕ, ℤ, ◌++◌, ◌+◌, ◌-◌, ◌<◌, ◌||◌, ◌↔◌, ◌∙◌, ◌∷◌, ◌≡◌, ◌≢◌, ◌≤◌, ◌⊎◌, drop}
 pub use Rattle.std.proofs.Math.Nat.{eq-or-lt_of_le}
 pub use Rattle.std.proofs.lemmas.Bool.{cases_lt, cases_order, eqb-true, lt-ltb, ltb-true, or_cases}
 pub use Rattle.std.proofs.lemmas.List.{length-append, length-map, same_from_push, take_all, take_more, length-take}

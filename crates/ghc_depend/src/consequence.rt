@@ -3,8 +3,9 @@ ghost use Rattle.std.specs.Prelude.{◌≡◌, ◌⊎◌, ◌↔◌, ◌≤◌, 
 ghost use Rattle.ghc_term.specs.Lists.{In};
 ghost use Rattle.ghc_records.specs.Record.{Record, numbers};
 ghost use Rattle.ghc_depend.specs.Depend.{Follows, IsKeptAs, AreConsequencesOf, IsFirstConsequence};
-ghost use Rattle.ghc_depend.specs.inner.Places.{IsFirstAmong, IsPlaceOfUser};
+ghost use Rattle.ghc_depend.specs.inner.Places.{IsFirstAmong, IsFirstUser, IsPlaceOfUser, HasPlacesOf, HasPlacesOfUsers};
 
+use crate::users::user_at;
 use ghc_records::Records;
 use std::alloc::{AllocError, Global};
 use std::collections::BTreeSet;
@@ -35,13 +36,13 @@ fn first_among(records: &Records, ns: &[u32]) -> Option<usize>
     first
 }
 
-// Adds the places of the steps that depend directly on the step of this number: one look-up for each.
-fn add_users(ahead: &mut BTreeSet<usize>, records: &Records, number: u32) -> Result<(), AllocError>
-    ensures { OnOk result ((p : ℕ) → In p ahead.new.keys ↔ (In p ahead.old.keys ⊎ IsPlaceOfUser records.now.slots number p)) }
+// Adds the places of the records of these numbers: one look-up for each.
+fn add_places(ahead: &mut BTreeSet<usize>, records: &Records, ns: &[u32]) -> Result<(), AllocError>
+    ensures { OnOk result (HasPlacesOf records.now.slots ns.now ahead.old.keys ahead.new.keys) }
 {
     let _count = records.len();
-    for user in records.users_of(number) {
-        if let Some(place) = records.place_of(*user) {
+    for n in ns {
+        if let Some(place) = records.place_of(*n) {
             match ahead.insert(place) {
                 Ok(_) => {}
                 Err(_) => return Err(AllocError),
@@ -51,8 +52,40 @@ fn add_users(ahead: &mut BTreeSet<usize>, records: &Records, number: u32) -> Res
     Ok(())
 }
 
+// Adds the places of the steps that depend directly on the step of this number, by a search at all places.
+fn add_users_by_search(
+    ahead: &mut BTreeSet<usize>,
+    records: &Records,
+    number: u32,
+) -> Result<(), AllocError>
+    ensures { OnOk result (HasPlacesOfUsers records.now.slots number ahead.old.keys ahead.new.keys) }
+{
+    for place in 0..records.places() {
+        if let Some(_) = user_at(records, number, place) {
+            match ahead.insert(place) {
+                Ok(_) => {}
+                Err(_) => return Err(AllocError),
+            }
+        }
+    }
+    Ok(())
+}
+
+// Adds the places of the steps that depend directly on the step of this number: one look-up for each, or a search where the index is
+// not whole.
+fn add_users(ahead: &mut BTreeSet<usize>, records: &Records, number: u32) -> Result<(), AllocError>
+    ensures { OnOk result (HasPlacesOfUsers records.now.slots number ahead.old.keys ahead.new.keys) }
+{
+    let _count = records.len();
+    match records.users_of(number) {
+        Some(users) => add_places(ahead, records, users),
+        None => add_users_by_search(ahead, records, number),
+    }
+}
+
 /// The numbers of the consequences of the step of this number, in recorded order: none where it is not kept. It costs a look-up for
-/// each direct dependence on the step or on a consequence, and puts the places of those in order. It fails only
+/// each direct dependence on the step or on a consequence, and puts the places of those in order; where the index is not whole, it
+/// goes over the record for the step and for each consequence. It fails only
 /// where memory is refused, and never where the step is not kept.
 pub fn consequences(alloc: Global, records: &Records, number: u32) -> Result<Vec<u32>, AllocError>
     ensures found { IfOk result (λ ns. (found : List Record) × AreConsequencesOf records.now.held number found × (numbers found ≡ ns.items)) }
@@ -75,13 +108,37 @@ pub fn consequences(alloc: Global, records: &Records, number: u32) -> Result<Vec
     Ok(found)
 }
 
+// The first place of a step that depends directly on the step of this number, if one does, by a search up to there.
+fn first_user_by_search(records: &Records, number: u32) -> Option<usize>
+    ensures { IsFirstUser records.now.slots number result }
+{
+    for place in 0..records.places() {
+        if let Some(_) = user_at(records, number, place) {
+            return Some(place);
+        }
+    }
+    None
+}
+
+// The first place of a step that depends directly on the step of this number, if one does: one look-up for each that does, or a search
+// where the index is not whole.
+fn first_user(records: &Records, number: u32) -> Option<usize>
+    ensures { IsFirstUser records.now.slots number result }
+{
+    let _count = records.len();
+    match records.users_of(number) {
+        Some(users) => first_among(records, users),
+        None => first_user_by_search(records, number),
+    }
+}
+
 /// The number of the first consequence of the step of this number, if it is kept and has one. The first one always depends
-/// directly, so it costs a look-up for each step that does.
+/// directly, so it costs a look-up for each step that does; where the index is not whole, it goes over the record.
 pub fn first_consequence(records: &Records, number: u32) -> Option<u32>
     ensures found { IfSome result (λ n. (a b : Record) × IsKeptAs records.now.held number a × IsFirstConsequence records.now.held a b × (b.number ≡ n)) }
     ensures none { IfNone result ((a b : Record) → IsKeptAs records.now.held number a → ¬ Follows records.now.held a b) }
 {
     let _count = records.len();
-    let place = first_among(records, records.users_of(number))?;
+    let place = first_user(records, number)?;
     Some(records.at(place).unwrap().number())
 }

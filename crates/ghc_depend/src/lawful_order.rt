@@ -11,13 +11,49 @@ ghost use Rattle.ghc_depend.specs.Lawful.{IsOrderOf, IsTooEarly, IsLawful, IsNoF
 
 use crate::cause::uses;
 use crate::places::{first_missing, no_further, places_of, stands_behind};
+use crate::users::user_at;
 use ghc_records::{Record, Records};
 use ghc_term::Fault;
 use indexmap::IndexSet;
 use std::alloc::Global;
 
+// The least of `first` and the places in front of `place` where steps of these numbers stand: one look-up for each.
+fn first_of(places: &IndexSet<u32>, numbers: &[u32], place: usize, first: usize) -> usize
+    requires { AreDistinct places.now.keys }
+    ensures within { result ≤ first }
+    ensures numbers { (n : ℕ) → In n numbers.now → IsNoFurther places.now.keys place n result }
+{
+    let mut least = first;
+    for number in numbers {
+        least = no_further(places, *number, place, least);
+    }
+    least
+}
+
+// The same of the steps that depend directly on the one of this number, by a search of the record.
+fn first_by_search(
+    records: &Records,
+    places: &IndexSet<u32>,
+    number: u32,
+    place: usize,
+    first: usize,
+) -> usize
+    requires { AreDistinct places.now.keys }
+    ensures within { result ≤ first }
+    ensures users { (n : ℕ) → StepDependsOn records.now.held n number → IsNoFurther places.now.keys place n result }
+{
+    let _count = records.len();
+    let mut least = first;
+    for slot in 0..records.places() {
+        if let Some(user) = user_at(records, number, slot) {
+            least = no_further(places, user, place, least);
+        }
+    }
+    least
+}
+
 // The least of `first` and the places in front of `place` where steps stand that depend directly on the one of this number: one
-// look-up, and one for each of these steps.
+// look-up, and one for each of these steps, or a search where the index is not whole.
 fn first_user(
     records: &Records,
     places: &IndexSet<u32>,
@@ -29,11 +65,10 @@ fn first_user(
     ensures within { result ≤ first }
     ensures users { (n : ℕ) → StepDependsOn records.now.held n number → IsNoFurther places.now.keys place n result }
 {
-    let mut least = first;
-    for user in records.users_of(number) {
-        least = no_further(places, *user, place, least);
+    match records.users_of(number) {
+        Some(users) => first_of(places, users, place, first),
+        None => first_by_search(records, places, number, place, first),
     }
-    least
 }
 
 // How many steps of the order surely stand in time: those in front of the first that stands before a step on which it depends. It
@@ -117,7 +152,8 @@ fn first_too_early(
 /// directly. Else `NotLawful`, with the pair that tells why: twice the first number that is not kept or stood before; or else the
 /// first that is missing, and 0; or else the two first steps of which the earlier in the order depends on the later. Else it
 /// fails only where memory is refused, never for an order that is empty or begins with a number that is not kept. It goes
-/// once over order and record, with some look-ups for each step, and one for each direct dependence; where a step stands too early,
+/// once over order and record, with some look-ups for each step, and one for each direct dependence; where the index is not whole, it
+/// goes over the record for each step; and where a step stands too early,
 /// it goes once more over the record.
 pub fn lawful(alloc: Global, records: &Records, order: &[u32]) -> Result<(), Fault>
     ensures ok { OnOk result (IsLawful records.now.held order.now) }

@@ -8,6 +8,7 @@ mod lawful_order;
 mod laws;
 mod places;
 mod sources;
+mod users;
 
 pub use cause::{Cause, direct, direct_by_sources};
 pub use consequence::{consequences, first_consequence};

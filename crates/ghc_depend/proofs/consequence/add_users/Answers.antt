@@ -1,32 +1,12 @@
-use Rattle.ghc_depend.proofs.Words.{◌≡◌, ℕ, [], ◌∷◌, ◌++◌, take, get_or, sym, subst, ◌↔◌, take_more, take_all, In, AreDistinct, Record, numbers, StepDependsOn}
-use Rattle.ghc_depend.proofs.Ahead.{HasPlacesOf, places_still, places_more, places_all}
-use Rattle.ghc_depend.proofs.consequence.add_users.Goals.{in-Some+in-Ok, in_default}
+use Rattle.ghc_depend.proofs.Words.{ℕ, subst, ◌↔◌, In, StepDependsOn, HasPlacesOf, HasPlacesOfUsers, Result, Ok, Err, OnOk, List, SlotList, held_in}
+use Rattle.ghc_depend.proofs.Ahead.{places_all}
 use Rattle.ghc_depend.proofs.consequence.add_users.Goals as goal
 
-pub loop-user-preserved : goal.loop-user-preserved
-loop-user-preserved c =
-    let ss = c.args.records.now.slots in
-    let is = c.len-count.ensures.slots in
-    let distinct = subst (λ l. AreDistinct (numbers l)) is c.len-count.ensures.distinct in
-    let ns = c.users_of-user-items.result.now in
-    let i = c.loop-user.user-index in
-    let n = get_or ns i 0 in
-    let old = c.args.ahead.now.keys in
-    let more = sym (take_more ns i 0 c.loop-user-test.true) in
-    elim c.match-place_of.branch [
-      | in-Some+in-Ok w ↦
-          let f = w.in-Some.ensures.found in
-          let put = places_more ss (take i ns) n old c.loop-user.ahead.keys c.loop-user.invariant distinct w.in-Some.place f.0 f.1 f.2 in
-          rw w.ahead-is (subst (λ l. HasPlacesOf ss l old w.insert.new.self.keys) more (subst (HasPlacesOf ss (take i ns ++ n ∷ []) old) (sym w.in-Ok.ensures.keys) put))
-      | in_default w ↦
-          let none = subst (λ l. (r : Record) → In r l → ¬ (r.number ≡ n)) is w.in_default.ensures.none in
-          rw w.ahead-is (subst (λ l. HasPlacesOf ss l old c.loop-user.ahead.keys) more (places_still ss (take i ns) n old c.loop-user.ahead.keys c.loop-user.invariant none))
-    ]
+all_places : {E : Type 0} (r : Result (Unit {0}) E) (ss : SlotList) (ns : List ℕ) (number : ℕ) (old new : List ℕ) → ((n : ℕ) → In n ns ↔ StepDependsOn (held_in ss) n number) → OnOk r (HasPlacesOf ss ns old new) → OnOk r (HasPlacesOfUsers ss number old new)
+all_places (Ok u) ss ns number old new users h = places_all ss ns number old new users h
+all_places (Err e) ss ns number old new users h = tt
 
-pub returns : goal.returns
-returns c =
-    let ss = c.args.records.now.slots in
-    let ns = c.users_of-user-items.result.now in
-    let users = subst (λ l. (n : ℕ) → In n ns ↔ StepDependsOn l n c.args.number) c.len-count.ensures.slots c.users_of-user-items.ensures in
-    places_all ss ns c.args.number c.args.ahead.now.keys c.loop-user.ahead.keys users
-    (subst (λ l. HasPlacesOf ss l c.args.ahead.now.keys c.loop-user.ahead.keys) (take_all c.loop-user.user-index ns c.loop-user-test.false) c.loop-user.invariant)
+pub returns-in-Some : goal.returns-in-Some
+returns-in-Some c =
+    let users = subst (λ l. (n : ℕ) → In n c.in-Some.users.now ↔ StepDependsOn l n c.args.number) c.len-count.ensures.slots c.in-Some.ensures.users in
+    all_places c.add_places.result c.args.records.now.slots c.in-Some.users.now c.args.number c.args.ahead.now.keys c.add_places.new.ahead.keys users c.add_places.ensures
