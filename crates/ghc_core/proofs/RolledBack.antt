@@ -1,5 +1,6 @@
 -- A kept step and its consequences are taken away, the last one first, and the world that is left stands.
-use Rattle.ghc_core.proofs.Words.{[], ◌≡◌, ◌≢◌, ◌⊎◌, ◌↔◌, ℕ, List, ◌∷◌, ◌++◌, refl, sym, ap, ◌∙◌, subst, inl, inr, append_assoc, Option, Some, None, IsSome, IfNone, VarName, GoalName, In, in_left, in_right, in_more, in_last, Goals, Picks, AreDistinct, State, Record, numbers, Shelf, IsTakenBack, AreTakenBack, Entry, undid, number_of, Note, NotesByGoal, AreLeft, Tries, Binds, IsBoundIn, with_shelved, by_option, not_both, alone, picks_has, apart_behind, picks_all, picks_within, alone_left, rest_left, gone_kept, gone_distinct, World, IsReplay, Goes as goes, Change, Going, Gone, all_gone, by_change, IsStanding, AreExactIn, CanChange, Changes, entry_of_going, Consumed, AreCarriedBack, AreAllCarriedBack, all_told_back, TellStreams, arith}
+use Rattle.ghc_core.proofs.Words.{[], ◌≡◌, ◌≢◌, ◌⊎◌, ◌↔◌, ◌+◌, ◌-◌, ◌<◌, ℕ, zero, suc, slice_get, slice_get_within, get_or_from_slice_get, drop, List, ◌∷◌, ◌++◌, refl, sym, ap, ◌∙◌, subst, inl, inr, append_assoc, Option, Some, None, IsSome, IfNone, VarName, GoalName, In, in_left, in_right, in_more, in_last, Goals, Picks, AreDistinct, State, Record, numbers, Shelf, IsTakenBack, AreTakenBack, Entry, undid, number_of, Note, NotesByGoal, AreLeft, Tries, Binds, IsBoundIn, with_shelved, by_option, not_both, alone, picks_has, apart_behind, picks_all, picks_within, alone_left, rest_left, gone_kept, gone_distinct, World, IsReplay, Goes as goes, Change, Going, Gone, all_gone, by_change, IsStanding, AreExactIn, CanChange, Changes, entry_of_going, Consumed, AreCarriedBack, AreAllCarriedBack, all_told_back, TellStreams, arith}
+use Rattle.std.proofs.lemmas.List.{drop_more}
 use Rattle.std.specs.FinMap as finite
 use Rattle.ghc_core.proofs.Exactness.{unnoted, consumed_gone, back_exact, back_left}
 use Rattle.ghc_core.proofs.Alone.{goes_alone}
@@ -46,6 +47,19 @@ struck_next kept some new gone r there fresh before next =
 pub struck_first : (kept some new gone : List Record) (r : Record) → AreDistinct (r ∷ gone) → In r kept → Picks (λ s. ¬ In s gone) kept some → (In r some → Picks (λ s. ¬ (s ≡ r)) some new) → Picks (λ s. ¬ In s (r ∷ gone)) kept new
 struck_first kept some new gone r once there before next =
     struck_more kept some new gone (r ∷ gone) r (λ s. grind arith) before (next (still_there kept some gone r there once.0 before))
+
+-- and so the one before those that are gone from the end of a list
+distinct_drop : {X : Type 0} (xs : List X) (i : ℕ) → AreDistinct xs → AreDistinct (drop i xs)
+distinct_drop xs zero d = d
+distinct_drop [] (suc i) d = d
+distinct_drop (x ∷ xs) (suc i) d = distinct_drop xs i d.1
+
+pub struck_back : (xs kept some new : List Record) (p : ℕ) (r : Record) → 0 < p → slice_get xs (p - 1) ≡ Some r → AreDistinct xs → In r kept → Picks (λ s. ¬ In s (drop p xs)) kept some → (In r some → Picks (λ s. ¬ (s ≡ r)) some new)
+    → Picks (λ s. ¬ In s (drop (p - 1) xs)) kept new
+struck_back xs kept some new p r some_left at distinct there before next =
+    let on : (p - 1) + 1 ≡ p = omega (arith, some_left) in
+    let is : drop (p - 1) xs ≡ r ∷ drop p xs = drop_more xs (p - 1) r (slice_get_within xs (p - 1) r at) ∙ ap (λ z. z ∷ drop ((p - 1) + 1) xs) (get_or_from_slice_get xs (p - 1) r r at) ∙ ap (λ k. r ∷ drop k xs) on in
+    subst (λ l. Picks (λ s. ¬ In s l) kept new) (sym is) (struck_first kept some new (drop p xs) r (subst AreDistinct is (distinct_drop xs (p - 1) distinct)) there before next)
 
 -- What is known where later steps were taken back, which leaves t: where the steps left are kept, a world with it stands, and notes and marks are exact.
 record Undone (w : World) (back : List Record) (t : State) (old new : Tries) : Type 0 where

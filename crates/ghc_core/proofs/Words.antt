@@ -126,7 +126,7 @@ pub use Rattle.ghc_records.specs.Record.{Fires, HasStepEffect, IsThere, Record, 
 pub use Rattle.ghc_records.specs.Replay.{AreKnownIn, HaveStepNumbers, IsVariableOf, MakesVariable, NameWhatIsKnown, Replays, Runs, query_state}
 pub use Rattle.ghc_records.specs.inner.Slots.{SlotList, StandsIn, held_in}
 pub use Rattle.ghc_records.specs.State.{AreTakenBack, ConsumesGoal, IsTakenBack}
-pub use Rattle.ghc_records.specs.UseIndex.{HasRoomToKeep, RecordsTables}
+pub use Rattle.ghc_records.specs.UseIndex.{RecordsTables}
 pub use Rattle.ghc_records.specs.inner.WrittenEntryCode.{said_by}
 pub use Rattle.ghc_records.specs.declared.predicate.Predicate.{Predicate}
 pub use Rattle.ghc_records.specs.declared.written_entry.WrittenEntry.{WrittenEntry}

@@ -7,7 +7,6 @@ use Rattle.ghc_records.specs.Numbers.{kept_limit}
 use Rattle.ghc_records.specs.Record.{State, Record, after, Fires}
 use Rattle.ghc_records.specs.Journal.{Entry, undid, rolled, redid, reordered}
 use Rattle.ghc_records.specs.State.{HasRoomToTake}
-use Rattle.ghc_records.specs.UseIndex.{HasRoomToKeep}
 use Rattle.ghc_depend.specs.Depend.{Binds}
 use Rattle.ghc_depend.specs.Deletion.{IsBoundIn}
 use Rattle.ghc_depend.specs.Kept.{with_shelved, IsSplitAt}
@@ -57,7 +56,7 @@ CanChange w (reorders a) = IsLawful w.kept a.order × IsInOrder w.kept a.order a
 
 -- In the world there is room for the change.
 abbrev pub HasRoomFor : World → Room → Change → Type 0
-HasRoomFor w room (comes from r) = HasRoomToTake room.state r × HasRoomToKeep w.kept room.kept r × (0 < room.journal) × (length r.effect.makes ≤ room.tries)
+HasRoomFor w room (comes from r) = HasRoomToTake room.state r × (0 < room.kept) × (0 < room.journal) × (length r.effect.makes ≤ room.tries)
 HasRoomFor w room (goes how gone) = (length (all_gone gone) ≤ room.state.goals) × (length (all_gone gone) ≤ room.shelf) × (0 < room.journal) × (length (all_gone gone) ≤ room.tries)
 HasRoomFor w room (reorders a) = 0 < room.journal
 

@@ -77,7 +77,7 @@ impl Core {
         self.tries
             .reserve(step.effect().makes().len(), step.number())?;
         self.journal.reserve(1)?;
-        self.records.reserve_for(step)
+        self.records.reserve()
     }
 
     // Makes room for the change. It costs nothing where there is room; a table that is full moves to one of about twice its size.

@@ -118,4 +118,13 @@ impl Core {
             streams,
         })
     }
+
+    /// Makes the index of the record whole, if memory allows, so that `undo`, `rollback` and `arrange`, and questions about causes, look
+    /// users and binders up in it, where they search for them else. It costs some look-ups for each variable that a step read, bound or
+    /// names which was taken since.
+    pub fn index_records(&mut self)
+        ensures { self.new ≡ self.old }
+    {
+        let _ = self.records.index_all();
+    }
 }

@@ -5,11 +5,10 @@ use Rattle.ghc_fire.specs.declared.meter.Meter.{Meter}
 use Rattle.ghc_records.specs.Record.{State, Record, Shelf}
 use Rattle.ghc_records.specs.Journal.{Opening, Entry}
 use Rattle.ghc_records.specs.State.{StateRoom}
-use Rattle.ghc_records.specs.UseIndex.{RecordsRoom}
 use Rattle.ghc_hooks.specs.Face.{GoalNames}
 use Rattle.ghc_hooks.specs.Notes.{NotesByGoal}
 use Rattle.ghc_hooks.specs.inner.TriesCode.{goal_names_code, notes_code}
-use Rattle.ghc_records.specs.inner.RecordCode.{state_room_code, state_code, records_code, records_room_code, shelf_code, journal_code, opening_code}
+use Rattle.ghc_records.specs.inner.RecordCode.{state_room_code, state_code, records_code, shelf_code, journal_code, opening_code}
 use Rattle.ghc_core.specs.World.{World}
 use Rattle.ghc_core.specs.Core.{Core}
 use Rattle.ghc_core.specs.Room.{Room}
@@ -30,7 +29,7 @@ meter_code = code_by (ℕ × ℕ) (coded× coded_ℕ coded_ℕ) (λ m. (m.firing
 -- the code of the room in the tables of a core, which no other room has
 abbrev pub room_code : Coded Room
 room_code =
-    code_by (StateRoom × (RecordsRoom × (ℕ × (ℕ × ℕ)))) (coded× state_room_code (coded× records_room_code (coded× coded_ℕ (coded× coded_ℕ coded_ℕ))))
+    code_by (StateRoom × (ℕ × (ℕ × (ℕ × ℕ)))) (coded× state_room_code (coded× coded_ℕ (coded× coded_ℕ (coded× coded_ℕ coded_ℕ))))
     (λ r. (r.state, (r.kept, (r.shelf, (r.journal, r.tries)))))
     (λ p. record { state = p.0; kept = p.1.0; shelf = p.1.1.0; journal = p.1.1.1.0; tries = p.1.1.1.1 }) (λ _. refl)
 

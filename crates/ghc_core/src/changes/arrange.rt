@@ -65,7 +65,7 @@ fn boxed_in_order(
 impl Core {
     /// Finds what it takes to put the record into this order: `NotLawful`, with the pair that tells why, exactly where the order is
     /// not lawful, unless memory was refused before that was known. Else it fails only where memory is refused, which cannot be where
-    /// the first number is not kept. It goes over order and record, with a look-up for each variable that a step read or bound.
+    /// the first number is not kept. It costs what `lawful` costs, and a look-up for each step.
     pub fn prepare_arrange(&self, alloc: Global, order: &[u32]) -> Result<Arrangement, Fault>
         ensures found { IfOk result (λ arrangement. CanChange self.now.world (reorders arrangement)) }
         ensures order { IfOk result (λ arrangement. arrangement.order ≡ order.now) }
@@ -121,6 +121,7 @@ impl Core {
         ensures untried { self.new.untried ≡ self.old.untried }
         ensures meter { self.new.meter ≡ self.old.meter }
     {
+        self.index_records();
         let arrangement = match self.prepare_arrange(alloc, order) {
             Ok(arrangement) => arrangement,
             Err(fault) => return Err(fault),

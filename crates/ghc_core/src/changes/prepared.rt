@@ -41,14 +41,20 @@ impl Core {
                 Ok(addition) => Ok(Change::Comes(Coming::Next, addition)),
                 Err(fault) => Err(fault),
             },
-            Command::Undo(number) => match self.prepare_undo(alloc, *number) {
-                Ok(rollback) => Ok(Change::Goes(Going::Alone, rollback)),
-                Err(fault) => Err(fault),
-            },
-            Command::Roll(number) => match self.prepare_rollback(alloc, *number) {
-                Ok(rollback) => Ok(Change::Goes(Going::Together, rollback)),
-                Err(fault) => Err(fault),
-            },
+            Command::Undo(number) => {
+                self.index_records();
+                match self.prepare_undo(alloc, *number) {
+                    Ok(rollback) => Ok(Change::Goes(Going::Alone, rollback)),
+                    Err(fault) => Err(fault),
+                }
+            }
+            Command::Roll(number) => {
+                self.index_records();
+                match self.prepare_rollback(alloc, *number) {
+                    Ok(rollback) => Ok(Change::Goes(Going::Together, rollback)),
+                    Err(fault) => Err(fault),
+                }
+            }
             Command::Redo(number) => match self.prepare_redo(alloc, *number) {
                 Ok(addition) => Ok(Change::Comes(Coming::Shelved, addition)),
                 Err(fault) => Err(fault),
@@ -57,10 +63,13 @@ impl Core {
                 Ok(addition) => Ok(Change::Comes(Coming::Next, addition)),
                 Err(fault) => Err(fault),
             },
-            Command::Arrange(order) => match self.prepare_arrange(alloc, order.as_slice()) {
-                Ok(arrangement) => Ok(Change::Reorders(arrangement)),
-                Err(fault) => Err(fault),
-            },
+            Command::Arrange(order) => {
+                self.index_records();
+                match self.prepare_arrange(alloc, order.as_slice()) {
+                    Ok(arrangement) => Ok(Change::Reorders(arrangement)),
+                    Err(fault) => Err(fault),
+                }
+            }
         }
     }
 }

@@ -67,13 +67,16 @@ pub(crate) fn take_all_back(
     }
 }
 
-/// Takes the records of these steps out: what `Records::remove` costs for each.
+/// Takes the records of these steps out, the last one first, so that no record that stays is moved: what `Records::remove` costs for
+/// each.
 pub(crate) fn strike_all(records: &mut Records, removals: &[Removal])
     requires kept { (r : record_spec) → In r removals.now → In r records.old.held }
     requires distinct { AreDistinct removals.now }
     ensures { Picks (λ s. ¬ In s removals.now) records.old.held records.new.held }
 {
-    for removal in removals {
-        let _ = records.remove(removal.step().number());
+    let mut place = removals.len();
+    while place > 0 {
+        place -= 1;
+        let _ = records.remove(removals[place].step().number());
     }
 }

@@ -23,7 +23,8 @@ use std::alloc::Global;
 impl Core {
     /// Finds what it takes to undo the step of this number: `NotKept` exactly where the step is not kept; else `HasConsequence`,
     /// with the first consequence in recorded order, exactly where it has one. Else it fails only where a count of handles is full,
-    /// with `Memory`. It costs a look-up for each step that depends directly on this one.
+    /// with `Memory`. It costs a look-up for each step that depends directly on this one, or a search of the record where its index is not
+    /// whole.
     pub fn prepare_undo(&self, alloc: Global, number: u32) -> Result<Rollback, Fault>
         ensures found { IfOk result (λ gone. CanChange self.now.world (goes Going.Alone gone)) }
         ensures step { IfOk result (λ gone. gone.first.number ≡ number) }
@@ -61,6 +62,7 @@ impl Core {
         ensures notes { OnOk result ((r : record_spec) × IsKeptAs self.old.world.kept number r × AreLeft self.new.world.state.goals (IsBoundIn (r ∷ [])) self.old.notes self.new.notes) }
     {
         self.stands();
+        self.index_records();
         let rollback = match self.prepare_undo(alloc, number) {
             Ok(rollback) => rollback,
             Err(fault) => return Err(fault),

@@ -1,21 +1,40 @@
-use Rattle.ghc_core.proofs.Words.{◌≡◌, Some, slice_get, take, sym, ap, ◌∙◌, subst, arith, take_all, slice_get-get_or, In, in_at, Picks, Record, not_again, at_split}
-use Rattle.ghc_core.proofs.RolledBack.{struck_none, struck_next}
+use Rattle.ghc_core.proofs.Words.{◌≡◌, ◌-◌, drop, Some, slice_get, length, sym, ap, ◌∙◌, subst, arith, slice_get-get_or, In, in_at, Picks, Record}
+use Rattle.std.proofs.lemmas.List.{drop_all}
+use Rattle.ghc_core.proofs.RolledBack.{struck_none, struck_back}
 use Rattle.ghc_core.proofs.changes.rolling.strike_all.Goals as goal
 
-pub loop-removal-init : goal.loop-removal-init
-loop-removal-init c = struck_none c.args.records.now.held
-
-pub loop-removal-preserved : goal.loop-removal-preserved
-loop-removal-preserved c =
+pub loop-place-init : goal.loop-place-init
+loop-place-init c =
     let xs = c.args.removals.now in
-    let i = c.loop-removal.removal-index in
-    let r = c.removal-item.result in
+    (omega arith, subst (λ l. Picks (λ s. ¬ In s l) c.args.records.now.held c.args.records.now.held) (sym (drop_all (length xs) xs (omega arith))) (struck_none c.args.records.now.held))
+
+pub loop-place-preserved-in-loop-place : goal.loop-place-preserved-in-loop-place
+loop-place-preserved-in-loop-place c =
+    let xs = c.args.removals.now in
+    let p = c.loop-place.place in
+    let within = c.loop-place.invariant.0 in
+    let r = c.index-removals-place.result in
     let number : c.number.result ≡ r.number = c.number.ensures ∙ ap (λ (z : Record). z.number) c.step.ensures in
-    let at : slice_get xs i ≡ Some r = slice_get-get_or xs i r c.loop-removal-test.true ∙ ap Some (sym c.removal-item.is) in
-    subst (λ l. Picks (λ s. ¬ In s l) c.args.records.now.held c.remove.new.self.held) (sym (at_split xs i r at).2)
-    (struck_next c.args.records.now.held c.loop-removal.records.held c.remove.new.self.held (take i xs) r (c.requires.kept r (in_at xs i r at)) (λ j. not_again xs i r c.requires.distinct c.loop-removal-test.true (subst (λ (z : Record). In z (take i xs)) c.removal-item.is j)) c.loop-removal.invariant
-    (λ here. c.remove.ensures.rest r here (sym number)))
+    let at : slice_get xs (p - 1) ≡ Some r = slice_get-get_or xs (p - 1) r (omega (arith, within, c.loop-place-test.true)) ∙ ap Some (sym c.index-removals-place.is) in (
+      omega (arith, within),
+      struck_back xs c.args.records.now.held c.loop-place.records.held c.remove.new.self.held p r (omega (arith, c.loop-place-test.true)) at c.requires.distinct (c.requires.kept r (in_at xs (p - 1) r at)) c.loop-place.invariant.1
+          (λ here. c.remove.ensures.rest r here (sym number)),
+    )
+
+pub loop-place-preserved : goal.loop-place-preserved
+loop-place-preserved c =
+    let xs = c.args.removals.now in
+    let p = c.loop-place.place in
+    let within = c.loop-place.invariant.0 in
+    let r = c.index-removals-place.result in
+    let number : c.number.result ≡ r.number = c.number.ensures ∙ ap (λ (z : Record). z.number) c.step.ensures in
+    let at : slice_get xs (p - 1) ≡ Some r = slice_get-get_or xs (p - 1) r (omega (arith, within, c.loop-place-test.true)) ∙ ap Some (sym c.index-removals-place.is) in (
+      omega (arith, within),
+      struck_back xs c.args.records.now.held c.loop-place.records.held c.remove.new.self.held p r (omega (arith, c.loop-place-test.true)) at c.requires.distinct (c.requires.kept r (in_at xs (p - 1) r at)) c.loop-place.invariant.1
+          (λ here. c.remove.ensures.rest r here (sym number)),
+    )
 
 pub returns : goal.returns
 returns c =
-    subst (λ l. Picks (λ s. ¬ In s l) c.args.records.now.held c.loop-removal.records.held) (take_all c.loop-removal.removal-index c.args.removals.now (omega (arith, c.loop-removal-test.false))) c.loop-removal.invariant
+    let none : c.loop-place.place ≡ 0 = omega (arith, c.loop-place-test.false) in
+    subst (λ k. Picks (λ s. ¬ In s (drop k c.args.removals.now)) c.args.records.now.held c.loop-place.records.held) none c.loop-place.invariant.1

@@ -1,5 +1,8 @@
-use Rattle.ghc_core.proofs.Words.{take, In, Picks}
+use Rattle.ghc_core.proofs.Words.{◌≤◌, length, drop, In, Picks}
 use Rattle.ghc_core.proofs.changes.rolling.strike_all.Given as goal
 
-abbrev pub invariant-loop-removal : goal.invariant-loop-removal
-invariant-loop-removal l = Picks (λ s. ¬ In s (take l.removal-index l.removals)) l.initial.records.held l.records.held
+abbrev pub invariant-loop-place : goal.invariant-loop-place
+invariant-loop-place l = (l.place ≤ length l.removals) × Picks (λ s. ¬ In s (drop l.place l.removals)) l.initial.records.held l.records.held
+
+abbrev pub decreases-loop-place : goal.decreases-loop-place
+decreases-loop-place l = l.place

@@ -1,4 +1,4 @@
-use Rattle.ghc_core.proofs.Words.{◌≡◌, ◌+◌, [], ◌∷◌, ◌++◌, refl, subst, sym, ap, ◌∙◌, In, State, Record, numbers, HasRoomToKeep, redid, loaded_opening, number_in, AreLeft, MakesGoal, Binds, World, Core, IsConsistent, AreCarriedOver, told, Comes as comes, Coming, with_coming, CanChange}
+use Rattle.ghc_core.proofs.Words.{◌≡◌, ◌<◌, ◌+◌, [], ◌∷◌, ◌++◌, refl, subst, sym, ap, ◌∙◌, In, State, Record, numbers, redid, loaded_opening, number_in, AreLeft, MakesGoal, Binds, World, Core, IsConsistent, AreCarriedOver, told, Comes as comes, Coming, with_coming, CanChange}
 use Rattle.std.specs.FinMap as finite
 use Rattle.ghc_core.proofs.Arriving.{comes_new, comes_acyclic, comes_consistent, comes_left}
 use Rattle.ghc_core.proofs.Standing.{standing_replay}
@@ -16,9 +16,7 @@ put-requires-clause-new c r i same =
     new.own (subst (λ n. In n (numbers c.self.inside.records.held)) (same ∙ ap (λ (q : Record). q.number) c.take-step.ensures.record) (number_in c.self.inside.records.held r i))
 
 pub put-requires-clause-room : goal.put-requires-clause-room
-put-requires-clause-room c =
-    let room = subst (λ (x : Core). HasRoomToKeep x.world.kept x.room.kept c.args.addition) (sym c.self.view_is) c.requires.room.1 in
-    subst (HasRoomToKeep c.self.inside.records.held c.self.inside.records.room) (sym c.take-step.ensures.record) room
+put-requires-clause-room c = subst (λ (x : Core). 0 < x.room.kept) (sym c.self.view_is) c.requires.room.1
 
 pub put-requires-clause-unbound : goal.put-requires-clause-unbound
 put-requires-clause-unbound c a x i bound again =

@@ -1,4 +1,4 @@
-use Rattle.ghc_core.proofs.Words.{◌≡◌, [], ◌∷◌, ◌++◌, subst, sym, ap, ◌∙◌, In, Record, numbers, HasRoomToKeep, loaded_opening, AreLeft, MakesGoal, Binds, World, Opens, Core, IsConsistent, AreCarriedOver, CanLoad, with_loaded, told, number_in}
+use Rattle.ghc_core.proofs.Words.{◌≡◌, ◌<◌, [], ◌∷◌, ◌++◌, subst, sym, ap, ◌∙◌, In, Record, numbers, loaded_opening, AreLeft, MakesGoal, Binds, World, Opens, Core, IsConsistent, AreCarriedOver, CanLoad, with_loaded, told, number_in}
 use Rattle.ghc_core.proofs.Standing.{standing_replay, standing_well_made}
 use Rattle.ghc_core.proofs.Taking.{unbound_there}
 use Rattle.ghc_core.proofs.StreamNames.{stands_over}
@@ -31,9 +31,7 @@ put-requires-clause-new c r i same =
     found.own (subst (λ n. In n (numbers c.self.inside.records.held)) (same ∙ taken) (number_in c.self.inside.records.held r i))
 
 pub put-requires-clause-room : goal.put-requires-clause-room
-put-requires-clause-room c =
-    let room = subst (λ (x : Core). HasRoomToKeep x.world.kept x.room.kept c.args.addition) (sym c.self.view_is) c.requires.room.1 in
-    subst (HasRoomToKeep c.self.inside.records.held c.self.inside.records.room) (sym c.take-taken.ensures.record) room
+put-requires-clause-room c = subst (λ (x : Core). 0 < x.room.kept) (sym c.self.view_is) c.requires.room.1
 
 pub put-requires-clause-unbound : goal.put-requires-clause-unbound
 put-requires-clause-unbound c a x i bound again =

@@ -1,4 +1,4 @@
-use Rattle.ghc_core.proofs.Words.{◌≡◌, ◌+◌, [], ◌∷◌, ◌++◌, refl, subst, sym, ap, ◌∙◌, In, numbers, HasRoomToKeep, loaded_opening, number_in, AreLeft, Binds, State, World, Core, IsConsistent, Comes as comes, Coming, with_coming, CanChange}
+use Rattle.ghc_core.proofs.Words.{◌≡◌, ◌<◌, ◌+◌, [], ◌∷◌, ◌++◌, refl, subst, sym, ap, ◌∙◌, In, numbers, loaded_opening, number_in, AreLeft, Binds, State, World, Core, IsConsistent, Comes as comes, Coming, with_coming, CanChange}
 use Rattle.ghc_records.specs.Journal.{took, step_of}
 use Rattle.ghc_core.proofs.Arriving.{comes_new, comes_acyclic, comes_consistent, comes_left}
 use Rattle.ghc_core.proofs.Standing.{standing_replay}
@@ -16,7 +16,7 @@ put-requires-clause-new c r i same =
     new.own (subst (λ n. In n (numbers c.self.inside.records.held)) same (number_in c.self.inside.records.held r i))
 
 pub put-requires-clause-room : goal.put-requires-clause-room
-put-requires-clause-room c = subst (λ (x : Core). HasRoomToKeep x.world.kept x.room.kept c.args.step) (sym c.self.view_is) c.requires.room.1
+put-requires-clause-room c = subst (λ (x : Core). 0 < x.room.kept) (sym c.self.view_is) c.requires.room.1
 
 pub put-requires-clause-unbound : goal.put-requires-clause-unbound
 put-requires-clause-unbound c a x i bound again =

@@ -9,4 +9,4 @@ returns-clause-ok c =
     let w = c.args.self.now.world in
     let found = c.in-Ok.ensures in
     let changed = subst (λ (u : World). Changes u (reorders c.in-Ok.arrangement) c.put_in_order.new.self.world) c.in_ok-reserve_to_arrange.ensures.stays.world c.put_in_order.ensures.changed in
-    does (to_arrange found.order) found.found changed refl
+    does (to_arrange found.order) (rw c.index_records.ensures at found.found) (rw c.index_records.ensures at changed) refl

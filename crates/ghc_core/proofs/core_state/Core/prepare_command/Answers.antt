@@ -26,32 +26,40 @@ pub returns-in-Err-prepare_ask-clause-anyway : goal.returns-in-Err-prepare_ask-c
 returns-in-Err-prepare_ask-clause-anyway c = rw c.in-Ask.is (λ f fails. alike (c.in-Err-prepare_ask.ensures.anyway f fails))
 
 pub returns-in-Ok-prepare_undo-clause-answer : goal.returns-in-Ok-prepare_undo-clause-answer
-returns-in-Ok-prepare_undo-clause-answer c = rw c.in-Undo.is ((to_undo c.in-Ok-prepare_undo.ensures.step, c.in-Ok-prepare_undo.ensures.found), tt)
+returns-in-Ok-prepare_undo-clause-answer c = rw c.in-Undo.is ((to_undo c.in-Ok-prepare_undo.ensures.step, rw c.index_records.ensures at c.in-Ok-prepare_undo.ensures.found), tt)
 
 pub returns-in-Ok-prepare_undo-clause-anyway : goal.returns-in-Ok-prepare_undo-clause-anyway
 returns-in-Ok-prepare_undo-clause-anyway c =
-    let found = c.in-Ok-prepare_undo.ensures in
-    rw c.in-Undo.is (λ f fails. absurd (undo_cannot_fail _ c.stands.ensures.standing _ (found.found.0, found.step) found.alone fails))
+    let step = c.in-Ok-prepare_undo.ensures.step in
+    let found = rw c.index_records.ensures at c.in-Ok-prepare_undo.ensures.found in
+    let alone = rw c.index_records.ensures at c.in-Ok-prepare_undo.ensures.alone in
+    rw c.in-Undo.is (λ f fails. absurd (undo_cannot_fail _ c.stands.ensures.standing _ (found.0, step) alone fails))
 
 pub returns-in-Err-prepare_undo-clause-anyway : goal.returns-in-Err-prepare_undo-clause-anyway
-returns-in-Err-prepare_undo-clause-anyway c = rw c.in-Undo.is (λ f why. elim c.in-Err-prepare_undo.ensures.fault [
+returns-in-Err-prepare_undo-clause-anyway c = rw c.in-Undo.is (λ f why. elim (rw c.index_records.ensures at c.in-Err-prepare_undo.ensures.fault) [
   | inl memory ↦ absurd (undo_cannot_fail _ c.stands.ensures.standing memory.1.0 memory.1.1 memory.1.2 why)
   | inr other ↦ ap Err (one_undo_refusal _ c.stands.ensures.standing other why)
 ])
 
+pub returns-in-Err-prepare_undo-clause-answer : goal.returns-in-Err-prepare_undo-clause-answer
+returns-in-Err-prepare_undo-clause-answer c = rw c.in-Undo.is (tt, elim (rw c.index_records.ensures at c.in-Err-prepare_undo.ensures.fault) [ inl memory ↦ inl memory.0 | inr other ↦ inr other ])
+
 pub returns-in-Ok-prepare_rollback-clause-answer : goal.returns-in-Ok-prepare_rollback-clause-answer
-returns-in-Ok-prepare_rollback-clause-answer c = rw c.in-Roll.is ((to_roll c.in-Ok-prepare_rollback.ensures.step, c.in-Ok-prepare_rollback.ensures.found), tt)
+returns-in-Ok-prepare_rollback-clause-answer c = rw c.in-Roll.is ((to_roll c.in-Ok-prepare_rollback.ensures.step, rw c.index_records-in-Roll.ensures at c.in-Ok-prepare_rollback.ensures.found), tt)
 
 pub returns-in-Ok-prepare_rollback-clause-anyway : goal.returns-in-Ok-prepare_rollback-clause-anyway
 returns-in-Ok-prepare_rollback-clause-anyway c =
-    let found = c.in-Ok-prepare_rollback.ensures in
-    rw c.in-Roll.is (λ f why. absurd (why.1 c.in-Ok-prepare_rollback.rollback.first found.found.0 found.step))
+    let found = rw c.index_records-in-Roll.ensures at c.in-Ok-prepare_rollback.ensures.found in
+    rw c.in-Roll.is (λ f why. absurd (why.1 c.in-Ok-prepare_rollback.rollback.first found.0 c.in-Ok-prepare_rollback.ensures.step))
 
 pub returns-in-Err-prepare_rollback-clause-anyway : goal.returns-in-Err-prepare_rollback-clause-anyway
-returns-in-Err-prepare_rollback-clause-anyway c = rw c.in-Roll.is (λ f why. elim c.in-Err-prepare_rollback.ensures.fault [
+returns-in-Err-prepare_rollback-clause-anyway c = rw c.in-Roll.is (λ f why. elim (rw c.index_records-in-Roll.ensures at c.in-Err-prepare_rollback.ensures.fault) [
   | inl memory ↦ absurd (why.1 memory.1.0 memory.1.1.0 memory.1.1.1)
   | inr none ↦ ap Err (none.0 ∙ sym why.0)
 ])
+
+pub returns-in-Err-prepare_rollback-clause-answer : goal.returns-in-Err-prepare_rollback-clause-answer
+returns-in-Err-prepare_rollback-clause-answer c = rw c.in-Roll.is (tt, elim (rw c.index_records-in-Roll.ensures at c.in-Err-prepare_rollback.ensures.fault) [ inl memory ↦ inl memory.0 | inr other ↦ inr other ])
 
 pub returns-in-Ok-prepare_redo-clause-answer : goal.returns-in-Ok-prepare_redo-clause-answer
 returns-in-Ok-prepare_redo-clause-answer c = rw c.in-Redo.is ((to_redo c.in-Ok-prepare_redo.ensures.step, c.in-Ok-prepare_redo.ensures.found), tt)
@@ -59,7 +67,7 @@ returns-in-Ok-prepare_redo-clause-answer c = rw c.in-Redo.is ((to_redo c.in-Ok-p
 pub returns-in-Ok-prepare_arrange-clause-answer : goal.returns-in-Ok-prepare_arrange-clause-answer
 returns-in-Ok-prepare_arrange-clause-answer c =
     let found = c.in-Ok-prepare_arrange.ensures in
-    rw c.in-Arrange.is ((to_arrange (found.order ∙ c.as_slice.ensures), found.found), tt)
+    rw c.in-Arrange.is ((to_arrange (found.order ∙ c.as_slice.ensures), rw c.index_records-in-Arrange.ensures at found.found), tt)
 
 pub returns-in-Ok-clause-anyway : goal.returns-in-Ok-clause-anyway
 returns-in-Ok-clause-anyway c = rw c.in-Input.is (λ f fails. never (c.in-Ok.ensures.anyway f fails))
