@@ -113,6 +113,23 @@ fn execute(
     }
 }
 
+// Makes the index of the record whole, if memory allows, where the command asks which steps depend on which; what a
+// change of the record asks, `Core::prepare_command` does.
+fn index_for(debugger: &mut Debugger, command: &LineCommand)
+    ensures { debugger.new ≡ debugger.old }
+{
+    match command {
+        LineCommand::Causes
+        | LineCommand::Why(_)
+        | LineCommand::Who(_)
+        | LineCommand::Explain(_)
+        | LineCommand::ExplainGoal(_)
+        | LineCommand::Keep(_)
+        | LineCommand::KeepGoal(_) => debugger.core.index_records(),
+        _ => {}
+    }
+}
+
 // Carries a whole line out, and writes the reply; or says which run or listing it asks for.
 fn execute_line(
     alloc: Global,
@@ -127,6 +144,7 @@ fn execute_line(
     ensures fires { Fires (command_of line.now) debugger.old.core.meter.firings debugger.new.core.meter.firings }
 {
     let command = parse(alloc, line)?;
+    index_for(debugger, &command);
     execute(alloc, debugger, &command, reply)
 }
 

@@ -8,4 +8,5 @@ returns-clause-ok c short =
     let s = state_of c.args.debugger.now in
     let t = state_of c.execute.new.debugger in
     let text = string_bytes c.execute.new.reply in
-    if_ok c.execute.result c.execute.ensures.answered c.execute.ensures.answered (λ a h _. line_answered s t c.args.line.now text a short (subst (λ k. IsCommandAnsweredBy s k text t a) c.in_ok-command.ensures.command h))
+    let answered = rw c.index_for.ensures at c.execute.ensures.answered in
+    if_ok c.execute.result answered answered (λ a h _. line_answered s t c.args.line.now text a short (subst (λ k. IsCommandAnsweredBy s k text t a) c.in_ok-command.ensures.command h))
