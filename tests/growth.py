@@ -70,6 +70,12 @@ def walks(size):
     return Session(WALK + start, "start", ["leap"], last="stopped quiet", workers=2)
 
 
+def undone(size):
+    """A walk along a list of so many elements, and the undo of each of its steps, the last one first."""
+    listed = ",".join(size * "1")
+    return Session(WALK, f"walk([{listed}])", ["leap"] + [f"undo {step}" for step in range(size + 1, 0, -1)] + ["save 1"], last=f"end {size + 2}")
+
+
 class Growth(NamedTuple):
     what: str
     session: Callable[[int], Session]
@@ -82,6 +88,7 @@ GROWTHS = [
     Growth("a history whose numbers were searched for the hash of the kit", searched(hash_of_kit), 40_000),
     Growth("runs of one step beside many goals that wait", beside_many, 8_000),
     Growth("walks along closed lists by two workers", walks, 20_000),
+    Growth("undos of all steps of a run", undone, 10_000),
 ]
 
 
