@@ -71,7 +71,7 @@ SHELLS = [
         "(ulimit -v 66000; printf 'leap\\nrecords\\nsave\\n' | $ghcdb loop.ghc --query 'loop(X)')"
         " | sed -n -e '/^stopped/p' -e '/^F1/p' -e '/^ghc-history 2$/,$w saved';"
         " printf 'save\\n' | $ghcdb loop.ghc --query 'loop(X)' --load saved | cmp - saved && grep -c '^[0-9]' saved",
-        "stopped memory\n131071\n",
+        "stopped memory\n131072\n",
     ),
     Shell(
         "memory runs out for several workers",
