@@ -69,5 +69,5 @@ pub fn read_ground_term(alloc: Global, text: &[u8]) -> Result<Ground, Fault>
 {
     let parsed = parsed_term(alloc, text)?;
     let term = lower_closed(alloc, &parsed)?;
-    Ok(Ground::new(term).ok().unwrap())
+    Ok(Ground::of(alloc, term)?.unwrap())
 }

@@ -9,7 +9,7 @@ pub use Rattle.ghc_term.specs.inner.ExpressionView.{depth_of, expression_of}
 pub use Rattle.ghc_term.specs.Goal.{Goal, call}
 pub use Rattle.ghc_term.specs.GoalMap.{ArePlaces, goal_cmp, names_of, values_by}
 pub use Rattle.ghc_term.specs.inner.GoalPlaces.{HasNoNear, HasSameNumbers, IsNear, near_name, near_numbers, number_at, number_in, numbers_in, numbers_of}
-pub use Rattle.ghc_term.specs.inner.GoalShape.{call_of, goal_of}
+pub use Rattle.ghc_term.specs.inner.GoalShape.{goal_of}
 pub use Rattle.ghc_term.specs.GoalText.{IsGoalTextOf, expression_text_by, goal_text, goal_text_by, operand}
 pub use Rattle.ghc_term.specs.InputTerm.{AllInGrammar, IsHead, IsInGrammar, IsInputTerm, IsNameText, arguments_nesting, cell_nesting, deepest, is_name_byte, most_open, nesting, nodes, nodes_of_all, open_behind, rest_nesting}
 pub use Rattle.ghc_term.specs.inner.Known.{AreKnown, AreKnownBut}

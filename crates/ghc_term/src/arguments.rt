@@ -4,12 +4,11 @@ ghost use Rattle.ghc_term.specs.inner.View.{items_of, closed_of, KnowsClosed};
 
 use crate::term::{Term, are_closed};
 
-// Two arguments, as a list cell has, and three stand beside their name; others have memory of their own. With them stands whether no
-// variable stands in them, which takes no memory there.
+// Two arguments, as a list cell has, stand beside their name; others have memory of their own. With them stands whether no variable
+// stands in them, which takes no memory there.
 #[cycle(term)]
 pub(crate) enum Arguments {
     Two(bool, [Term; 2]),
-    Three(bool, [Term; 3]),
     Others(bool, Vec<Term>),
 }
 
@@ -25,37 +24,17 @@ impl Arguments {
         Arguments::Two(is_closed, terms)
     }
 
-    // Three arguments.
-    #[inline(always)]
-    pub(crate) fn three(first: Term, second: Term, third: Term) -> Arguments
-        ensures items { items_of result ≡ first ∷ second ∷ third ∷ [] }
-        ensures closed { KnowsClosed result }
-    {
-        let terms = [first, second, third];
-        let is_closed = are_closed(&terms);
-        Arguments::Three(is_closed, terms)
-    }
-
     // The arguments of the list.
     pub(crate) fn of(mut list: Vec<Term>) -> Arguments
         ensures items { items_of result ≡ list.items }
         ensures closed { KnowsClosed result }
     {
-        match list.len() {
-            2 => {
-                let second = list.pop().unwrap();
-                Arguments::two(list.pop().unwrap(), second)
-            }
-            3 => {
-                let third = list.pop().unwrap();
-                let second = list.pop().unwrap();
-                Arguments::three(list.pop().unwrap(), second, third)
-            }
-            _ => {
-                let is_closed = are_closed(list.as_slice());
-                Arguments::Others(is_closed, list)
-            }
+        if list.len() == 2 {
+            let second = list.pop().unwrap();
+            return Arguments::two(list.pop().unwrap(), second);
         }
+        let is_closed = are_closed(list.as_slice());
+        Arguments::Others(is_closed, list)
     }
 
     // Whether no variable stands in them: one step.
@@ -65,7 +44,6 @@ impl Arguments {
     {
         match self {
             Arguments::Two(is_closed, _) => *is_closed,
-            Arguments::Three(is_closed, _) => *is_closed,
             Arguments::Others(is_closed, _) => *is_closed,
         }
     }
@@ -77,7 +55,6 @@ impl Arguments {
     {
         match self {
             Arguments::Two(_, terms) => terms,
-            Arguments::Three(_, terms) => terms,
             Arguments::Others(_, list) => list.as_slice(),
         }
     }
@@ -91,19 +68,10 @@ pub(crate) fn parts_of_two(terms: [Term; 2]) -> (Term, Term)
     (first, second)
 }
 
-// The three terms.
-pub(crate) fn parts_of_three(terms: [Term; 3]) -> (Term, Term, Term)
-    ensures { result.0 ∷ result.1 ∷ result.2 ∷ [] ≡ terms }
-{
-    let [first, second, third] = terms;
-    (first, second, third)
-}
-
 // Drops the arguments.
 pub(crate) fn give_up(arguments: Arguments) {
     match arguments {
         Arguments::Two(_, [_first, _last]) => {}
-        Arguments::Three(_, [_first, _second, _last]) => {}
         Arguments::Others(_, _list) => {}
     }
 }

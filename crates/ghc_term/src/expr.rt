@@ -15,16 +15,16 @@ pub struct Expr {
     shape: Shape,
 }
 
+// An operator stands before the piece of its operands, where it takes no memory.
 #[cycle(expr)]
 enum Shape {
     Leaf(Term),
-    Operation(Arc<Operation>),
+    Operation(Operator, Arc<Operands>),
 }
 
-// An operator between two expressions.
+// The two expressions that an operator stands between.
 #[cycle(expr)]
-struct Operation {
-    operator: Operator,
+struct Operands {
     left: Expr,
     right: Expr,
 }
@@ -69,20 +69,12 @@ impl Expr {
     ) -> Result<Expr, AllocError>
         ensures { IfOk result (λ e. e ≡ operation operator left right) }
     {
-        match Arc::new(
-            alloc,
-            Operation {
-                operator,
-                left,
-                right,
-            },
-        ) {
-            Ok(operation) => Ok(Expr {
-                shape: Shape::Operation(operation),
+        match Arc::new(alloc, Operands { left, right }) {
+            Ok(operands) => Ok(Expr {
+                shape: Shape::Operation(operator, operands),
             }),
             Err(failed) => {
-                let Operation {
-                    operator: _operator,
+                let Operands {
                     left: _left,
                     right: _right,
                 } = failed.value;
@@ -97,8 +89,8 @@ impl Expr {
     {
         match &self.shape {
             Shape::Leaf(term) => Ok(Expr::leaf(term.share()?)),
-            Shape::Operation(operation) => Ok(Expr {
-                shape: Shape::Operation(Arc::try_clone(operation)?),
+            Shape::Operation(operator, operands) => Ok(Expr {
+                shape: Shape::Operation(*operator, Arc::try_clone(operands)?),
             }),
         }
     }
@@ -109,8 +101,8 @@ impl Expr {
     {
         match &self.shape {
             Shape::Leaf(term) => ExprView::Leaf(term),
-            Shape::Operation(operation) => {
-                ExprView::Operation(operation.operator, &operation.left, &operation.right)
+            Shape::Operation(operator, operands) => {
+                ExprView::Operation(*operator, &operands.left, &operands.right)
             }
         }
     }
@@ -123,14 +115,13 @@ impl Drop for Expr {
             let Expr { shape } = self;
             match shape {
                 Shape::Leaf(_term) => return,
-                Shape::Operation(operation) => {
+                Shape::Operation(_operator, operands) => {
                     let Some(
-                        Operation {
-                            operator: _operator,
+                        Operands {
                             left,
                             right: _right,
                         },
-                    ) = Arc::into_inner(operation)
+                    ) = Arc::into_inner(operands)
                     else {
                         return;
                     };

@@ -1,27 +1,30 @@
 // Goals: calls, unifications, assignments and streams.
-ghost use Rattle.std.specs.Prelude.{◌≡◌, ◌≢◌, ℕ, List, IfOk, IfSome, IfNone};
+ghost use Rattle.std.specs.Prelude.{◌≡◌, [], IfOk};
 ghost use Rattle.ghc_term.specs.Goal.{call, unify, assign, stream};
-ghost use Rattle.ghc_term.specs.inner.GoalShape.{IsCall, call_of};
-ghost use Rattle.ghc_term.specs.Tree.{Tree};
 
 use crate::expr::Expr;
 use crate::goal_view::GoalView;
 use crate::name::Name;
 use crate::term::Term;
 use crate::var_name::VarName;
-use crate::view::TermView;
 use std::alloc::{AllocError, Global};
 use std::marker::Model;
+use std::sync::Arc;
 
-/// A goal as written. Its parts are shared, so a goal of any size is lent once more by `share` in one step.
+/// A goal as written. Its parts are shared, so a goal of any size is lent once more by `share` in five steps at most.
 pub struct Goal {
     shape: Shape,
 }
 
-// A call is held as the atom or structure that it is written as.
+// A call of up to four arguments has them beside its name; the arguments of another one have memory of their own.
 #[derive(Drop)]
 enum Shape {
-    Call(Term),
+    Nothing(Name),
+    One(Name, [Term; 1]),
+    Two(Name, [Term; 2]),
+    Three(Name, [Term; 3]),
+    Four(Name, [Term; 4]),
+    Many(Name, Arc<Vec<Term>>),
     Unify(Term, Term),
     Assign(Term, Expr),
     Stream(u32, VarName),
@@ -35,37 +38,98 @@ impl Model for Goal {
 
     ghost coded = { goal_code };
 
-    ghost use Rattle.ghc_term.specs.inner.GoalShape.{goal_of, IsCallShape};
+    ghost use Rattle.ghc_term.specs.inner.GoalShape.{goal_of};
 
     ghost view = { λ g. goal_of g.shape };
+}
 
-    ghost invariant = { λ g. IsCallShape g.shape };
+// The handle of arguments for which there is no place beside a name.
+fn apart(alloc: Global, arguments: Vec<Term>) -> Result<Arc<Vec<Term>>, AllocError>
+    ensures { IfOk result (λ kept. kept.value.items ≡ arguments.items) }
+{
+    match Arc::new(alloc, arguments) {
+        Ok(kept) => Ok(kept),
+        Err(_) => Err(AllocError),
+    }
 }
 
 impl Goal {
     ghost use Rattle.ghc_term.specs.inner.GoalShown.{shown};
 
-    /// A call; without arguments it is held as an atom.
-    pub fn call(alloc: Global, name: Name, arguments: Vec<Term>) -> Result<Goal, AllocError>
+    /// A call. It takes memory only where there are more arguments than four.
+    pub fn call(alloc: Global, name: Name, mut arguments: Vec<Term>) -> Result<Goal, AllocError>
         ensures { IfOk result (λ g. g ≡ call name arguments.items) }
     {
-        let term = if arguments.is_empty() {
-            Term::atom(name)
-        } else {
-            Term::structure(alloc, name, arguments)?
+        let shape = match arguments.len() {
+            0 => Shape::Nothing(name),
+            1 => Shape::One(name, [arguments.pop().unwrap()]),
+            2 => {
+                let second = arguments.pop().unwrap();
+                Shape::Two(name, [arguments.pop().unwrap(), second])
+            }
+            3 => {
+                let third = arguments.pop().unwrap();
+                let second = arguments.pop().unwrap();
+                Shape::Three(name, [arguments.pop().unwrap(), second, third])
+            }
+            4 => {
+                let fourth = arguments.pop().unwrap();
+                let third = arguments.pop().unwrap();
+                let second = arguments.pop().unwrap();
+                Shape::Four(name, [arguments.pop().unwrap(), second, third, fourth])
+            }
+            _ => Shape::Many(name, apart(alloc, arguments)?),
         };
-        Ok(Goal {
-            shape: Shape::Call(term),
-        })
+        Ok(Goal { shape })
     }
 
-    /// The call that is written as the term, an atom or a structure.
-    pub fn written_as(term: Term) -> Goal
-        requires { IsCall term }
-        ensures { result ≡ call_of term }
+    /// A call without arguments.
+    #[inline(always)]
+    pub fn call_of_none(name: Name) -> Goal
+        ensures { result ≡ call name [] }
     {
         Goal {
-            shape: Shape::Call(term),
+            shape: Shape::Nothing(name),
+        }
+    }
+
+    /// A call of one argument.
+    #[inline(always)]
+    pub fn call_of_one(name: Name, argument: [Term; 1]) -> Goal
+        ensures { result ≡ call name argument }
+    {
+        Goal {
+            shape: Shape::One(name, argument),
+        }
+    }
+
+    /// A call of two arguments.
+    #[inline(always)]
+    pub fn call_of_two(name: Name, arguments: [Term; 2]) -> Goal
+        ensures { result ≡ call name arguments }
+    {
+        Goal {
+            shape: Shape::Two(name, arguments),
+        }
+    }
+
+    /// A call of three arguments.
+    #[inline(always)]
+    pub fn call_of_three(name: Name, arguments: [Term; 3]) -> Goal
+        ensures { result ≡ call name arguments }
+    {
+        Goal {
+            shape: Shape::Three(name, arguments),
+        }
+    }
+
+    /// A call of four arguments.
+    #[inline(always)]
+    pub fn call_of_four(name: Name, arguments: [Term; 4]) -> Goal
+        ensures { result ≡ call name arguments }
+    {
+        Goal {
+            shape: Shape::Four(name, arguments),
         }
     }
 
@@ -96,31 +160,36 @@ impl Goal {
         }
     }
 
-    /// The same goal once more, with its parts shared: one step. Fails where a count of handles is full.
-    #[inline(always)]
+    /// The same goal once more, with its parts shared: five steps at most. Fails where a count of handles is full.
     pub fn share(&self) -> Result<Goal, AllocError>
         ensures { IfOk result (λ g. g ≡ self.now) }
     {
         let shape = match &self.shape {
-            Shape::Call(term) => Shape::Call(term.share()?),
+            Shape::Nothing(name) => Shape::Nothing(name.share()?),
+            Shape::One(name, [first]) => Shape::One(name.share()?, [first.share()?]),
+            Shape::Two(name, [first, second]) => {
+                Shape::Two(name.share()?, [first.share()?, second.share()?])
+            }
+            Shape::Three(name, [first, second, third]) => {
+                let name = name.share()?;
+                Shape::Three(name, [first.share()?, second.share()?, third.share()?])
+            }
+            Shape::Four(name, [first, second, third, fourth]) => {
+                let name = name.share()?;
+                let arguments = [
+                    first.share()?,
+                    second.share()?,
+                    third.share()?,
+                    fourth.share()?,
+                ];
+                Shape::Four(name, arguments)
+            }
+            Shape::Many(name, arguments) => Shape::Many(name.share()?, Arc::try_clone(arguments)?),
             Shape::Unify(left, right) => Shape::Unify(left.share()?, right.share()?),
             Shape::Assign(left, value) => Shape::Assign(left.share()?, value.share()?),
             Shape::Stream(number, tail) => Shape::Stream(*number, *tail),
         };
         Ok(Goal { shape })
-    }
-
-    /// The atom or the structure as which the goal is written, if it is a call: one step.
-    pub fn as_term(&self) -> Option<&Term>
-        ensures call { IfSome result (λ t. IsCall t.now × (self.now ≡ call_of t.now)) }
-        ensures other { IfNone result ((f : List ℕ) (ts : List Tree) → self.now ≢ call f ts) }
-    {
-        match &self.shape {
-            Shape::Call(term) => Some(term),
-            Shape::Unify(_, _) => None,
-            Shape::Assign(_, _) => None,
-            Shape::Stream(_, _) => None,
-        }
     }
 
     /// The goal lent in parts: one step.
@@ -129,11 +198,12 @@ impl Goal {
         ensures { shown result ≡ self.now }
     {
         match &self.shape {
-            Shape::Call(term) => match term.view() {
-                TermView::Atom(name) => GoalView::Call(name, &[]),
-                TermView::Struct(name, arguments) => GoalView::Call(name, arguments),
-                _ => unreachable!(),
-            },
+            Shape::Nothing(name) => GoalView::Call(name, &[]),
+            Shape::One(name, arguments) => GoalView::Call(name, arguments),
+            Shape::Two(name, arguments) => GoalView::Call(name, arguments),
+            Shape::Three(name, arguments) => GoalView::Call(name, arguments),
+            Shape::Four(name, arguments) => GoalView::Call(name, arguments),
+            Shape::Many(name, arguments) => GoalView::Call(name, arguments.as_slice()),
             Shape::Unify(left, right) => GoalView::Unify(left, right),
             Shape::Assign(left, value) => GoalView::Assign(left, value),
             Shape::Stream(number, tail) => GoalView::Stream(*number, *tail),

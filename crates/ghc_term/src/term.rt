@@ -3,7 +3,7 @@ ghost use Rattle.std.specs.Prelude.{◌≡◌, ◌≢◌, ◌↔◌, [], ◌∷�
 ghost use Rattle.ghc_term.specs.Tree.{variable, integer, atom, node, trees, IsClosed, AreClosed};
 ghost use Rattle.ghc_term.specs.inner.View.{items_of, KnowsClosed};
 
-use crate::arguments::{Arguments, give_up, parts_of_three, parts_of_two};
+use crate::arguments::{Arguments, give_up, parts_of_two};
 use crate::name::Name;
 use crate::var_name::VarName;
 use crate::view::TermView;
@@ -99,20 +99,6 @@ impl Term {
         ensures { IfOk result (λ t. t ≡ node name (trees (first ∷ second ∷ []))) }
     {
         Term::over(alloc, name, Arguments::two(first, second))
-    }
-
-    /// A structure of three arguments, in one piece of memory.
-    #[inline(always)]
-    pub fn triple(
-        alloc: Global,
-        name: Name,
-        first: Term,
-        second: Term,
-        third: Term,
-    ) -> Result<Term, AllocError>
-        ensures { IfOk result (λ t. t ≡ node name (trees (first ∷ second ∷ third ∷ []))) }
-    {
-        Term::over(alloc, name, Arguments::three(first, second, third))
     }
 
     // A name over these arguments, of which there is one at least.
@@ -213,10 +199,6 @@ impl Drop for Term {
                     let last = match arguments {
                         Arguments::Two(_, terms) => {
                             let (_first, last) = parts_of_two(terms);
-                            last
-                        }
-                        Arguments::Three(_, terms) => {
-                            let (_first, _second, last) = parts_of_three(terms);
                             last
                         }
                         Arguments::Others(_, mut list) => {

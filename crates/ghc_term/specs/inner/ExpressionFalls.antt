@@ -9,4 +9,4 @@ use Rattle.ghc_term.specs.inner.ExpressionView.{expression_of, depth_of}
 -- The depth of an expression is above that of each operand in it.
 pub deep_falls : (s : Shape) → max (deep-Shape s) 0 ≤ depth_of (expression_of s)
 deep_falls (Leaf t) = omega arith
-deep_falls (Operation o) = omega arith
+deep_falls (Operation o s) = omega arith

@@ -7,7 +7,7 @@ use Rattle.ghc_term.specs.Expression.{Expression, leaf, operation}
 -- the expression that one level, a leaf or an operator with its operands, stands for
 abbrev pub expression_of : Shape → Expression
 expression_of (Leaf t) = leaf t
-expression_of (Operation o) = operation o.value.operator o.value.left o.value.right
+expression_of (Operation o s) = operation o s.value.left s.value.right
 
 -- how many operators stand within each other in an expression at most
 abbrev pub depth_of : Expression → ℕ

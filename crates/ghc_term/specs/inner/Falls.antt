@@ -5,7 +5,7 @@ use denote.Param.Weighed.{most}
 use Rattle.ghc_term.specs.declared.term.Shape.{Shape}
 use Rattle.ghc_term.specs.declared.term.Shape.TheVariants.{Var, Int, Atom, Struct}
 use Rattle.ghc_term.specs.declared.arguments.Arguments.{Arguments}
-use Rattle.ghc_term.specs.declared.arguments.Arguments.TheVariants.{Two, Three, Others}
+use Rattle.ghc_term.specs.declared.arguments.Arguments.TheVariants.{Two, Others}
 use Rattle.ghc_term.specs.declared.term.Term.TheDeep.{deep-Shape, deep-Arguments}
 use Rattle.ghc_term.specs.Tree.{Tree, trees}
 use Rattle.ghc_term.specs.inner.View.{tree_of, items_of, height, height_of_all}
@@ -17,7 +17,6 @@ most_height (t ∷ ts) = omega (arith, most_height ts)
 
 most_items : (a : Arguments) → deep-Arguments a ≤ height_of_all (trees (items_of a))
 most_items (Two _ ts) = omega (arith, most_height ts)
-most_items (Three _ ts) = omega (arith, most_height ts)
 most_items (Others _ ts) = omega (arith, most_height ts.items)
 
 -- The height of a term is above that of each argument in it.

@@ -3,19 +3,17 @@ use Rattle.std.specs.Prelude.{◌≢◌, ◌↔◌, ℕ, Bool, List, ◌+◌, []
 use Rattle.ghc_term.specs.declared.term.Shape.{Shape}
 use Rattle.ghc_term.specs.declared.term.Shape.TheVariants.{Var, Int, Atom, Struct}
 use Rattle.ghc_term.specs.declared.arguments.Arguments.{Arguments}
-use Rattle.ghc_term.specs.declared.arguments.Arguments.TheVariants.{Two, Three, Others}
+use Rattle.ghc_term.specs.declared.arguments.Arguments.TheVariants.{Two, Others}
 use Rattle.ghc_term.specs.Tree.{Tree, variable, integer, node, Trees, none, more, trees, atom, AreClosed}
 
 -- the arguments in order
 abbrev pub items_of : Arguments → List Tree
 items_of (Two _ ts) = ts
-items_of (Three _ ts) = ts
 items_of (Others _ ts) = ts.items
 
 -- what stands with the arguments
 abbrev pub closed_of : Arguments → Bool
 closed_of (Two is_closed _) = is_closed
-closed_of (Three is_closed _) = is_closed
 closed_of (Others is_closed _) = is_closed
 
 -- it says whether no variable stands in them

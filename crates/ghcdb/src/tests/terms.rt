@@ -122,14 +122,14 @@ fn half_a_million_operators_take_no_stack(rt: HostRuntime) -> Result<(), Fail> {
     Ok(())
 }
 
-fn is_accepted(term: Term) -> bool {
-    Ground::new(term).is_ok()
+fn is_accepted(alloc: Global, term: Term) -> Result<bool, AllocError> {
+    Ok(Ground::of(alloc, term)?.is_some())
 }
 
 // Whether the name over so many times 1, or without arguments, is an input term.
 fn is_name_accepted(alloc: Global, name: &str, count: usize) -> Result<bool, AllocError> {
     let term = over(alloc, name, &Term::integer(1), count)?;
-    Ok(is_accepted(term))
+    is_accepted(alloc, term)
 }
 
 const NAMES: &[(&str, usize, bool)] = &[
@@ -177,7 +177,7 @@ fn names_of_input_terms(rt: HostRuntime) -> Result<(), Fail> {
 fn is_list_accepted(alloc: Global, cells: u32, levels: u32) -> Result<bool, AllocError> {
     let list = ones(alloc, cells, atom(alloc, "[]")?)?;
     let term = nested(alloc, list, levels, 1)?;
-    Ok(is_accepted(term))
+    is_accepted(alloc, term)
 }
 
 // Whether the term is an input term within so many structures of so many times the one within.
@@ -188,7 +188,7 @@ fn is_nest_accepted(
     count: usize,
 ) -> Result<bool, AllocError> {
     let term = nested(alloc, term, levels, count)?;
-    Ok(is_accepted(term))
+    is_accepted(alloc, term)
 }
 
 // Cells and levels: 4,999 cells have 9,999 nodes, and a structure one more; a list opens a bracket of its own.
@@ -226,9 +226,9 @@ fn sizes_of_input_terms(rt: HostRuntime) -> Result<(), Fail> {
 
 #[test]
 fn texts_of_input_terms(rt: HostRuntime) -> Result<(), Fail> {
-    assert!(rt; is_accepted(long_atom(rt.alloc(), 1_048_576)?));
-    assert!(rt; !is_accepted(long_atom(rt.alloc(), 1_048_577)?));
-    assert!(rt; !is_accepted(variable(1)));
+    assert!(rt; is_accepted(rt.alloc(), long_atom(rt.alloc(), 1_048_576)?)?);
+    assert!(rt; !is_accepted(rt.alloc(), long_atom(rt.alloc(), 1_048_577)?)?);
+    assert!(rt; !is_accepted(rt.alloc(), variable(1))?);
     assert!(rt; !is_nest_accepted(rt.alloc(), variable(1), 1, 1)?);
     Ok(())
 }

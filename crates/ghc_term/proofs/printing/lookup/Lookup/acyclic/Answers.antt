@@ -1,4 +1,4 @@
-use Rattle.ghc_term.proofs.Words.{◌≡◌, refl, ap, subst, sym, value_at, IsAcyclic}
+use Rattle.ghc_term.proofs.Words.{ap, subst, sym, value_at, IsAcyclic}
 use Rattle.ghc_term.specs.inner.Lookup.{held_in}
 use Rattle.ghc_term.proofs.Total.{empty_acyclic}
 use Rattle.ghc_term.proofs.printing.lookup.Lookup.acyclic.Goals as goal

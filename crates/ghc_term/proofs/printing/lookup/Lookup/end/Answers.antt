@@ -1,4 +1,4 @@
-use Rattle.ghc_term.proofs.Words.{◌≡◌, List, [], ◌∷◌, sym, subst, value_at, Tree, variable, integer, node, VarName, Leads, at_integer, at_node, at_free, name_cmp}
+use Rattle.ghc_term.proofs.Words.{List, [], ◌∷◌, sym, subst, value_at, Tree, variable, integer, node, VarName, Leads, at_integer, at_node, at_free, name_cmp}
 use Rattle.std.specs.FinMap as finite
 use Rattle.ghc_term.specs.inner.Lookup.{held_in}
 use Rattle.ghc_term.proofs.printing.lookup.Lookup.end.Goals as goal

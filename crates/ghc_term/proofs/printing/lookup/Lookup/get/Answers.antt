@@ -1,4 +1,4 @@
-use Rattle.ghc_term.proofs.Words.{◌≡◌, sym, ap, ◌∙◌, value_at, name_cmp}
+use Rattle.ghc_term.proofs.Words.{sym, ap, ◌∙◌, value_at, name_cmp}
 use Rattle.std.specs.FinMap as finite
 use Rattle.ghc_term.specs.inner.Lookup.{held_in}
 use Rattle.ghc_term.proofs.printing.lookup.Lookup.get.Goals as goal
