@@ -45,10 +45,10 @@ expression_sync : IsSync expression.the_row
 expression_sync = search (term_sync, term_send, operator.the_sync, operator.the_send, of_expressions.crosses, crosses, sendable) depth 60 fits 20000
 
 goal_send : IsSend goal.the_row
-goal_send = search (term_send, expression_send, crosses, sendable) depth 60 fits 20000
+goal_send = search (term_send, term_sync, expression_send, crosses, sendable) depth 60 fits 20000
 
 goal_sync : IsSync goal.the_row
-goal_sync = search (term_sync, expression_sync, crosses, sendable) depth 60 fits 20000
+goal_sync = search (term_sync, term_send, expression_sync, crosses, sendable) depth 60 fits 20000
 
 bindings_send : IsSend bindings.the_row
 bindings_send = search (term_send, crosses, sendable) depth 60 fits 20000
@@ -57,10 +57,10 @@ bindings_sync : IsSync bindings.the_row
 bindings_sync = search (term_sync, crosses, sendable) depth 60 fits 20000
 
 act_send : IsSend act.the_field.row
-act_send = search (term_send, goal_send, goal_sync, crosses, sendable) depth 60 fits 20000
+act_send = search (term_send, term_sync, goal_send, goal_sync, crosses, sendable) depth 60 fits 20000
 
 act_sync : IsSync act.the_field.row
-act_sync = search (term_sync, goal_sync, goal_send, crosses, sendable) depth 60 fits 20000
+act_sync = search (term_sync, term_send, goal_sync, goal_send, crosses, sendable) depth 60 fits 20000
 
 made_goal_send : IsSend made_goal.the_row
 made_goal_send = search (goal_send, goal_sync, crosses, sendable) depth 60 fits 20000
@@ -75,10 +75,10 @@ effect_sync : IsSync effect.the_row
 effect_sync = search (bindings_sync, goal_sync, goal_send, crosses, sendable) depth 60 fits 20000
 
 taken_send : IsSend taken.the_row
-taken_send = search (made_goal_send, made_goal_sync, act_send, act_sync, effect_send, effect_sync, goal_name.the_send, goal_name.the_sync, crosses, sendable) depth 60 fits 20000
+taken_send = search (goal_send, goal_sync, act_send, act_sync, effect_send, effect_sync, goal_name.the_send, goal_name.the_sync, crosses, sendable) depth 60 fits 20000
 
 taken_sync : IsSync taken.the_row
-taken_sync = search (made_goal_sync, made_goal_send, act_sync, act_send, effect_sync, effect_send, goal_name.the_sync, goal_name.the_send, crosses, sendable) depth 60 fits 20000
+taken_sync = search (goal_sync, goal_send, act_sync, act_send, effect_sync, effect_send, goal_name.the_sync, goal_name.the_send, crosses, sendable) depth 60 fits 20000
 
 goals_send : IsSend goals.the_row
 goals_send = search (made_goal_send, goal_name.the_send, maps.crosses, crosses, sendable) depth 60 fits 20000

@@ -1,5 +1,5 @@
 -- Terms and expressions with their variables replaced, from the inside out.
-use Rattle.ghc_fire.proofs.Words.{◌≡◌, ℕ, List, [], ◌∷◌, ◌++◌, map, refl, sym, ap, ◌∙◌, inl, inr, map_push, VarName, Operator, Tree, variable, integer, node, Trees, none, more, trees, list_of, IsClosed, Expression, operation, call, IsCall, call_of, replace, replace_all, replace_in_goal, plugged, operated, Front, Occurs, OccursIn}
+use Rattle.ghc_fire.proofs.Words.{◌≡◌, ℕ, List, [], ◌∷◌, ◌++◌, map, refl, sym, ap, ◌∙◌, inl, inr, map_push, VarName, Operator, Tree, variable, integer, node, Trees, none, more, trees, IsClosed, Expression, operation, replace, replace_all, plugged, operated, Front, Occurs, OccursIn}
 
 pub plugged_push : (fs : List Front) (f : Front) (t : Tree) → plugged (fs ++ f ∷ []) t ≡ plugged fs (node f.name (trees (f.arguments.items ++ t ∷ [])))
 plugged_push [] f t = refl
@@ -27,15 +27,6 @@ module _ (s : VarName → Tree) where
 
   pub replace_closed : (t : Tree) → IsClosed t → replace s t ≡ t
   replace_closed t h = replace_kept t (λ x o. absurd (h x o))
-
-  list_replaced : (ts : Trees) → list_of (replace_all s ts) ≡ map (replace s) (list_of ts)
-  list_replaced none = refl
-  list_replaced (more t ts) = ap (λ us. replace s t ∷ us) (list_replaced ts)
-
-  -- the tree as which a call is written
-  pub call_replaced : (t : Tree) → IsCall t → IsCall (replace s t) × (call_of (replace s t) ≡ replace_in_goal s (call_of t))
-  call_replaced (node f ts) h = (tt, ap (call f) (list_replaced ts))
-  call_replaced _ h = absurd h
 
   -- one structure further in
   pub further_in : (fs : List Front) (g : Front) (f : List ℕ) (whole front : List Tree) (last place : Tree) → node f (trees whole) ≡ place → whole ≡ front ++ last ∷ [] → g.name ≡ f → g.arguments.items ≡ map (replace s) front

@@ -57,7 +57,6 @@ pub use Rattle.ghc_term.specs.Bindings.{Comes, IsAcyclic, Leads, Reaches, along,
 pub use Rattle.ghc_term.specs.Expression.{Expression, leaf, operation}
 pub use Rattle.ghc_term.specs.inner.ExpressionView.{depth_of}
 pub use Rattle.ghc_term.specs.Goal.{Goal, assign, call, stream, unify}
-pub use Rattle.ghc_term.specs.inner.GoalShape.{IsCall, call_of}
 pub use Rattle.ghc_term.specs.Lists.{In}
 pub use Rattle.ghc_term.specs.Sets.{Variables}
 pub use Rattle.ghc_term.specs.Store.{StoreValue, value_at}

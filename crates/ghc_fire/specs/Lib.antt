@@ -1,4 +1,5 @@
 pub mod Instance
+pub mod Made
 pub mod Effect
 pub mod Asked
 pub mod Attempt

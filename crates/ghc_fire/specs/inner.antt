@@ -6,5 +6,6 @@ pub mod EffectCode
 pub mod FiringCode
 pub mod GoalsCode
 pub mod Made
+pub mod MadeCode
 pub mod Renaming
 pub mod Tail

@@ -117,13 +117,8 @@ pub fn ask_as(alloc: Global, ask: &Ask, number: u32) -> Result<(Asked, Effect), 
 {
     let asked = number_asked(alloc, ask, number)?;
     let shared = share_goals(alloc, asked.goals())?;
-    let makes = Made::of(alloc, shared)?;
-    let effect = Effect::new(
-        Variables::new(alloc),
-        Bindings::new(alloc),
-        makes,
-        ask.fresh(),
-    );
+    let makes = Made::of(alloc, shared, ask.fresh())?;
+    let effect = Effect::new(Variables::new(alloc), Bindings::new(alloc), makes);
     Ok((asked, effect))
 }
 

@@ -200,7 +200,7 @@ fn reduce(
 pub fn finish(alloc: Global, effect: Effect, number: u32) -> Result<Effect, AllocError>
     ensures { IfOk result (λ e. e ≡ under number effect) }
 {
-    let (reads, binds, makes, fresh) = effect.into_parts();
+    let (reads, binds, makes) = effect.into_parts();
     let makes = number_goals(alloc, &makes, number)?;
-    Ok(Effect::new(reads, binds, makes, fresh))
+    Ok(Effect::new(reads, binds, makes))
 }

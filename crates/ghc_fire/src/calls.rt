@@ -46,8 +46,7 @@ fn try_clause_as_step(
         Says::Waits => Ok(Verdict::Waits),
         Says::Yes => {
             let makes = instance(alloc, clause, head_variables, &met.stands, step)?;
-            let fresh = clause.fresh();
-            let effect = Effect::new(met.looked, Bindings::new(alloc), makes, fresh);
+            let effect = Effect::new(met.looked, Bindings::new(alloc), makes);
             Ok(Verdict::Reduces(effect))
         }
     }

@@ -14,7 +14,6 @@ pub struct Effect {
     reads: Variables,
     binds: Bindings,
     makes: Made,
-    fresh: u32,
 }
 
 impl Drop for Effect {
@@ -23,7 +22,6 @@ impl Drop for Effect {
             reads: _reads,
             binds: _binds,
             makes: _makes,
-            fresh: _,
         } = self;
     }
 }
@@ -39,9 +37,9 @@ impl Model for Effect {
     ghost use Rattle.std.specs.Prelude.{◌≤◌, length};
     ghost use Rattle.ghc_flat.specs.Flat.{most_goals};
 
-    ghost view = { λ e. record { reads = e.reads; binds = e.binds; makes = e.makes; fresh = e.fresh } };
+    ghost view = { λ e. record { reads = e.reads; binds = e.binds; makes = e.makes.goals; fresh = e.makes.fresh } };
 
-    ghost invariant = { λ e. length e.makes ≤ most_goals };
+    ghost invariant = { λ e. length e.makes.goals ≤ most_goals };
 }
 
 // Whether the lists have the same goals in the same order.
@@ -61,18 +59,17 @@ fn same_goals(alloc: Global, lefts: &[Goal], rights: &[Goal]) -> Result<bool, Al
 
 impl Effect {
     /// The effect of these parts, with no more goals than a body may have.
-    pub fn new(reads: Variables, binds: Bindings, makes: Made, fresh: u32) -> Effect
-        requires { length makes ≤ most_goals }
+    pub fn new(reads: Variables, binds: Bindings, makes: Made) -> Effect
+        requires { length makes.goals ≤ most_goals }
         ensures reads { result.reads ≡ reads }
         ensures binds { result.binds ≡ binds }
-        ensures makes { result.makes ≡ makes }
-        ensures fresh { result.fresh ≡ fresh }
+        ensures makes { result.makes ≡ makes.goals }
+        ensures fresh { result.fresh ≡ makes.fresh }
     {
         Effect {
             reads,
             binds,
             makes,
-            fresh,
         }
     }
 
@@ -97,9 +94,10 @@ impl Effect {
         self.makes.as_slice()
     }
 
-    /// The same goals, in the piece in which they are held.
+    /// What the step makes, as it is held.
     pub fn piece(&self) -> &Made
-        ensures { result.now ≡ self.now.makes }
+        ensures goals { result.now.goals ≡ self.now.makes }
+        ensures fresh { result.now.fresh ≡ self.now.fresh }
     {
         &self.makes
     }
@@ -115,24 +113,23 @@ impl Effect {
     pub fn fresh(&self) -> u32
         ensures { result ≡ self.now.fresh }
     {
-        self.fresh
+        self.makes.fresh()
     }
 
-    /// What the step reads, binds and makes, and how many variables it makes, given up.
-    pub fn into_parts(self) -> (Variables, Bindings, Made, u32)
+    /// What the step reads, binds and makes, given up.
+    pub fn into_parts(self) -> (Variables, Bindings, Made)
         ensures reads { result.0 ≡ self.reads }
         ensures binds { result.1 ≡ self.binds }
-        ensures makes { result.2 ≡ self.makes }
+        ensures makes { result.2.goals ≡ self.makes }
         ensures few { length self.makes ≤ most_goals }
-        ensures fresh { result.3 ≡ self.fresh }
+        ensures fresh { result.2.fresh ≡ self.fresh }
     {
         let Effect {
             reads,
             binds,
             makes,
-            fresh,
         } = self;
-        (reads, binds, makes, fresh)
+        (reads, binds, makes)
     }
 
     /// Whether the other is the same effect. It goes once through both, up to the first difference.

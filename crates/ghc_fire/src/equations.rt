@@ -26,7 +26,7 @@ pub fn attempt_unification(
         ⊎ ((P : program_spec) → UnificationAnswers P left.now right.now (value_at store.now.held) (refused f))) }
 {
     let solved = unify(alloc, left, right, store)?;
-    Ok(Effect::new(solved.reads, solved.binds, Made::none(), 0))
+    Ok(Effect::new(solved.reads, solved.binds, Made::none(0)))
 }
 
 /// The effect of a step that assigns the value of the expression. `Waits` or `Arithmetic` where it has none, and `Clash`
@@ -49,5 +49,5 @@ pub fn attempt_assignment(
     };
     let Solved { binds, mut reads } = unify(alloc, left, &Term::integer(integer), store)?;
     add_chains(alloc, store, value, &mut reads)?;
-    Ok(Effect::new(reads, binds, Made::none(), 0))
+    Ok(Effect::new(reads, binds, Made::none(0)))
 }

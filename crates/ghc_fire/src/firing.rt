@@ -4,9 +4,9 @@ ghost use Rattle.ghc_term.specs.declared.fault.Fault.{Fault as fault_spec};
 
 use crate::act::Act;
 use crate::effect::Effect;
-use crate::made::MadeGoal;
-use ghc_term::{Fault, GoalName};
-use std::alloc::Global;
+use crate::made::{Consumed, MadeGoal};
+use ghc_term::{Fault, Goal, GoalName};
+use std::alloc::{AllocError, Global};
 use std::marker::Model;
 use std::sync::Arc;
 
@@ -16,7 +16,7 @@ pub struct Firing {
     number: u32,
     goal: Option<GoalName>,
     act: Act,
-    consumed: Option<MadeGoal>,
+    consumed: Consumed,
     effect: Effect,
 }
 
@@ -61,7 +61,7 @@ impl Firing {
             number,
             goal,
             act,
-            consumed,
+            consumed: Consumed::of(consumed),
             effect,
         }
     }
@@ -82,12 +82,19 @@ impl Firing {
         self.goal
     }
 
-    /// The handle of the goal that the step consumes, if it consumes one.
+    /// The goal that the step consumes, as written, if it consumes one: one step.
     #[inline(always)]
-    pub fn consumed(&self) -> Option<&MadeGoal>
+    pub fn consumed(&self) -> Option<&Goal>
         ensures { option_copied result ≡ self.now.consumed }
     {
-        self.consumed.as_ref()
+        self.consumed.goal()
+    }
+
+    /// A handle of that goal: one step. Fails where a count of handles is full.
+    pub fn share_consumed(&self) -> Result<Option<MadeGoal>, AllocError>
+        ensures { IfOk result (λ goal. goal ≡ self.now.consumed) }
+    {
+        self.consumed.share()
     }
 
     /// What the step does.

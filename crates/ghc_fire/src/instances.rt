@@ -1,7 +1,8 @@
 // The goals that a clause's body makes in a step, goals of an effect as the step of some number has them, and goals of an ask.
-ghost use Rattle.std.specs.Prelude.{◌≡◌, ℕ, List, map, IfOk};
+ghost use Rattle.std.specs.Prelude.{◌≡◌, length, map, IfOk};
 ghost use Rattle.ghc_term.specs.Goal.{call};
-ghost use Rattle.ghc_term.specs.Tree.{Tree};
+ghost use Rattle.ghc_flat.specs.Variables.{fresh_variables};
+ghost use Rattle.ghc_unify.specs.Solutions.{replace};
 ghost use Rattle.ghc_fire.specs.Instance.{replace_in_goal, body_made};
 ghost use Rattle.ghc_fire.specs.Proposal.{numbered};
 ghost use Rattle.ghc_fire.specs.Asked.{called_by};
@@ -19,19 +20,69 @@ use crate::instances::renaming::Renaming;
 use crate::made::Made;
 use ghc_flat::Clause;
 use ghc_match::Stands;
-use ghc_term::{Goal, GoalView, VarName};
+use ghc_term::{Goal, GoalView, Name, Term, VarName};
 use std::alloc::{AllocError, Global};
+
+// The terms with their variables replaced.
+fn replace_terms(alloc: Global, terms: &[Term], by: Renaming<'_>) -> Result<Vec<Term>, AllocError>
+    ensures { IfOk result (λ ts. ts.items ≡ map (replace (replacement by.entry)) terms.now) }
+{
+    let mut replaced = Vec::new(alloc);
+    replaced.reserve_exact(terms.len())?;
+    for term in terms {
+        replaced.push(replace_term(alloc, term, by)?)?;
+    }
+    Ok(replaced)
+}
+
+// The call of this name with its variables replaced.
+#[inline(never)]
+fn replace_call(
+    alloc: Global,
+    name: &Name,
+    arguments: &[Term],
+    by: Renaming<'_>,
+) -> Result<Goal, AllocError>
+    ensures { IfOk result (λ g. g ≡ call name.now (map (replace (replacement by.entry)) arguments.now)) }
+{
+    match arguments {
+        [] => Ok(Goal::call_of_none(name.share()?)),
+        [first] => {
+            let arguments = [replace_term(alloc, first, by)?];
+            Ok(Goal::call_of_one(name.share()?, arguments))
+        }
+        [first, second] => {
+            let first = replace_term(alloc, first, by)?;
+            let arguments = [first, replace_term(alloc, second, by)?];
+            Ok(Goal::call_of_two(name.share()?, arguments))
+        }
+        [first, second, third] => {
+            let first = replace_term(alloc, first, by)?;
+            let second = replace_term(alloc, second, by)?;
+            let arguments = [first, second, replace_term(alloc, third, by)?];
+            Ok(Goal::call_of_three(name.share()?, arguments))
+        }
+        [first, second, third, fourth] => {
+            let first = replace_term(alloc, first, by)?;
+            let second = replace_term(alloc, second, by)?;
+            let third = replace_term(alloc, third, by)?;
+            let arguments = [first, second, third, replace_term(alloc, fourth, by)?];
+            Ok(Goal::call_of_four(name.share()?, arguments))
+        }
+        _ => {
+            let arguments = replace_terms(alloc, arguments, by)?;
+            Goal::call(alloc, name.share()?, arguments)
+        }
+    }
+}
 
 // The goal with its variables replaced.
 #[inline(always)]
 fn replace_goal(alloc: Global, goal: &Goal, by: Renaming<'_>) -> Result<Goal, AllocError>
     ensures { IfOk result (λ g. g ≡ replace_in_goal (replacement by.entry) goal.now) }
 {
-    if let Some(term) = goal.as_term() {
-        return Ok(Goal::written_as(replace_term(alloc, term, by)?));
-    }
     match goal.view() {
-        GoalView::Call(_, _) => unreachable!(),
+        GoalView::Call(name, arguments) => replace_call(alloc, name, arguments, by),
         GoalView::Unify(left, right) => {
             let left = replace_term(alloc, left, by)?;
             Ok(Goal::unify(left, replace_term(alloc, right, by)?))
@@ -59,33 +110,61 @@ fn replace_goals(alloc: Global, goals: &[Goal], by: Renaming<'_>) -> Result<Vec<
     let mut replaced = Vec::new(alloc);
     replaced.reserve_exact(goals.len())?;
     for goal in goals {
-        replaced.push(replace_goal(alloc, goal, by)?)?;
+        replaced.push(replace_next(alloc, goal, by)?)?;
     }
     Ok(replaced)
 }
 
-// The same, as a step makes them.
-#[inline(always)]
-fn replace_made(alloc: Global, goals: &[Goal], by: Renaming<'_>) -> Result<Made, AllocError>
-    ensures { IfOk result (λ made. made ≡ map (replace_in_goal (replacement by.entry)) goals.now) }
+// Three goals or more with their variables replaced, as a step makes them with so many variables. It is kept apart from functions that
+// make fewer, which need no room for so many.
+#[inline(never)]
+fn replace_more(
+    alloc: Global,
+    goals: &[Goal],
+    by: Renaming<'_>,
+    fresh: u32,
+) -> Result<Made, AllocError>
+    ensures { IfOk result (λ made. made ≡ record { goals = map (replace_in_goal (replacement by.entry)) goals.now; fresh = fresh }) }
 {
     match goals {
-        [] => Ok(Made::none()),
-        [first] => Made::one(alloc, replace_goal(alloc, first, by)?),
-        [first, second] => {
-            let first = replace_goal(alloc, first, by)?;
-            Made::two(alloc, first, replace_goal(alloc, second, by)?)
-        }
         [first, second, third] => {
             let first = replace_next(alloc, first, by)?;
             let second = replace_next(alloc, second, by)?;
-            Made::three(alloc, first, second, replace_next(alloc, third, by)?)
+            Made::three(alloc, first, second, replace_next(alloc, third, by)?, fresh)
         }
-        _ => Made::of(alloc, replace_goals(alloc, goals, by)?),
+        [first, second, third, fourth] => {
+            let first = replace_next(alloc, first, by)?;
+            let second = replace_next(alloc, second, by)?;
+            let third = replace_next(alloc, third, by)?;
+            let goals = [first, second, third, replace_next(alloc, fourth, by)?];
+            Made::four(alloc, goals, fresh)
+        }
+        _ => Made::of(alloc, replace_goals(alloc, goals, by)?, fresh),
     }
 }
 
-/// The goals that the body of the clause makes in the step of that number, where its head variables, of which there are
+// The goals with their variables replaced, as a step makes them with so many variables.
+#[inline(always)]
+fn replace_made(
+    alloc: Global,
+    goals: &[Goal],
+    by: Renaming<'_>,
+    fresh: u32,
+) -> Result<Made, AllocError>
+    ensures { IfOk result (λ made. made ≡ record { goals = map (replace_in_goal (replacement by.entry)) goals.now; fresh = fresh }) }
+{
+    match goals {
+        [] => Ok(Made::none(fresh)),
+        [first] => Made::one(alloc, replace_goal(alloc, first, by)?, fresh),
+        [first, second] => {
+            let first = replace_goal(alloc, first, by)?;
+            Made::two(alloc, first, replace_goal(alloc, second, by)?, fresh)
+        }
+        _ => replace_more(alloc, goals, by, fresh),
+    }
+}
+
+/// What the body of the clause makes in the step of that number, where its head variables, of which there are
 /// `head_variables`, stand for what theta has. It goes once through the body, with one look-up for each variable in it,
 /// and shares what theta has and each part that has no variables.
 pub fn instance(
@@ -96,22 +175,23 @@ pub fn instance(
     number: u32,
 ) -> Result<Made, AllocError>
     requires { AreBehindHead head_variables clause.now theta.now }
-    ensures { IfOk result (λ made. made ≡ body_made clause.now theta.now number) }
+    ensures { IfOk result (λ made. made ≡ record { goals = body_made clause.now theta.now number; fresh = length (fresh_variables clause.now) }) }
 {
     let by = Renaming::Body {
         theta,
         head_variables,
         number,
     };
-    replace_made(alloc, clause.body(), by)
+    replace_made(alloc, clause.body(), by, clause.fresh())
 }
 
-// The goals as the step of this number has them: the variables that it makes get the number. It goes once through the
+// What is made as the step of this number has it: the variables that it makes get the number. It goes once through the
 // goals, and shares each part of their terms that has no such variable.
-pub fn number_goals(alloc: Global, goals: &Made, number: u32) -> Result<Made, AllocError>
-    ensures { IfOk result (λ made. made ≡ map (replace_in_goal (numbered number)) goals.now) }
+pub fn number_goals(alloc: Global, made: &Made, number: u32) -> Result<Made, AllocError>
+    ensures { IfOk result (λ other. other ≡ record { goals = map (replace_in_goal (numbered number)) made.now.goals; fresh = made.now.fresh }) }
 {
-    replace_made(alloc, goals.as_slice(), Renaming::Numbered(number))
+    let by = Renaming::Numbered(number);
+    replace_made(alloc, made.as_slice(), by, made.fresh())
 }
 
 // The same of a list of goals.

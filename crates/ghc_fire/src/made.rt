@@ -1,120 +1,209 @@
-// Goals that a step makes, in one shared piece, and handles of single ones.
-ghost use Rattle.std.specs.Prelude.{◌≡◌, ◌<◌, [], ◌∷◌, length, IfOk};
-ghost use Rattle.ghc_fire.specs.inner.Made.{goal_at};
+// What a step makes: its goals, in one shared piece, with handles of single ones, and how many variables.
+ghost use Rattle.std.specs.Prelude.{◌≡◌, ◌<◌, [], ◌∷◌, length, option_copied, IfOk};
+ghost use Rattle.ghc_fire.specs.inner.Made.{goals_in, number_in, goal_at};
 
 use ghc_term::Goal;
 use std::alloc::{AllocError, Global};
 use std::marker::Model;
 use std::sync::Arc;
 
-/// Goals that a step makes, in order: none without memory, one to three in one piece, and more in a list. Contracts see the goals. Its
-/// parts are shared.
+// Goals in order: none without memory, one to four in one piece, and more in a list. Before the piece stands a number, which takes no
+// memory there: what it counts is up to the type that holds this.
+#[derive(Drop)]
+enum Piece {
+    Nothing(u32),
+    One(u32, Arc<[Goal; 1]>),
+    Two(u32, Arc<[Goal; 2]>),
+    Three(u32, Arc<[Goal; 3]>),
+    Four(u32, Arc<[Goal; 4]>),
+    More(u32, Arc<Vec<Goal>>),
+}
+
+impl Piece {
+    // The goals, in order.
+    #[inline(always)]
+    fn goals(&self) -> &[Goal]
+        ensures { result.now ≡ goals_in self.now }
+    {
+        match self {
+            Piece::Nothing(_) => &[],
+            Piece::One(_, goals) => &**goals,
+            Piece::Two(_, goals) => &**goals,
+            Piece::Three(_, goals) => &**goals,
+            Piece::Four(_, goals) => &**goals,
+            Piece::More(_, goals) => goals.as_slice(),
+        }
+    }
+
+    // The number.
+    #[inline(always)]
+    fn number(&self) -> u32
+        ensures { result ≡ number_in self.now }
+    {
+        match self {
+            Piece::Nothing(number) => *number,
+            Piece::One(number, _) => *number,
+            Piece::Two(number, _) => *number,
+            Piece::Three(number, _) => *number,
+            Piece::Four(number, _) => *number,
+            Piece::More(number, _) => *number,
+        }
+    }
+
+    // The same goals with another number: one step. Fails where a count of handles is full.
+    #[inline(always)]
+    fn share(&self, number: u32) -> Result<Piece, AllocError>
+        ensures goals { IfOk result (λ piece. goals_in piece ≡ goals_in self.now) }
+        ensures number { IfOk result (λ piece. number_in piece ≡ number) }
+    {
+        match self {
+            Piece::Nothing(_) => Ok(Piece::Nothing(number)),
+            Piece::One(_, goals) => Ok(Piece::One(number, Arc::try_clone(goals)?)),
+            Piece::Two(_, goals) => Ok(Piece::Two(number, Arc::try_clone(goals)?)),
+            Piece::Three(_, goals) => Ok(Piece::Three(number, Arc::try_clone(goals)?)),
+            Piece::Four(_, goals) => Ok(Piece::Four(number, Arc::try_clone(goals)?)),
+            Piece::More(_, goals) => Ok(Piece::More(number, Arc::try_clone(goals)?)),
+        }
+    }
+}
+
+/// What a step makes: goals, in order, in one shared piece, and how many variables.
 #[derive(Drop)]
 pub struct Made {
+    // the number counts the variables
     piece: Piece,
 }
 
-#[derive(Drop)]
-enum Piece {
-    Nothing,
-    One(Arc<[Goal; 1]>),
-    Two(Arc<[Goal; 2]>),
-    Three(Arc<[Goal; 3]>),
-    More(Arc<Vec<Goal>>),
-}
-
 impl Model for Made {
-    ghost use Rattle.std.specs.Prelude.{List};
-    ghost use Rattle.ghc_term.specs.Goal.{Goal};
-    ghost use Rattle.ghc_fire.specs.inner.Made.{goals_in};
-    ghost use Rattle.ghc_fire.specs.inner.AskedCode.{asked_code};
+    ghost use Rattle.ghc_fire.specs.Made.{Made};
+    ghost use Rattle.ghc_fire.specs.inner.MadeCode.{made_code};
+    ghost use Rattle.ghc_fire.specs.inner.Made.{goals_in, number_in};
 
-    ghost Value = { List Goal };
+    ghost Value = { Made };
 
-    ghost coded = { asked_code };
+    ghost coded = { made_code };
 
-    ghost view = { λ m. goals_in m.piece };
+    ghost view = { λ m. record { goals = goals_in m.piece; fresh = number_in m.piece } };
 }
 
 /// One of the goals that a step makes, held in the piece of all of them. Contracts see the goal.
 #[derive(Drop)]
 pub struct MadeGoal {
-    made: Made,
-    index: u32,
+    // the number is the index of the goal
+    piece: Piece,
 }
 
 impl Model for MadeGoal {
     ghost use Rattle.std.specs.Prelude.{◌<◌, length};
     ghost use Rattle.ghc_term.specs.Goal.{Goal};
     ghost use Rattle.ghc_term.specs.inner.GoalCode.{goal_code};
-    ghost use Rattle.ghc_fire.specs.inner.Made.{goal_at};
+    ghost use Rattle.ghc_fire.specs.inner.Made.{goals_in, number_in, goal_at};
 
     ghost Value = { Goal };
 
     ghost coded = { goal_code };
 
-    ghost view = { λ g. goal_at g.made g.index };
+    ghost view = { λ g. goal_at (goals_in g.piece) (number_in g.piece) };
 
-    ghost invariant = { λ g. g.index < length g.made };
+    ghost invariant = { λ g. number_in g.piece < length (goals_in g.piece) };
+}
+
+// The goal that a step consumes, if it consumes one, held in the piece of all that were made with it. Contracts see the goal.
+#[derive(Drop)]
+pub(crate) struct Consumed {
+    // the number is the index of the goal
+    piece: Piece,
+}
+
+impl Model for Consumed {
+    ghost use Rattle.std.specs.Prelude.{Option, slice_get};
+    ghost use Rattle.std.specs.Coded.{coded_option};
+    ghost use Rattle.ghc_term.specs.Goal.{Goal};
+    ghost use Rattle.ghc_term.specs.inner.GoalCode.{goal_code};
+    ghost use Rattle.ghc_fire.specs.inner.Made.{goals_in, number_in};
+
+    ghost Value = { Option Goal };
+
+    ghost coded = { coded_option goal_code };
+
+    ghost view = { λ c. slice_get (goals_in c.piece) (number_in c.piece) };
 }
 
 impl Made {
-    /// No goals, which take no memory.
+    /// No goals, which take no memory, and so many variables.
     #[inline(always)]
-    pub fn none() -> Made
-        ensures { result ≡ [] }
+    pub fn none(fresh: u32) -> Made
+        ensures { result ≡ record { goals = []; fresh = fresh } }
     {
         Made {
-            piece: Piece::Nothing,
+            piece: Piece::Nothing(fresh),
         }
     }
 
-    /// One goal. It fails only where memory is refused.
-    pub fn one(alloc: Global, goal: Goal) -> Result<Made, AllocError>
-        ensures { IfOk result (λ made. made ≡ goal ∷ []) }
+    /// One goal and so many variables. It fails only where memory is refused.
+    pub fn one(alloc: Global, goal: Goal, fresh: u32) -> Result<Made, AllocError>
+        ensures { IfOk result (λ made. made ≡ record { goals = goal ∷ []; fresh = fresh }) }
     {
         match Arc::new(alloc, [goal]) {
             Ok(goals) => Ok(Made {
-                piece: Piece::One(goals),
+                piece: Piece::One(fresh, goals),
             }),
             Err(_) => Err(AllocError),
         }
     }
 
-    /// Two goals. It fails only where memory is refused.
-    pub fn two(alloc: Global, first: Goal, second: Goal) -> Result<Made, AllocError>
-        ensures { IfOk result (λ made. made ≡ first ∷ second ∷ []) }
+    /// Two goals and so many variables. It fails only where memory is refused.
+    pub fn two(alloc: Global, first: Goal, second: Goal, fresh: u32) -> Result<Made, AllocError>
+        ensures { IfOk result (λ made. made ≡ record { goals = first ∷ second ∷ []; fresh = fresh }) }
     {
         match Arc::new(alloc, [first, second]) {
             Ok(goals) => Ok(Made {
-                piece: Piece::Two(goals),
+                piece: Piece::Two(fresh, goals),
             }),
             Err(_) => Err(AllocError),
         }
     }
 
-    /// Three goals. It fails only where memory is refused.
-    pub fn three(alloc: Global, first: Goal, second: Goal, third: Goal) -> Result<Made, AllocError>
-        ensures { IfOk result (λ made. made ≡ first ∷ second ∷ third ∷ []) }
+    /// Three goals and so many variables. It fails only where memory is refused.
+    pub fn three(
+        alloc: Global,
+        first: Goal,
+        second: Goal,
+        third: Goal,
+        fresh: u32,
+    ) -> Result<Made, AllocError>
+        ensures { IfOk result (λ made. made ≡ record { goals = first ∷ second ∷ third ∷ []; fresh = fresh }) }
     {
         match Arc::new(alloc, [first, second, third]) {
             Ok(goals) => Ok(Made {
-                piece: Piece::Three(goals),
+                piece: Piece::Three(fresh, goals),
             }),
             Err(_) => Err(AllocError),
         }
     }
 
-    /// The goals of the list. It fails only where memory is refused.
-    pub fn of(alloc: Global, goals: Vec<Goal>) -> Result<Made, AllocError>
-        ensures { IfOk result (λ made. made ≡ goals.items) }
+    /// Four goals and so many variables. It fails only where memory is refused.
+    pub fn four(alloc: Global, goals: [Goal; 4], fresh: u32) -> Result<Made, AllocError>
+        ensures { IfOk result (λ made. made ≡ record { goals = goals; fresh = fresh }) }
+    {
+        match Arc::new(alloc, goals) {
+            Ok(goals) => Ok(Made {
+                piece: Piece::Four(fresh, goals),
+            }),
+            Err(_) => Err(AllocError),
+        }
+    }
+
+    /// The goals of the list and so many variables. It fails only where memory is refused.
+    pub fn of(alloc: Global, goals: Vec<Goal>, fresh: u32) -> Result<Made, AllocError>
+        ensures { IfOk result (λ made. made ≡ record { goals = goals.items; fresh = fresh }) }
     {
         if goals.is_empty() {
-            return Ok(Made::none());
+            return Ok(Made::none(fresh));
         }
         match Arc::new(alloc, goals) {
             Ok(goals) => Ok(Made {
-                piece: Piece::More(goals),
+                piece: Piece::More(fresh, goals),
             }),
             Err(_) => Err(AllocError),
         }
@@ -123,41 +212,27 @@ impl Made {
     /// The goals, in order.
     #[inline(always)]
     pub fn as_slice(&self) -> &[Goal]
-        ensures { result.now ≡ self.now }
+        ensures { result.now ≡ self.now.goals }
     {
-        match &self.piece {
-            Piece::Nothing => &[],
-            Piece::One(goals) => &**goals,
-            Piece::Two(goals) => &**goals,
-            Piece::Three(goals) => &**goals,
-            Piece::More(goals) => goals.as_slice(),
-        }
+        self.piece.goals()
     }
 
-    /// The same once more, with its parts shared: one step. Fails where a count of handles is full.
+    /// How many variables are made.
     #[inline(always)]
-    pub fn share(&self) -> Result<Made, AllocError>
-        ensures { IfOk result (λ made. made ≡ self.now) }
+    pub fn fresh(&self) -> u32
+        ensures { result ≡ self.now.fresh }
     {
-        let piece = match &self.piece {
-            Piece::Nothing => Piece::Nothing,
-            Piece::One(goals) => Piece::One(Arc::try_clone(goals)?),
-            Piece::Two(goals) => Piece::Two(Arc::try_clone(goals)?),
-            Piece::Three(goals) => Piece::Three(Arc::try_clone(goals)?),
-            Piece::More(goals) => Piece::More(Arc::try_clone(goals)?),
-        };
-        Ok(Made { piece })
+        self.piece.number()
     }
 
     /// A handle of the goal at this index: one step. Fails where a count of handles is full.
     #[inline(always)]
     pub fn goal(&self, index: u32) -> Result<MadeGoal, AllocError>
-        requires { index < length self.now }
-        ensures { IfOk result (λ goal. goal ≡ goal_at self.now index) }
+        requires { index < length self.now.goals }
+        ensures { IfOk result (λ goal. goal ≡ goal_at self.now.goals index) }
     {
         Ok(MadeGoal {
-            made: self.share()?,
-            index,
+            piece: self.piece.share(index)?,
         })
     }
 }
@@ -167,10 +242,12 @@ impl MadeGoal {
     pub fn alone(alloc: Global, goal: Goal) -> Result<MadeGoal, AllocError>
         ensures { IfOk result (λ made. made ≡ goal) }
     {
-        Ok(MadeGoal {
-            made: Made::one(alloc, goal)?,
-            index: 0,
-        })
+        match Arc::new(alloc, [goal]) {
+            Ok(goals) => Ok(MadeGoal {
+                piece: Piece::One(0, goals),
+            }),
+            Err(_) => Err(AllocError),
+        }
     }
 
     /// The goal: one step.
@@ -178,7 +255,7 @@ impl MadeGoal {
     pub fn goal(&self) -> &Goal
         ensures { result.now ≡ self.now }
     {
-        &self.made.as_slice()[self.index as usize]
+        &self.piece.goals()[self.piece.number() as usize]
     }
 
     /// The same once more: one step. Fails where a count of handles is full.
@@ -187,8 +264,41 @@ impl MadeGoal {
         ensures { IfOk result (λ goal. goal ≡ self.now) }
     {
         Ok(MadeGoal {
-            made: self.made.share()?,
-            index: self.index,
+            piece: self.piece.share(self.piece.number())?,
         })
+    }
+}
+
+impl Consumed {
+    // That goal, or none.
+    #[inline(always)]
+    pub(crate) fn of(goal: Option<MadeGoal>) -> Consumed
+        ensures { result ≡ goal }
+    {
+        match goal {
+            Some(MadeGoal { piece }) => Consumed { piece },
+            None => Consumed {
+                piece: Piece::Nothing(0),
+            },
+        }
+    }
+
+    // The goal, if there is one: one step.
+    #[inline(always)]
+    pub(crate) fn goal(&self) -> Option<&Goal>
+        ensures { option_copied result ≡ self.now }
+    {
+        self.piece.goals().get(self.piece.number() as usize)
+    }
+
+    // A handle of the goal, if there is one: one step. Fails where a count of handles is full.
+    pub(crate) fn share(&self) -> Result<Option<MadeGoal>, AllocError>
+        ensures { IfOk result (λ goal. goal ≡ self.now) }
+    {
+        if self.goal().is_none() {
+            return Ok(None);
+        }
+        let piece = self.piece.share(self.piece.number())?;
+        Ok(Some(MadeGoal { piece }))
     }
 }

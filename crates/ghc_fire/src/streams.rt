@@ -57,8 +57,8 @@ pub fn feed(
     let cell = Term::pair(alloc, cell_name, given, Term::variable(goes_on))?;
     let mut binds = Bindings::new(alloc);
     binds.insert(end, cell)?;
-    let makes = Made::one(alloc, Goal::stream(stream, goes_on))?;
-    Ok(Some(Effect::new(before, binds, makes, 1)))
+    let makes = Made::one(alloc, Goal::stream(stream, goes_on), 1)?;
+    Ok(Some(Effect::new(before, binds, makes)))
 }
 
 /// The effect of the close of a stream: the end of its tail is bound to `[]`. None exactly where the chain of the tail ends
@@ -72,5 +72,5 @@ pub fn close(alloc: Global, store: &Store, tail: VarName) -> Result<Option<Effec
     };
     let mut binds = Bindings::new(alloc);
     binds.insert(end, Term::atom(Name::new(alloc, "[]")?))?;
-    Ok(Some(Effect::new(before, binds, Made::none(), 0)))
+    Ok(Some(Effect::new(before, binds, Made::none(0))))
 }

@@ -87,8 +87,8 @@ fn asking_record(
     ensures { IfOk result (λ r. r ≡ record { number = number; goal = None; consumed = None; act = asks asked.now; effect = effect_of_asking asked.now fresh }) }
 {
     let shared = share_goals(alloc, asked.goals())?;
-    let makes = Made::of(alloc, shared)?;
-    let effect = Effect::new(Variables::new(alloc), Bindings::new(alloc), makes, fresh);
+    let makes = Made::of(alloc, shared, fresh)?;
+    let effect = Effect::new(Variables::new(alloc), Bindings::new(alloc), makes);
     let act = Act::Asked(asked.share()?);
     Record::new(alloc, number, None, None, act, effect)
 }

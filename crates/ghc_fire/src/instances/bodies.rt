@@ -53,26 +53,6 @@ fn body_pair(
     Term::pair(alloc, name.share()?, left, right)
 }
 
-// The same with three arguments.
-#[inline(always)]
-fn body_triple(
-    alloc: Global,
-    name: &Name,
-    first: &Term,
-    second: &Term,
-    third: &Term,
-    theta: &Stands<'_>,
-    head_variables: u32,
-    number: u32,
-) -> Result<Term, AllocError>
-    ensures { IfOk result (λ t. t ≡ replace (renamed head_variables theta.now number) (node name.now (trees (first.now ∷ second.now ∷ third.now ∷ [])))) }
-{
-    let left = body_argument(alloc, first, theta, head_variables, number)?;
-    let middle = body_argument(alloc, second, theta, head_variables, number)?;
-    let right = body_argument(alloc, third, theta, head_variables, number)?;
-    Term::triple(alloc, name.share()?, left, middle, right)
-}
-
 // The structure of this name over the arguments as the step has them.
 fn body_list(
     alloc: Global,
@@ -107,18 +87,6 @@ fn body_structure(
     match term.view() {
         TermView::Struct(name, [first, second]) => {
             body_pair(alloc, name, first, second, theta, head_variables, number)
-        }
-        TermView::Struct(name, [first, second, third]) => {
-            body_triple(
-                alloc,
-                name,
-                first,
-                second,
-                third,
-                theta,
-                head_variables,
-                number,
-            )
         }
         TermView::Struct(name, arguments) => {
             body_list(alloc, name, arguments, theta, head_variables, number)

@@ -41,30 +41,6 @@ fn replace_pair(
     Ok(Some(Term::pair(alloc, name.share()?, left, right)?))
 }
 
-// The same with three arguments.
-fn replace_triple(
-    alloc: Global,
-    name: &Name,
-    first: &Term,
-    second: &Term,
-    third: &Term,
-    by: Renaming<'_>,
-) -> Result<Option<Term>, AllocError>
-    ensures { IfOk result (λ o. IfSome o (λ t. t ≡ replace (replacement by.entry) (node name.now (trees (first.now ∷ second.now ∷ third.now ∷ []))))) }
-{
-    let Some(left) = replace_leaf(first, by)? else {
-        return Ok(None);
-    };
-    let Some(middle) = replace_leaf(second, by)? else {
-        return Ok(None);
-    };
-    let Some(right) = replace_leaf(third, by)? else {
-        return Ok(None);
-    };
-    let name = name.share()?;
-    Ok(Some(Term::triple(alloc, name, left, middle, right)?))
-}
-
 // The structure of this name over the arguments with their variables replaced, where each of them is such a leaf.
 fn replace_flat(
     alloc: Global,
@@ -98,9 +74,6 @@ pub fn replace_at_once(
     match term.view() {
         TermView::Var(x) => replace_variable(x, by),
         TermView::Struct(name, [first, second]) => replace_pair(alloc, name, first, second, by),
-        TermView::Struct(name, [first, second, third]) => {
-            replace_triple(alloc, name, first, second, third, by)
-        }
         TermView::Struct(name, arguments) => replace_flat(alloc, name, arguments, by),
         _ => Ok(None),
     }

@@ -1,4 +1,4 @@
-use Rattle.ghc_fire.proofs.Words.{sym, subst, ◌∙◌, Asks}
+use Rattle.ghc_fire.proofs.Words.{sym, ap, subst, ◌∙◌, Asks}
 use Rattle.ghc_fire.proofs.Asking.{asks_with}
 use Rattle.ghc_fire.proofs.ask.ask_as.Goals as goal
 
@@ -9,4 +9,4 @@ returns-clause-effect c P defined =
     let e = c.new-effect.result in
     subst (λ hs. Asks P hs n e) (sym c.in_ok-asked.ensures)
     (asks_with gs n c.requires P c.fresh.result e c.fresh.ensures.askable c.fresh.ensures.new defined (c.new-effect.ensures.reads ∙ c.new.ensures) (c.new-effect.ensures.binds ∙ c.new-2.ensures)
-    (c.new-effect.ensures.makes ∙ c.in_ok-makes.ensures ∙ c.in_ok-shared.ensures ∙ c.goals.ensures.goals ∙ c.in_ok-asked.ensures) c.new-effect.ensures.fresh)
+    (c.new-effect.ensures.makes ∙ ap (λ m. m.goals) c.in_ok-makes.ensures ∙ c.in_ok-shared.ensures ∙ c.goals.ensures.goals ∙ c.in_ok-asked.ensures) (c.new-effect.ensures.fresh ∙ ap (λ m. m.fresh) c.in_ok-makes.ensures))

@@ -1,4 +1,4 @@
-use Rattle.ghc_fire.proofs.Words.{◌∙◌}
+use Rattle.ghc_fire.proofs.Words.{◌∙◌, ap}
 use Rattle.ghc_fire.proofs.FreshPlaces.{behind_head}
 use Rattle.ghc_fire.proofs.Origins.{stands}
 use Rattle.ghc_fire.proofs.calls.try_clause_as_step.Goals as goal
@@ -14,6 +14,6 @@ pub returns-in_ok-makes-in-Yes : goal.returns-in_ok-makes-in-Yes
 returns-in_ok-makes-in-Yes c =
     let o = rw c.in-Yes.is at c.in_ok-lay_until_no.ensures in
     let e = c.new-effect.ensures in
-    let makes = e.makes ∙ c.in_ok-makes-in-Yes.ensures in
+    let made = c.in_ok-makes-in-Yes.ensures in
     let read = rw (← e.reads) at o in
-    (o.0, λ P f k ic is. (c.args.clause.now, c.lay_until_no.new.met.stands, ic, is, read, e.binds ∙ c.new.ensures, makes, e.fresh ∙ c.fresh-fresh.ensures))
+    (o.0, λ P f k ic is. (c.args.clause.now, c.lay_until_no.new.met.stands, ic, is, read, e.binds ∙ c.new.ensures, e.makes ∙ ap (λ m. m.goals) made, e.fresh ∙ ap (λ m. m.fresh) made))

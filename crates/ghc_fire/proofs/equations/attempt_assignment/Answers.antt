@@ -19,7 +19,8 @@ returns-clause-effect c =
     let e = c.new.result in
     let solved = rw (right, ← c.new.ensures.binds) at c.in_ok-binds.ensures.answer.0 in
     let read = rw (← c.new.ensures.reads) at c.in_ok-add_chains.ensures in
-    unified (value_at c.args.store.now.held) c.args.left.now c.args.value.now v worth e _ solved read (c.new.ensures.makes ∙ c.none.ensures) c.new.ensures.fresh
+    unified (value_at c.args.store.now.held) c.args.left.now c.args.value.now v worth e _ solved read (c.new.ensures.makes ∙ ap (λ m. m.goals) c.none.ensures)
+    (c.new.ensures.fresh ∙ ap (λ m. m.fresh) c.none.ensures)
 
 pub returns-in_err-binds-clause-fault : goal.returns-in_err-binds-clause-fault
 returns-in_err-binds-clause-fault c =
