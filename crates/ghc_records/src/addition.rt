@@ -4,6 +4,7 @@ ghost use Rattle.ghc_records.specs.Journal.{took, step_of};
 ghost use Rattle.ghc_records.specs.inner.EntryCode.{entry_of};
 ghost use Rattle.ghc_records.specs.inner.Handles.{goals_of};
 
+use crate::binding::share_all;
 use crate::entry::Entry;
 use crate::handles::{Handles, handles_of};
 use crate::record::Record;
@@ -58,7 +59,7 @@ impl Addition {
         let entry = Entry::Took(step.share()?);
         let effect = step.effect();
         let makes = handles_of(alloc, effect.piece(), effect.made())?;
-        let binds = effect.binds().share()?;
+        let binds = share_all(alloc, effect.binds())?;
         Ok(Addition {
             step,
             entry,

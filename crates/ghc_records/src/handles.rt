@@ -16,8 +16,8 @@ pub(crate) enum Handles {
 
 // A list of handles of the goals, of which there are as many as counted.
 fn list_of(alloc: Global, made: &Made, count: u32) -> Result<Vec<MadeGoal>, AllocError>
-    requires { count ≡ length made.now }
-    ensures { IfOk result (λ handles. handles.items ≡ made.now) }
+    requires { count ≡ length made.now.goals }
+    ensures { IfOk result (λ handles. handles.items ≡ made.now.goals) }
 {
     let mut handles = Vec::new(alloc);
     handles.reserve_exact(count as usize)?;
@@ -31,8 +31,8 @@ fn list_of(alloc: Global, made: &Made, count: u32) -> Result<Vec<MadeGoal>, Allo
 // count of handles is full.
 #[inline(always)]
 pub(crate) fn handles_of(alloc: Global, made: &Made, count: u32) -> Result<Handles, AllocError>
-    requires { count ≡ length made.now }
-    ensures { IfOk result (λ handles. goals_of handles ≡ made.now) }
+    requires { count ≡ length made.now.goals }
+    ensures { IfOk result (λ handles. goals_of handles ≡ made.now.goals) }
 {
     match count {
         0 => Ok(Handles::Nothing),

@@ -83,17 +83,14 @@ impl Record {
     pub fn consumed(&self) -> Option<&Goal>
         ensures { option_copied result ≡ self.now.consumed }
     {
-        match self.consumed_handle() {
-            Some(made) => Some(made.goal()),
-            None => None,
-        }
+        self.parts.consumed()
     }
 
-    /// The handle of the goal that the step consumed, if it consumed one.
-    pub fn consumed_handle(&self) -> Option<&MadeGoal>
-        ensures { option_copied result ≡ self.now.consumed }
+    /// A handle of that goal: one step. Fails where a count of handles is full.
+    pub fn share_consumed(&self) -> Result<Option<MadeGoal>, AllocError>
+        ensures { IfOk result (λ goal. goal ≡ self.now.consumed) }
     {
-        self.parts.consumed()
+        self.parts.share_consumed()
     }
 
     /// What the step did.

@@ -1,5 +1,5 @@
 // Steps to be taken away, each with all that this takes.
-ghost use Rattle.std.specs.Prelude.{◌≡◌, length, option_copied, IfOk};
+ghost use Rattle.std.specs.Prelude.{◌≡◌, length, IfOk};
 
 use crate::record::Record;
 use ghc_fire::MadeGoal;
@@ -38,23 +38,13 @@ impl Model for Removal {
     ghost invariant = { λ r. (r.consumed ≡ r.step.consumed) × (r.made ≡ length r.step.effect.makes) };
 }
 
-// The goal once more, if there is one.
-fn shared(goal: Option<&MadeGoal>) -> Result<Option<MadeGoal>, AllocError>
-    ensures { IfOk result (λ g. g ≡ option_copied goal.entry) }
-{
-    match goal {
-        Some(goal) => Ok(Some(goal.share()?)),
-        None => Ok(None),
-    }
-}
-
 impl Removal {
     /// What it takes to take this step away, with handles of its own: one step. Fails where a count of handles is full.
     pub fn of(step: &Record) -> Result<Removal, AllocError>
         ensures { IfOk result (λ r. r ≡ step.now) }
     {
         let made = step.effect().made();
-        let consumed = shared(step.consumed_handle())?;
+        let consumed = step.share_consumed()?;
         Ok(Removal {
             step: step.share()?,
             consumed,

@@ -3,7 +3,7 @@ ghost use Rattle.std.specs.Prelude.{◌≡◌, ◌+◌, ◌<◌, ◌≤◌, leng
 ghost use Rattle.ghc_flat.specs.Flat.{most_goals};
 
 use crate::addition::Addition;
-use crate::binding::{bind_all, unbind_all};
+use crate::binding::{bind_all, share_all, unbind_all};
 use crate::entry::Entry;
 use crate::handles::{Handles, handles_of};
 use crate::making::{consume_goal, make_goals, restore_consumed, unmake_goals};
@@ -68,7 +68,7 @@ impl State {
         requires { length query.now ≤ most_goals }
         ensures { IfOk result (λ s. s.held ≡ query_state query.now) }
     {
-        let shared = Made::of(alloc, share_goals(alloc, query)?)?;
+        let shared = Made::of(alloc, share_goals(alloc, query)?, 0)?;
         let handles = handles_of(alloc, &shared, query.len() as u32)?;
         let mut goals = Goals::new(alloc);
         goals.reserve(query.len(), 0)?;
@@ -152,7 +152,7 @@ impl State {
     {
         let effect = step.effect();
         let makes = handles_of(alloc, effect.piece(), effect.made())?;
-        let binds = effect.binds().share()?;
+        let binds = share_all(alloc, effect.binds())?;
         self.apply(step, makes, binds);
         Ok(())
     }
