@@ -5,8 +5,8 @@ ghost use Rattle.ghc_hooks.specs.Status.{failed};
 ghost use Rattle.ghc_hooks.specs.Verdict.{status_of};
 ghost use Rattle.ghc_core.specs.Playing.{IsCauseOfFailure};
 
-use ghc_hooks::Verdict;
-use ghc_term::{Fault, Variables};
+use ghc_hooks::{Verdict, variables_again};
+use ghc_term::Fault;
 use std::alloc::{AllocError, Global};
 
 // The cause once more, which is one for which a goal fails.
@@ -20,17 +20,6 @@ fn cause_again(cause: &Fault) -> Fault
         Fault::Cycle => Fault::Cycle,
         _ => Fault::Arithmetic,
     }
-}
-
-// The set once more, with memory of its own: one look-up for each variable.
-fn variables_again(alloc: Global, xs: &Variables) -> Result<Variables, AllocError>
-    ensures { IfOk result (λ ys. ys ≡ xs.now) }
-{
-    let mut again = Variables::new(alloc);
-    for x in xs.members() {
-        again.insert(*x)?;
-    }
-    Ok(again)
 }
 
 // The verdict once more, with memory of its own: one look-up for each variable for which the goal waits.

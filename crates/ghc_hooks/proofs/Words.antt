@@ -58,7 +58,7 @@ pub use Rattle.ghc_term.proofs.ListsLemmas.{contains_in, in_at, in_contains, in_
 pub use Rattle.ghc_term.proofs.Names.{itself, name_antisymmetric, name_total, same_name}
 pub use Rattle.ghc_term.proofs.Placing.{one_value}
 pub use Rattle.ghc_term.proofs.Searching.{StandsIn, argument_reaches, falls_away, list_is_value, nothing_open, occurs_among, popped, sees_falls, sizes, stands_last, stands_left, stands_right, unfold_falls, value_in_list}
-pub use Rattle.ghc_term.proofs.SetsLemmas.{agree, has_member, holds_nothing, is_member, member, no_member, one_inserted, one_set, set_of}
+pub use Rattle.ghc_term.proofs.SetsLemmas.{agree, has_member, holds_nothing, is_member, member, no_member, one_inserted, one_set, same_held, set_of}
 pub use Rattle.ghc_term.proofs.VariableMaps.{none_in}
 pub use Rattle.ghc_term.specs.Bindings.{Comes, IsAcyclic, Leads, Passes, Reaches, along, at_free, at_integer, at_node, here, name_cmp, now, on, through}
 pub use Rattle.ghc_term.specs.Expression.{Expression, leaf, operation}

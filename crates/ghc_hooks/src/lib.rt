@@ -1,6 +1,7 @@
 //! The status of goals, the face of a state, noted outcomes and untried goals.
 #![tactic(auto)]
 
+mod copies;
 mod face;
 mod few_goals;
 mod goal_set;
@@ -13,6 +14,7 @@ mod reached;
 mod trial;
 mod tries;
 
+pub use copies::variables_again;
 pub use face::{Face, Status};
 pub use laws::{
     each_goal_has_a_status, exact_notes_await_what_is_looked_at, exact_notes_stay_exact,

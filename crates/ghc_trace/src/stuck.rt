@@ -4,7 +4,7 @@ ghost use Rattle.std.specs.FinMap as finite;
 ghost use Rattle.ghc_hooks.specs.Verdict.{status_of};
 ghost use Rattle.ghc_trace.specs.Disturbed.{stuck_of, stuck_by};
 
-use ghc_hooks::{Tries, Verdict};
+use ghc_hooks::{Tries, Verdict, variables_again};
 use ghc_term::{GoalName, Variables};
 use std::alloc::{AllocError, Global};
 
@@ -17,24 +17,13 @@ pub enum Stuck {
     Failed(u32),
 }
 
-// The set once more, with memory of its own.
-fn copy_of(alloc: Global, xs: &Variables) -> Result<Variables, AllocError>
-    ensures { IfOk result (λ ys. ys ≡ xs.now) }
-{
-    let mut copy = Variables::new(alloc);
-    for x in xs.members() {
-        copy.insert(*x)?;
-    }
-    Ok(copy)
-}
-
 // How a goal of this verdict is stuck, if it is.
 fn way_stuck(alloc: Global, verdict: &Verdict) -> Result<Option<Stuck>, AllocError>
     ensures { IfOk result (λ s. s ≡ stuck_of (status_of verdict.now)) }
 {
     match verdict {
         Verdict::Ready => Ok(None),
-        Verdict::Waiting(awaited) => Ok(Some(Stuck::Waiting(copy_of(alloc, awaited)?))),
+        Verdict::Waiting(awaited) => Ok(Some(Stuck::Waiting(variables_again(alloc, awaited)?))),
         Verdict::Failed(cause) => Ok(Some(Stuck::Failed(cause.number()))),
     }
 }

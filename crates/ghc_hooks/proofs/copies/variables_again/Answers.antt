@@ -1,5 +1,6 @@
-use Rattle.ghc_core.proofs.Words.{arith, get_or, sym, subst, take_all, VarName, In, holds_nothing, one_inserted, same_held, has_member, is_member, so_far, earlier, latest}
-use Rattle.ghc_core.proofs.copies.variables_again.Goals as goal
+use Rattle.ghc_hooks.proofs.Words.{arith, get_or, sym, subst, take_all, VarName, In, holds_nothing, one_inserted, same_held, has_member, is_member}
+use Rattle.ghc_hooks.proofs.LookingAll.{so_far, earlier, latest}
+use Rattle.ghc_hooks.proofs.copies.variables_again.Goals as goal
 
 pub loop-x-init : goal.loop-x-init
 loop-x-init c y = (
