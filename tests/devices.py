@@ -63,12 +63,12 @@ SHELLS = [
     Shell(
         # With 131,072 steps the tables are full, and to double one takes more than the limit leaves: so the next line has memory.
         "memory runs out",
-        "ulimit -v 66000; printf 'leap\\nshow X\\n' | $ghcdb loop.ghc --query 'loop(X)' | grep -v -e '^REDU' -e '^F1 no memory$'",
+        "ulimit -v 51500; printf 'leap\\nshow X\\n' | $ghcdb loop.ghc --query 'loop(X)' | grep -v -e '^REDU' -e '^F1 no memory$'",
         "stopped memory\nX = _0_1\n",
     ),
     Shell(
         "what was done is saved when memory runs out, line by line",
-        "(ulimit -v 66000; printf 'leap\\nrecords\\nsave\\n' | $ghcdb loop.ghc --query 'loop(X)')"
+        "(ulimit -v 51500; printf 'leap\\nrecords\\nsave\\n' | $ghcdb loop.ghc --query 'loop(X)')"
         " | sed -n -e '/^stopped/p' -e '/^F1/p' -e '/^ghc-history 2$/,$w saved';"
         " printf 'save\\n' | $ghcdb loop.ghc --query 'loop(X)' --load saved | cmp - saved && grep -c '^[0-9]' saved",
         "stopped memory\n131072\n",
