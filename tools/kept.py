@@ -1,9 +1,10 @@
-"""Rattle's `rt` as a module, for tools that use what it keeps on this machine: tools/keep-proofs, tools/give-libraries."""
+"""Rattle's `rt` as a module, for tools that use what it keeps on this machine: tests/edits, tools/keep-proofs, tools/give-libraries."""
 import importlib.machinery
 import importlib.util
 import os
 import shutil
 import sys
+import tempfile
 
 sys.dont_write_bytecode = True
 
@@ -14,4 +15,37 @@ def load_rt():
     made = importlib.util.module_from_spec(importlib.util.spec_from_loader("rt_main", loader))
     sys.modules["rt_main"] = made
     loader.exec_module(made)
+    if not keeps(made):
+        fill_in(made)
     return made
+
+
+def keeps(rt):
+    """Whether the kit keeps on this machine what it passed. Of the kits in use 13b does not."""
+    return hasattr(rt, "Kept")
+
+
+def need_kept(rt):
+    """Ends the tool where the kit keeps nothing."""
+    if not keeps(rt):
+        sys.exit("this kit's rt keeps nothing of what it passed: ./ghcdb --prove proves all crates in this checkout, for web/build too")
+
+
+def fill_in(rt):
+    """Gives a kit that keeps nothing what tests/edits uses of one that does: the folder of what `rt check` left in a crate, and one check
+    of a crate in a folder of its own."""
+
+    def work_for(crate):
+        left = os.path.join(crate.folder, rt.rtlib.KEPT[1])
+        return left if crate.has_kept() else None
+
+    def seeded(crate, flags):
+        made = tempfile.mkdtemp(prefix="edits-seed-")
+        os.mkdir(os.path.join(made, "seed"))
+        if rt.checked(crate, {}, flags, os.path.join(made, "seed")).returncode:
+            shutil.rmtree(made, ignore_errors=True)
+            return None
+        return made
+
+    rt.work_for, rt.seeded, rt.linked, rt.SEEDS = work_for, seeded, shutil.copytree, []
+    rt.share_work = lambda shares: None
