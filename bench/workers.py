@@ -3,7 +3,8 @@
 
 PROGRAM is the built program, ../crates/ghcdb/out/ghcdb where none is named. Each row is one `leap`: of a program whose matching is
 heavy, and of some whose steps are light. Columns are numbers of workers (1, 2 and 4): the time by the clock, the processor time of
-all threads, and how many times faster by the clock it is than the first. What the program takes to start is taken off; the lines of
+all threads, and how many times faster by the clock it is than the first. The first line is what this machine can give at most: runs of
+the first row by one worker each, as many side by side as the column has workers, so that they share nothing but the processors. What the program takes to start is taken off; the lines of
 the steps are made and thrown away. The figure is the median of N runs (5). --only takes the rows whose name has WORD. Where there is
 `strace`, a last column tells in how many rounds the most workers made the run: each round starts one thread fewer than there are
 workers. Where there is `valgrind`, --instructions tells in place of the times how many instructions all threads took together, in
@@ -51,6 +52,28 @@ def timed(words, runs):
     starts = [play(words, b"") for _ in range(runs)]
     leaps = [play(words, b"leap\n") for _ in range(runs)]
     return [max(0.0, statistics.median(them) - statistics.median(those)) for them, those in zip(zip(*leaps), zip(*starts))]
+
+
+def side_by_side(words, copies, lines):
+    """The seconds by the clock that so many sessions take which begin together."""
+    started = time.monotonic()
+    playing = [subprocess.Popen(words, stdin=subprocess.PIPE, stdout=subprocess.DEVNULL) for _ in range(copies)]
+    for session in playing:
+        session.stdin.write(lines)
+        session.stdin.close()
+    for session in playing:
+        session.wait()
+    return time.monotonic() - started
+
+
+def most_of_machine(program, given):
+    """The columns of the machine itself: how much more sessions side by side do than one does in its time."""
+    words, first, line = words_of(program, *ROWS["60 clauses of 25 places"], 1), None, ""
+    for copies in given.workers:
+        clock = statistics.median(side_by_side(words, copies, b"leap\n") for _ in range(given.runs))
+        first = first or clock / copies
+        line += f"{clock * 1000:>11.1f} ms{'':11}{first * copies / clock:>7.2f}"
+    return line
 
 
 def rounds_of(words, workers):
@@ -104,6 +127,8 @@ def main():
         sys.exit(f"there is no program {given.program}: build it first, by ./ghcdb --prove")
     what = "" if given.instructions else "processor"
     print(f"{'':28}{'steps':>9}" + "".join(f"{f'{it} workers':>14}{what:>11}{'times':>7}" for it in given.workers))
+    if not given.instructions:
+        print(f"{'sessions side by side':28}{'':9}{most_of_machine(given.program, given)}", flush=True)
     for name, (file, query) in ROWS.items():
         if given.only not in name:
             continue
