@@ -12,7 +12,8 @@ use Rattle.ghc_records.specs.Journal.{took, step_of}
 use Rattle.ghc_shared.specs.declared.receipt.Receipt as given
 use Rattle.ghc_shared.specs.inner.Calls.{ListsWoken}
 use Rattle.ghc_term.specs.Lists.{In}
-use Rattle.ghc_pool.specs.inner.Plans.{AreWokenOf}
+use Rattle.ghc_pool.specs.inner.Plans.{AreWokenOf, TellsStep, made_if_stepped}
+use Rattle.ghc_core.specs.declared.reply.Reply.TheVariants.{Held, Stepped, Undone, Arranged, Refused}
 use Rattle.ghc_shared.specs.declared.calls.Call.TheVariants.{Note}
 use Rattle.ghc_fire.specs.Meter.{one_more}
 use Rattle.std.proofs.Math.Nat.{min-le_left}
@@ -140,12 +141,34 @@ commit_refused w v hands h reply left (Answers.says hand s) same = elim s [ ]
 commit_refused w v hands h reply left (Answers.fails {f = f} hand why) same = (f, refl)
 commit_refused w v hands h reply left (Answers.no_memory s) same = (Fault.Memory, refl)
 
+stepped_refused : (n : ℕ) (f : Fault) → events.stepped n ≡ events.refused f → ⊥
+stepped_refused n f e = cc
+
 -- a submit that was not accepted is refused
 submit_refused : (before : List Item) (p : Proposal) (r : given.Receipt Reply) (old new : Known Item) → IsDecided IsAnswerTo before (Submit p) r old new → r.accepted ≡ false → IsRefusal (reply_of r.reply)
 submit_refused before p r old new d told =
     let a : IsRefusedCall IsAnswerTo before (Submit p) r.reply old new = rw told at d.decided in
     let is = a.answer.told in
     commit_refused is.before is.after (holding p) 1 (reply_of r.reply) is.left is.answer is.adds_nothing
+
+-- as many goals are made, where they are as many wherever the submit was accepted
+pub same_made : (before : List Item) (p : Proposal) (r : given.Receipt Reply) (old new : Known Item) → IsDecided IsAnswerTo before (Submit p) r old new → (made count : ℕ) → (r.accepted ≡ true → made ≡ count)
+    → made_if_stepped r.reply made ≡ made_if_stepped r.reply count
+same_made before p r old new d made count same = told r.reply refl
+  where
+    accepted : (n : ℕ) → r.reply ≡ Stepped n → (b : Bool) → r.accepted ≡ b → made ≡ count
+    accepted n e true a = same a
+    accepted n e false a =
+        let refused = submit_refused before p r old new d a in
+        absurd (stepped_refused n refused.0 (sym (ap reply_of e) ∙ refused.1))
+
+    told : (reply : Reply) → r.reply ≡ reply → made_if_stepped reply made ≡ made_if_stepped reply count
+    told (Held h) e = refl
+    told (Stepped n) e = accepted n e r.accepted refl
+    told (Reply.Noted g verdict) e = refl
+    told (Undone ns) e = refl
+    told Arranged e = refl
+    told (Refused f) e = refl
 
 -- a note has no place
 pub note_places : (before : List Item) (g : GoalName) (r : given.Receipt Reply) (old new : Known Item) → IsDecided IsAnswerTo before (Note g) r old new → new.places ≡ old.places
@@ -229,32 +252,35 @@ module _ (opened : Gv) (scope : Scope) (spies : Spies) (steps : Bool) (g : GoalN
   module _ (old new : Known Item) (step made : ℕ) (woken : Vec GoalName) where
     pub decided_submit : (before : List Item) (p : Proposal) (r : given.Receipt Reply) (stop : Option RoundStop) → steps ≡ true → IsInScope scope g → IsUnspiedStep opened spies g p → new.number ≡ old.number → IsPrefix old.front new.front → new.submits ≡ one_more old.submits
         → IsDecided IsAnswerTo before (Submit p) r old new → IsAnswered (Unit {0}) old.front new.front (holding p) (events.commit 1) (receipt_of r) → IsSubmitStop r.reply stop
-        → AreWokenOf opened g woken.items → IsDecidedAs opened scope spies steps g old new (record { answer = Submitted r; stop = stop; step = step; made = made; woken = woken })
-    decided_submit before p r stop takes inside unspied number begins made_one d a s listed = record {
+        → TellsStep opened g (Submitted r) step made → AreWokenOf opened g woken.items → IsDecidedAs opened scope spies steps g old new (record { answer = Submitted r; stop = stop; step = step; made = made; woken = woken })
+    decided_submit before p r stop takes inside unspied number begins made_one d a s makes listed = record {
       told = told_more opened scope spies steps old new g (Submitted r) number begins (submit_places before (Submit p) r old new d) made_one
           (λ base low. (p, inside, unspied, receipt_of_answer _ old.front new.front _ _ _ a, behind before (Submit p) r old new d base low, submit_stands before p r old new d, submit_refused before p r old new d));
       submits = omega (arith, ap one_if takes);
       reason = reason_of_submit r stop takes s;
+      makes = makes;
       woken = listed;
     }
 
     pub decided_note : (before : List Item) (r : given.Receipt Reply) (stop : Option RoundStop) → (steps ≡ true → IsNotedFor opened scope spies g r.reply) → new.number ≡ old.number → IsPrefix old.front new.front → new.submits ≡ old.submits
         → IsDecided IsAnswerTo before (Note g) r old new → IsAnswered (Unit {0}) old.front new.front no_hands (events.note g) (receipt_of r) → IsReason AreFedAnswers (Asks opened spies steps) stop ((g, Noted r) ∷ [])
-        → woken.items ≡ [] → IsDecidedAs opened scope spies steps g old new (record { answer = Noted r; stop = stop; step = step; made = made; woken = woken })
-    decided_note before r stop cause number begins same d a reason none = record {
+        → (step ≡ 0) × (made ≡ 0) → woken.items ≡ [] → IsDecidedAs opened scope spies steps g old new (record { answer = Noted r; stop = stop; step = step; made = made; woken = woken })
+    decided_note before r stop cause number begins same d a reason nothing none = record {
       told = told_more opened scope spies steps old new g (Noted r) number begins (note_places before g r old new d ∙ sym (append-nil old.places)) same
           (λ base low. (receipt_of_answer _ old.front new.front _ _ _ a, behind before (Note g) r old new d base low, cause));
       submits = omega arith;
       reason = reason;
+      makes = nothing;
       woken = none_woken opened g woken.items none;
     }
 
-  pub decided_starved : (old : Known Item) (step made : ℕ) (woken : Vec GoalName) → steps ≡ true → IsStarvedGoal opened g → woken.items ≡ []
+  pub decided_starved : (old : Known Item) (step made : ℕ) (woken : Vec GoalName) → steps ≡ true → IsStarvedGoal opened g → (step ≡ 0) × (made ≡ 0) → woken.items ≡ []
       → IsDecidedAs opened scope spies steps g old old (record { answer = Starved; stop = Some RoundStop.Memory; step = step; made = made; woken = woken })
-  decided_starved old step made woken takes why none = record {
+  decided_starved old step made woken takes why nothing none = record {
     told = told_more opened scope spies steps old old g Starved refl ([], append-nil old.front) (sym (append-nil old.places)) refl (λ base low. (takes, why));
     submits = omega arith;
     reason = tt;
+    makes = nothing;
     woken = none_woken opened g woken.items none;
   }
 

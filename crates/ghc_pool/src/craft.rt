@@ -6,8 +6,8 @@ ghost use Rattle.ghc_pool.specs.inner.Answers.{Taken, submits_in, one_if, IsReas
 use crate::answer::{Answer, RoundStop};
 use ghc_term::GoalName;
 
-/// What came of a name: its answer, the reason to stop if it is one, how many goals were made, by which step, and the goals that it
-/// woke. Where no step was taken, no goal is made and none is woken.
+/// What came of a name: its answer, the reason to stop if it is one, the number of the step that was taken, how many goals it made, and
+/// the goals that it woke. Where no step was taken, the number is 0, no goal is made, and those that it would have woken wait on.
 #[derive(Drop)]
 pub struct Decided {
     pub answer: Answer,

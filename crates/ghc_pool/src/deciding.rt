@@ -4,7 +4,7 @@ ghost use Rattle.std.specs.FinSet as set;
 ghost use Rattle.ghc_term.specs.declared.fault.Fault.TheVariants.{Memory as memory};
 ghost use Rattle.ghc_hooks.specs.Status.{ready};
 ghost use Rattle.ghc_pool.specs.inner.Told.{IsInScope, IsSpiedGoal, IsRefusedGoal, IsStarvedGoal, IsUnspiedStep, TellsStatus};
-ghost use Rattle.ghc_pool.specs.inner.Plans.{IsPlan, IsSubmitStop, IsSettlingStop, IsNoteStop, GoesOnWithout, IsDecidedAs, AreWokenOf};
+ghost use Rattle.ghc_pool.specs.inner.Plans.{IsPlan, IsSubmitStop, IsSettlingStop, IsNoteStop, step_in, made_if_stepped, GoesOnWithout, IsDecidedAs, AreWokenOf};
 
 use crate::answer::{Answer, RoundStop};
 use crate::craft::{Craft, Decided};
@@ -101,7 +101,10 @@ fn stop_of_settling(reply: &Reply) -> Option<RoundStop>
 }
 
 // The step that was taken, and how many goals it made; or none, if the reply tells of no step.
-fn step_and_made(reply: &Reply, made: u32) -> (u32, u32) {
+fn step_and_made(reply: &Reply, made: u32) -> (u32, u32)
+    ensures step { result.0 ≡ step_in reply.now }
+    ensures made { result.1 ≡ made_if_stepped reply.now made }
+{
     match reply {
         Reply::Stepped(step) => (*step, made),
         _ => (0, 0),

@@ -1,5 +1,5 @@
 -- What is to be done with a goal, and what comes of it.
-use Rattle.std.specs.Prelude.{◌≡◌, ◌≤◌, ◌++◌, List, [], ◌∷◌, Bool, true, Option, Some, None, Ok}
+use Rattle.std.specs.Prelude.{◌≡◌, ℕ, ◌≤◌, ◌++◌, List, [], ◌∷◌, length, Bool, true, Option, Some, None, Ok}
 use base.Stored.{Gv}
 use Rattle.ghc_term.specs.declared.goal_name.GoalName.{GoalName}
 use Rattle.ghc_term.specs.declared.fault.Fault.{Fault}
@@ -10,9 +10,11 @@ use Rattle.ghc_core.specs.World.{World, Proposal}
 use Rattle.ghc_core.specs.Events as events
 use Rattle.ghc_core.specs.EventCode.{reply_of}
 use Rattle.ghc_core.specs.declared.reply.Reply.{Reply}
+use Rattle.ghc_core.specs.declared.reply.Reply.TheVariants.{Held, Stepped, Noted, Undone, Arranged, Refused}
 use Rattle.ghc_shared.specs.Passes.{Known}
 use Rattle.ghc_shared.specs.inner.Calls.{IsProposal, LooksWhereBound}
 use Rattle.ghc_trace.specs.Spies.{Spies}
+use Rattle.ghc_pool.specs.declared.answer.Answer.{Answer}
 use Rattle.ghc_pool.specs.declared.answer.RoundStop.{RoundStop}
 use Rattle.ghc_pool.specs.declared.answer.RoundStop.TheVariants.{Memory, Limit, Full, Spied, Clash}
 use Rattle.ghc_pool.specs.declared.craft.Decided.{Decided}
@@ -65,14 +67,39 @@ IsNoteStop spied g reply (Some Full) = ⊥
 IsNoteStop spied g reply (Some (Spied h)) = (spied ≡ true) × (h ≡ g) × TellsStatus ready reply
 IsNoteStop spied g reply (Some (Clash h)) = (h ≡ g) × ((f : Fault) × TellsStatus (failed f) reply)
 
+-- the number of the step that the reply tells of; 0 where it tells of none
+abbrev pub step_in : Reply → ℕ
+step_in (Held h) = 0
+step_in (Stepped n) = n
+step_in (Noted g verdict) = 0
+step_in (Undone ns) = 0
+step_in Arranged = 0
+step_in (Refused f) = 0
+
+-- so many goals, where the reply tells of a step; else none
+abbrev pub made_if_stepped : Reply → ℕ → ℕ
+made_if_stepped (Held h) made = 0
+made_if_stepped (Stepped n) made = made
+made_if_stepped (Noted g verdict) made = 0
+made_if_stepped (Undone ns) made = 0
+made_if_stepped Arranged made = 0
+made_if_stepped (Refused f) made = 0
+
+-- The answer to the name g tells of the step of this number, which makes as many goals as a step of g that was proposed; or it tells of no step: then the number is 0, and no goal is made.
+abbrev pub TellsStep : Gv → GoalName → Answer → ℕ → ℕ → Type 0
+TellsStep opened g (Answer.Submitted r) step made = (step ≡ step_in r.reply) × ((w : World) × (p : Proposal) × IsProposal opened w g None (Ok p) × (made ≡ made_if_stepped r.reply (length p.effect.makes)))
+TellsStep opened g (Answer.Noted r) step made = (step ≡ 0) × (made ≡ 0)
+TellsStep opened g Answer.Starved step made = (step ≡ 0) × (made ≡ 0)
+
 module _ (opened : Gv) (scope : Scope) (spies : Spies) (steps : Bool) where
   -- A pass that went on so far goes on with no answer more.
   abbrev pub GoesOnWithout : Known Item → Known Item → Type 0
   GoesOnWithout old new = (start : Known Item) (taken : List Taken) → IsPassAfter opened scope spies steps start taken old → IsPassAfter opened scope spies steps start taken new
 
-  -- The goal named g was decided: a pass that went on so far goes on with this answer. It tells of a submit at most, and of none where no steps are taken. The reason to stop, if there is one, is this answer's. What is woken looks where a step of the goal binds that was proposed.
+  -- The goal named g was decided: a pass that went on so far goes on with this answer. It tells of a submit at most, and of none where no steps are taken. The reason to stop, if there is one, is this answer's. The step that it tells of, if it tells of one, makes so many goals. What is woken looks where a step of the goal binds that was proposed.
   pub record IsDecidedAs (g : GoalName) (old new : Known Item) (d : Decided) : Type 0 where
     pub told : (start : Known Item) (taken : List Taken) → IsPassAfter opened scope spies steps start taken old → IsPassAfter opened scope spies steps start (taken ++ (g, d.answer) ∷ []) new
     pub submits : submits_in d.answer ≤ one_if steps
     pub reason : IsReason AreFedAnswers (Asks opened spies steps) d.stop ((g, d.answer) ∷ [])
+    pub makes : TellsStep opened g d.answer d.step d.made
     pub woken : AreWokenOf opened g d.woken.items

@@ -12,4 +12,4 @@ returns g c =
     let call = c.note-receipt.ensures in
     decided_note g.N.Naming.opened c.args.self.now.scope.now c.args.self.now.spies.now c.args.self.now.steps c.args.goal c.args.pass.now c.note-receipt.new.me _ _ _ call.decided.0 c.note-receipt.result c.stop_of_note-stop.result
     (λ _. inr (inr (c.requires.refused, not_told c.is_ready.result c.if-is_ready.false c.is_ready.ensures.1))) call.number call.begins call.submits call.decided.1 call.answered
-    (reason_of_note g.N.Naming.opened c.args.self.now.scope.now c.args.self.now.spies.now c.args.self.now.steps c.args.goal false c.note-receipt.result c.stop_of_note-stop.result c.requires.steps (λ e. opposite false e refl) c.stop_of_note-stop.ensures) c.new.ensures.items
+    (reason_of_note g.N.Naming.opened c.args.self.now.scope.now c.args.self.now.spies.now c.args.self.now.steps c.args.goal false c.note-receipt.result c.stop_of_note-stop.result c.requires.steps (λ e. opposite false e refl) c.stop_of_note-stop.ensures) (refl, refl) c.new.ensures.items

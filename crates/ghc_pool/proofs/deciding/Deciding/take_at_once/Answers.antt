@@ -1,7 +1,7 @@
-use Rattle.ghc_pool.proofs.Words.{subst, None, Err, Fault, World, Known, Item, IsProposal, GoesOnWithout, IsDecidedAs}
+use Rattle.ghc_pool.proofs.Words.{subst, ◌∙◌, length, None, Err, Fault, World, Known, Item, IsProposal, GoesOnWithout, IsDecidedAs}
 use Rattle.std.specs.Prelude.{MatchOption}
 use Rattle.ghc_pool.proofs.Spied.{nothing_spied}
-use Rattle.ghc_pool.proofs.Telling.{decided_submit, opposite, woken_of}
+use Rattle.ghc_pool.proofs.Telling.{decided_submit, opposite, same_made, woken_of}
 use Rattle.ghc_pool.proofs.deciding.Deciding.take_at_once.Goals as goal
 
 pub returns-in-Ok : goal.returns-in-Ok
@@ -11,7 +11,9 @@ returns-in-Ok g c =
     let at = c.in-Ok.ensures.stepped in
     decided_submit g.N.Naming.opened c.args.self.now.scope.now spies c.args.self.now.steps c.args.goal c.args.pass.now c.step_at_once.new.me _ _ _ at.before at.step c.in-Ok.receipt c.stop_of_submit-stop.result
     c.requires.steps c.requires.inside (at.world, at.proposed, nothing_spied spies at.world c.args.goal c.requires.unspied) call.number call.begins c.in-Ok.ensures.submits at.decided at.answered
-    c.stop_of_submit-stop.ensures (woken_of g.N.Naming.opened c.args.goal at.step c.new-woken.result.items c.step_at_once.new.woken.items c.new-woken.ensures.items (at.world, at.proposed, at.wakes))
+    c.stop_of_submit-stop.ensures
+    (c.step_and_made-step.ensures.step, (at.world, at.step, at.proposed, c.step_and_made-step.ensures.made ∙ same_made at.before at.step c.in-Ok.receipt c.args.pass.now c.step_at_once.new.me at.decided c.in-Ok.goals (length at.step.effect.makes) at.makes))
+    (woken_of g.N.Naming.opened c.args.goal at.step c.new-woken.result.items c.step_at_once.new.woken.items c.new-woken.ensures.items (at.world, at.proposed, at.wakes))
 
 pub starve-requires-clause-starved : goal.starve-requires-clause-starved
 starve-requires-clause-starved g c =
