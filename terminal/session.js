@@ -28,12 +28,12 @@ function formOf(line) {
 // What is thrown where the console refuses to list the goals, since one of them is too long to print.
 class NotTold extends Error {}
 
-/** The text of a file; empty where it cannot be read, which ghcdb tells. */
-function textOf(file) {
+/** What a file holds; nothing where it cannot be read, which ghcdb tells. */
+function bytesOf(file) {
   try {
-    return fs.readFileSync(file, "utf8");
+    return fs.readFileSync(file);
   } catch {
-    return "";
+    return Buffer.alloc(0);
   }
 }
 
@@ -49,7 +49,8 @@ class Session {
 
   /** Begins anew with the files as they are now. Throws `Program.Ended` where ghcdb refuses them. */
   async begin() {
-    this.text = textOf(this.given.file);
+    this.bytes = bytesOf(this.given.file);
+    this.text = this.bytes.toString("utf8");
     this.program = Program.open(this.words, this.native);
     const goals = await this.program.ask("goals");
     this.clauses = Reader.readProgram(this.text);
@@ -137,13 +138,14 @@ class Session {
     this.before = await this.program.ask("save");
   }
 
-  /** Ends the program in the midst of a run, and goes on from where it stood before. */
+  /** Ends the program in the midst of a run, and goes on from where it stood before: by the text as it was, whatever its file holds now. */
   async endRun() {
     await this.program.kill();
-    const folder = fs.mkdtempSync(path.join(os.tmpdir(), "ghcdb-")), history = path.join(folder, "session.history");
+    const folder = fs.mkdtempSync(path.join(os.tmpdir(), "ghcdb-")), [history, program] = ["session.history", "program.ghc"].map((name) => path.join(folder, name));
     try {
       fs.writeFileSync(history, `${this.before.join("\n")}\n`);
-      this.program = Program.open(wordsFrom(this.words, history), this.native);
+      fs.writeFileSync(program, this.bytes);
+      this.program = Program.open(wordsFrom(this.words, { history, program }), this.native);
       await this.program.ask("goals");
     } finally {
       fs.rmSync(folder, { recursive: true });

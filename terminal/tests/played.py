@@ -172,6 +172,25 @@ def test_interrupt_in_a_run(home):
         terminal.end()
 
 
+def test_interrupt_where_the_file_has_changed(home):
+    for text in ("q(1).\n" + ENDLESS, "p(1\n", None):
+        with tempfile.TemporaryDirectory() as folder:
+            program = Path(folder, "endless.ghc")
+            program.write_text(ENDLESS)
+            terminal = start(home, str(program), "--query", "p(0)", wait=60.0)
+            terminal.type("leap 3")
+            before = terminal.type("records")
+            program.unlink() if text is None else program.write_text(text)
+            terminal.press("leap\r")
+            time.sleep(0.1)
+            terminal.press("\x03")
+            shown = terminal.read()
+            wants("% the run was ended; the session stands as before it" in shown, shown[-500:])
+            wants(terminal.type("records") == before, "the session is another one")
+            wants(is_met("REDU 4 ", terminal.type("leap 1")), "no run after it")
+            terminal.end()
+
+
 def test_interrupt_of_what_takes_many_lines(home):
     with tempfile.TemporaryDirectory() as folder:
         program = Path(folder, "endless.ghc")

@@ -78,5 +78,5 @@ test("the words of the command line", () => {
   assert.deepStrictEqual([given.file, given.query, given.load, given.workers, isSession(given)], ["a.ghc", "p(X)", "h", "2", true]);
   assert.strictEqual(isSession(readWords(["a.ghc", "--query", "--help"])), true);
   for (const words of [["--help"], ["a.ghc", "--query", "p", "--schedule", "s"], ["a.ghc"], ["--query", "p"]]) assert.strictEqual(isSession(readWords(words)), false, words.join(" "));
-  assert.deepStrictEqual(wordsFrom(["a.ghc", "--load=x", "--query", "q", "--load", "y"], "z"), ["a.ghc", "--query", "q", "--load", "z"]);
+  assert.deepStrictEqual(wordsFrom(["--query", "a.ghc", "a.ghc", "--load=x", "--load", "y"], { history: "z", program: "b" }), ["--query", "a.ghc", "b", "--load", "z"]);
 });
