@@ -43,6 +43,7 @@ class Keyboard {
     this.reader.on("line", (line) => this.hear(line));
     this.reader.on("history", (history) => { this.history = history; });
     this.reader.on("SIGINT", () => this.interrupt());
+    this.reader.on("SIGCONT", () => this.reader.resume()); // after ^Z and `fg` the reader stands still until somebody wakes it
     this.reader.on("close", () => { if (!this.isClosing) this.end(); });
   }
 

@@ -13,6 +13,7 @@ import json
 import multiprocessing
 import os
 import re
+import signal
 import subprocess
 import sys
 import tempfile
@@ -189,6 +190,16 @@ def test_interrupt_where_the_file_has_changed(home):
             wants(terminal.type("records") == before, "the session is another one")
             wants(is_met("REDU 4 ", terminal.type("leap 1")), "no run after it")
             terminal.end()
+
+
+def test_stopped_by_the_shell(home):
+    terminal = start(home, str(ROOT / "examples/bill.ghc"), "--query", "bill(12,3,T)")
+    terminal.press("\x1a")
+    time.sleep(0.5)
+    os.kill(terminal.child, signal.SIGCONT)
+    terminal.read()
+    wants(is_met("=REDU 1 0.1 by 1", terminal.type("step")), "no key is heard after fg")
+    terminal.end()
 
 
 def test_interrupt_of_what_takes_many_lines(home):
