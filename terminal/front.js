@@ -13,6 +13,7 @@ const { notesAfter, plural } = require("./telling.js");
 const MARK = "% ";
 const MOST_NOTES = 6; // on a program that are shown
 const FIRST = 20, LAST = 10, LONG = 40; // lines of a long run that are shown, and how many a run has that is shown whole
+const AT_ONCE = 500; // lines that are shown before keys are heard again
 const PROMPT_STEPS = 1000; // a run of so many steps ends soon: it is not prepared for being ended
 const MOST_WATCHED = 1_000_000;
 const ASK_AGAIN = { quit: "quit again ends", restart: "restart again begins anew" };
@@ -112,7 +113,7 @@ class Front {
       this.out(reply[0]);
       return this.note(usageOf(meaning.name));
     }
-    this.show(reply);
+    await this.show(reply);
     return this.note(...await notesAfter(this.session, meaning, reply));
   }
 
@@ -129,12 +130,22 @@ class Front {
   }
 
   /** Tells a reply; of a long run its first and last lines. */
-  show(reply) {
+  async show(reply) {
     const isRun = reply.length > LONG && reply.at(-1).startsWith("stopped ");
-    if (!isRun) return reply.forEach((line) => this.out(line));
+    if (!isRun) return this.showAll(reply);
     reply.slice(0, FIRST).forEach((line) => this.out(line));
     this.note(`.. ${plural(reply.length - 1 - FIRST - LAST, "step")} more (records shows all) ..`);
     return reply.slice(-LAST - 1).forEach((line) => this.out(line));
+  }
+
+  /** Tells lines, of which there may be many: between pieces of them keys are heard, and ^C ends it. */
+  async showAll(lines) {
+    for (let at = 0; at < lines.length; at += AT_ONCE) {
+      if (at > 0) await new Promise((resolve) => { setImmediate(resolve); });
+      if (this.isInterrupted) return this.note(`.. ${plural(lines.length - at, "line")} more ..`);
+      lines.slice(at, at + AT_ONCE).forEach((line) => this.out(line));
+    }
+    return undefined;
   }
 
   /** What ^C asks for. True where it ends something. */
@@ -209,7 +220,7 @@ class Front {
 
   async on_records({ words }) {
     if (words.length !== 1) return false;
-    this.note(...await Own.records(this.session, words));
+    await this.showAll((await Own.records(this.session, words)).map((line) => MARK + line));
     return true;
   }
 
@@ -220,7 +231,7 @@ class Front {
     const reply = await this.session.askNewer(line);
     if (reply === undefined) return this.note(...await Own[name](this.session, words, (roll) => this.rolled(roll)));
     if (typed.trim() !== line) this.note(`sent: ${line}`);
-    this.show(reply);
+    await this.show(reply);
     return this.note(...await notesAfter(this.session, { name, words, line }, reply));
   }
 
@@ -234,7 +245,7 @@ class Front {
   async rolled(line) {
     this.note(`sent: ${line}`);
     const reply = await this.session.ask(line);
-    this.show(reply);
+    await this.show(reply);
     return reply;
   }
 
@@ -248,7 +259,8 @@ class Front {
       if (last !== "stopped limit") break;
       now = await this.session.ask(line);
     }
-    this.show(now = await this.session.ask(line));
+    now = await this.session.ask(line);
+    now.forEach((told) => this.out(told));
     if (isUnbound(now)) return this.note(this.isInterrupted ? "ended: it is not bound" : `it is not bound: ${last}`);
     return this.note(isUnbound(was) ? `bound by step ${this.session.kept.last}; sent: leap 1, ${plural(taken, "time")}` : "it is bound already");
   }

@@ -55,7 +55,7 @@ class Keyboard {
 
   /** The next line. */
   async next() {
-    if (this.lines.length === 0) {
+    while (this.lines.length === 0) {
       this.reader.prompt(true);
       await new Promise((resolve) => { this.wake = resolve; });
     }
@@ -63,8 +63,9 @@ class Keyboard {
     return this.lines.shift();
   }
 
-  /** Drops what was typed, as ^C does at a prompt. */
-  dropLine() {
+  /** Drops what was typed, and the lines that nobody has taken yet, as ^C does. */
+  drop() {
+    this.lines.length = 0;
     this.reader.line = "";
     this.reader.cursor = 0;
   }

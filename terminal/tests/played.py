@@ -173,6 +173,35 @@ def test_interrupt_in_a_run(home):
         terminal.end()
 
 
+def test_interrupt_of_a_long_list(home):
+    with tempfile.TemporaryDirectory() as folder:
+        program = Path(folder, "endless.ghc")
+        program.write_text(ENDLESS)
+        terminal = start(home, str(program), "--query", "p(0)", wait=60.0)
+        terminal.type("leap 20000")
+        for listing in ("records", "records p/1", "causes"):
+            terminal.press(f"{listing}\r")
+            time.sleep(0.3)  # nobody reads, so that the terminal is full, and the rest is not shown yet
+            terminal.press("\x03")
+            shown = terminal.read()
+            wants(shown.count("\n") < 9000 and re.search(r"% \.\. \d+ lines more \.\.\n", shown), f"{listing}: {shown[-200:]}")
+            wants(is_met("20000 steps", terminal.type("stat")), "the session is gone")
+        terminal.end()
+
+
+def test_interrupt_drops_the_lines_that_wait(home):
+    with tempfile.TemporaryDirectory() as folder:
+        program = Path(folder, "endless.ghc")
+        program.write_text(ENDLESS)
+        terminal = start(home, str(program), "--query", "p(0)", wait=60.0)
+        terminal.press("leap\rleap 7\r")
+        time.sleep(0.5)
+        terminal.press("\x03")
+        wants("% the run was ended; the session stands as before it" in terminal.read(), "no end")
+        wants(is_met("=0.1 ready p(0)", terminal.type("goals")), "the next line was played")
+        terminal.end()
+
+
 def test_interrupt_where_the_file_has_changed(home):
     for text in ("q(1).\n" + ENDLESS, "p(1\n", None):
         with tempfile.TemporaryDirectory() as folder:
