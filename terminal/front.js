@@ -5,7 +5,7 @@
 const fs = require("node:fs");
 const Causes = require("../model/causes.js");
 const { Ended } = require("./program.js");
-const { Session, isRefusal } = require("./session.js");
+const { NotTold, Session, isRefusal } = require("./session.js");
 const { helpLines, isNewer, meaningOf, suggestionFor, usageOf } = require("./commands.js");
 const Own = require("./own.js");
 const { notesAfter, plural } = require("./telling.js");
@@ -87,6 +87,7 @@ class Front {
     } catch (error) {
       if (error instanceof Ended) await this.afterEnd(error);
       else if (error instanceof Interrupted) this.note(RUN_ENDED);
+      else if (error instanceof NotTold) this.note(`${error.message}; step and leap go on`);
       else this.note(`the terminal can tell no more of it (${error.message}); the session stands`);
     }
   }
@@ -172,8 +173,9 @@ class Front {
 
   async on_step({ words }) {
     if (words.length > 0) return false;
-    const goals = await this.session.goals(), ready = goals.find(({ status }) => status === "ready");
-    if (ready !== undefined) await this.send({ name: "step", words: [ready.name], line: `step ${ready.name}` });
+    const goals = await this.session.goalsTold(), ready = goals?.find(({ status }) => status === "ready");
+    if (goals === undefined) await this.send({ name: "leap", words: ["1"], line: "leap 1" });
+    else if (ready !== undefined) await this.send({ name: "step", words: [ready.name], line: `step ${ready.name}` });
     else this.note(goals.length === 0 ? "no goal is ready: all is done" : "no goal is ready", ...(goals.length === 0 ? [] : await Own.stuck(this.session)));
     return true;
   }

@@ -28,6 +28,8 @@ function formOf(line) {
 // What is thrown where the console refuses to list the goals, since one of them is too long to print.
 class NotTold extends Error {}
 
+const TOO_LONG = { "F6 limit: print": "a goal is longer than 1,048,576 bytes, so that no goal can be listed" };
+
 /** What a file holds; nothing where it cannot be read, which ghcdb tells. */
 function bytesOf(file) {
   try {
@@ -111,8 +113,18 @@ class Session {
       this.seen.list = Graph.readGoals(this.seen.reply);
       this.seen.goals = this.kept.changes;
     }
-    if (isRefusal(this.seen.reply)) throw new NotTold(`goals: ${this.seen.reply[0]}`);
+    if (isRefusal(this.seen.reply)) throw new NotTold(TOO_LONG[this.seen.reply[0]] ?? `goals: ${this.seen.reply[0]}`);
     return this.seen.list;
+  }
+
+  /** The goals as they stand; undefined where the console lists none. */
+  async goalsTold() {
+    try {
+      return await this.goals();
+    } catch (error) {
+      if (error instanceof NotTold) return undefined;
+      throw error;
+    }
   }
 
   async goalNamed(name) {

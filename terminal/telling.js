@@ -126,7 +126,8 @@ const STOPS = {
 
 /** What the last line of a run means. */
 async function afterStop(session, line) {
-  const [, reason, name] = line.split(" "), goals = await session.goals();
+  const [, reason, name] = line.split(" "), goals = await session.goalsTold();
+  if (goals === undefined || STOPS[reason] !== undefined) return STOPS[reason] ?? [];
   const goal = goals.find((other) => other.name === name);
   if (reason === "quiet") {
     const count = goals.filter(({ status }) => status === "waits").length, streams = goals.filter(({ status }) => status === "stream").length;
@@ -135,8 +136,7 @@ async function afterStop(session, line) {
     return open.length > 0 ? open : [goals.length === 0 ? "all is done" : "nothing that comes of it is left to do"];
   }
   if (reason === "clash" && goal) return [`${goal.text} has failed: ${goal.refusal}`, ...await whyFailed(session, name, goal.refusal)];
-  if (reason === "spied" && goal) return [`next is ${goal.text}: step ${name} takes it`];
-  return STOPS[reason] ?? [];
+  return reason === "spied" && goal ? [`next is ${goal.text}: step ${name} takes it`] : [];
 }
 
 /** After SUSP and FAIL lines: for what a goal waits, by the names of the text; why it has failed. */
@@ -157,7 +157,8 @@ async function afterSettling(session, reply) {
 async function afterShow(session, reply) {
   const [, variable] = /^\S+ = (_\d+_\d+)$/.exec(reply[0]) ?? [];
   if (variable === undefined) return [];
-  const holders = Stuck.holdersOf(await session.goals()).get(variable) ?? [];
+  const goals = await session.goalsTold(), holders = Stuck.holdersOf(goals ?? []).get(variable) ?? [];
+  if (goals === undefined) return [`${session.run.labelOf(variable)} is unbound`];
   const held = holders.length === 0 ? "no goal has it" : `held by ${some(holders.map(({ name }) => name)).join(", ")}`;
   return [`${session.run.labelOf(variable)} is unbound; ${held}`];
 }

@@ -202,6 +202,19 @@ def test_interrupt_drops_the_lines_that_wait(home):
         terminal.end()
 
 
+def test_goals_that_are_too_long_to_print(home):
+    with tempfile.TemporaryDirectory() as folder:
+        program = Path(folder, "double.ghc")
+        program.write_text("d(0,T,R) :- true | R = T.\nd(N,T,R) :- N > 0 | M := N - 1, d(M,f(T,T),R).\n")
+        terminal = start(home, str(program), "--query", "d(24,a,R)", wait=60.0)
+        wants(terminal.type("leap 45")[-2:] == ["stopped limit", "% leap goes on"], "no note")
+        wants(is_met("% a goal is longer than 1,048,576 bytes, so that no goal can be listed; step and leap go on", terminal.type("stuck")), "no reason")
+        wants(terminal.type("R") == ["% sent: show R", "R = _0_1", "% _0_1 (R of the query) is unbound"], "no value")
+        wants(terminal.type("step")[:2] == ["% sent: leap 1", "REDU 46 45.1 is"], "no step")
+        wants(terminal.type("run")[-2:] == ["stopped quiet", "% all is done"], "no end")
+        terminal.end()
+
+
 def test_interrupt_where_the_file_has_changed(home):
     for text in ("q(1).\n" + ENDLESS, "p(1\n", None):
         with tempfile.TemporaryDirectory() as folder:
