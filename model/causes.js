@@ -38,12 +38,14 @@ const Causes = ((Tokens, Reader, SyntaxCauses, CheckerCauses, Nearest) => {
     return { source: `${start}${source.slice(from, to)}${to < source.length ? " .." : ""}`, before: start + source.slice(from, before) };
   }
 
+  const visible = (source) => source.replace(/[\x00-\x08\x0b-\x1f\x7f]/g, "\ufffd"); // so that a text cannot give a terminal orders
+
   /** The lines that show a cause: title, place, the text's line with a caret, hints. */
   function linesOf(cause, text) {
     const { which, line, column, length, title, hints } = cause, shown = shownOf(lineOf(text, line), letterOf(cause, text) - 1, length);
     const number = String(line), margin = " ".repeat(number.length);
     return [
-      title, `${margin}--> ${which}:${line}:${column}`, `${margin} |`, `${number} | ${shown.source}`, `${margin} | ${shown.before.replace(/[^\t]/g, " ")}${"^".repeat(length)}`,
+      title, `${margin}--> ${which}:${line}:${column}`, `${margin} |`, `${number} | ${visible(shown.source)}`, `${margin} | ${shown.before.replace(/[^\t]/g, " ")}${"^".repeat(length)}`,
       ...hints.map((hint) => `${margin} = ${hint}`),
     ];
   }

@@ -53,8 +53,8 @@ const CheckerCauses = ((Tokens, Habits, Nearest) => {
   /** F4: the second place of the variable in the head. */
   function notLinear(tokens, name, number) {
     const token = Tokens.clausesOf(tokens)[number - 1].filter(({ text }) => text === name)[1];
-    const cure = `name the second one otherwise, as ${name}1, and compare: ${name} =:= ${name}1 in the guard, for numbers`;
-    return causeAt(token, `not linear, clause ${number}: ${name} stands twice in the head`, cure);
+    const cures = [`a head binds nothing: name the second one ${name}1, and write ${name}1 = ${name} in the body`, `to compare numbers write ${name} =:= ${name}1 in the guard`];
+    return causeAt(token, `not linear, clause ${number}: ${name} stands twice in the head`, ...cures);
   }
 
   /** The predicates that a program's clauses define, by name and arity. */

@@ -22,11 +22,13 @@ const Habits = (() => {
     [/^&+/, "& is not of the language", "goals and tests are separated by commas"],
     [/^#/, "# is not of the language", "a comment begins with %; there is nothing to import"],
     [/^\^/, "there is no operator ^", "multiply: Y := X * X"],
-    [/^[@$~]/, "no mark of the language begins so", "a clause is: head :- guard | body."],
+    [/^@/, "there is no @", "a goal has no place and no priority: drop it"],
+    [/^[$~]/, "no mark of the language begins so", "a clause is: head :- guard | body."],
     [/^:/, ": is not of the language", "a clause is head :- guard | body.  There are no modules"],
     [/^\}/, "there are no {..}", "use a structure, as pair(a,b)"],
     [/^\ufeff/, "the text begins with a byte order mark, which nobody sees", "save it as UTF-8 without BOM"],
     [/^\u00a0/, "a no-break space stands here, which looks like a blank", "write a blank"],
+    [/^[\x00-\x1f\x7f]/, "a control character stands here, which nobody sees", "drop it"],
     [/^[^\x00-\x7f]/u, "this letter is not of the language", "names have the 52 letters of ASCII, digits and _; other letters may stand in comments alone"],
     [/^\\/, "\\ begins no mark here but =\\=", "\"not equal\" of numbers is =\\= and stands in the guard"],
   ];
@@ -46,6 +48,9 @@ const Habits = (() => {
     "||": ["there is no \"or\"", "write two clauses"],
     "**": ["there is no operator **", "multiply: Y := X * X"],
     "<>": ["<> is written =\\=", "X =\\= Y, for numbers, in the guard"],
+    "<<": ["there is no operator <<", "multiply: Y := X * 2"],
+    ">>": ["there is no operator >>", "divide: Y := X / 2"],
+    "=.": ["there is no =..", "the head takes a term apart, as p(f(X)) :- .."],
     "//": ["there is no operator //", "integer division is /, the remainder mod"],
   };
 
@@ -76,6 +81,11 @@ const Habits = (() => {
     nonvar: ["nonvar is written wait", "wait(X) says yes when X is bound"],
     ground: ["there is no test ground", "wait(X) says yes when X is bound, whatever stands in it"],
     var: ["no test tells that a variable is unbound", "it may be bound later; wait(X), integer(X), atom(X), list(X) wait until it is"],
+    unbound: ["no test tells that a variable is unbound", "it may be bound later; wait(X), integer(X), atom(X), list(X) wait until it is"],
+    bound: ["bound is written wait", "wait(X) says yes when X is bound"],
+    known: ["known is written wait", "wait(X) says yes when X is bound"],
+    data: ["data is written wait", "wait(X) says yes when X is bound"],
+    diff: ["there is no test diff", "for numbers write X =\\= Y; for other terms write a clause for each case"],
     number: ["number is written integer", "all numbers are integers"],
     is_list: ["is_list is written list", "list(X) says yes to [] and to a cell"],
     atomic: ["there is no test atomic", "use integer(X) in one clause and atom(X) in another"],
@@ -87,7 +97,7 @@ const Habits = (() => {
   // Predicates that are built in elsewhere, and what stands for them.
   const NO_OUTPUT = "there is no output: give the process a list, and look at it by `show`";
   const PREDICATES = {
-    write: NO_OUTPUT, writeln: NO_OUTPUT, print: NO_OUTPUT, format: NO_OUTPUT, nl: NO_OUTPUT, printf: NO_OUTPUT, display: NO_OUTPUT,
+    write: NO_OUTPUT, writeln: NO_OUTPUT, print: NO_OUTPUT, format: NO_OUTPUT, nl: NO_OUTPUT, printf: NO_OUTPUT, println: NO_OUTPUT, display: NO_OUTPUT,
     read: "there is no input but streams: write instream(S) in the query, and feed it by `in 1 TERM`",
     fail: "there is no fail: a goal fails where no clause says yes", false: "there is no false: a goal fails where no clause says yes",
     not: "there is no negation: write a clause for the other case", halt: "`quit` ends a session",
@@ -96,6 +106,7 @@ const Habits = (() => {
     wait: "wait is a test, and stands before the bar", integer: "integer is a test, and stands before the bar",
     atom: "atom is a test, and stands before the bar", list: "list is a test, and stands before the bar",
     instream: "instream takes one variable, and stands in the query: instream(S)",
+    functor: "the head takes a term apart, as p(f(X)) :- ..", arg: "the head takes a term apart, as p(f(X)) :- ..",
     call: "goals are no terms: `call` is not there", is: "`is` is written :=, as Y := X + 1",
     append: "nothing is built in: write its clauses, as in examples/append.ghc", merge: "nothing is built in: write its clauses, as in examples/merge.ghc",
     member: "nothing is built in: write its clauses", length: "nothing is built in: write its clauses", reverse: "nothing is built in: write its clauses, as in examples/reverse.ghc",

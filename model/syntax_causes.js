@@ -3,9 +3,10 @@
 const SyntaxCauses = ((Tokens, Habits) => {
   "use strict";
 
-  const COMPARISONS = new Set(["<", ">", "=<", ">=", "=:=", "=\\="]);
+  const COMPARISONS = new Set(["<", ">", "=<", ">=", "=:=", "=\\="]), OPERATIONS = new Set(["+", "-", "*", "/", "mod"]);
+  const IF_THEN_ELSE = ["there is no if-then-else", "write two clauses, each with its guard: p(X,Y) :- X > 0 | ..   p(X,Y) :- X =< 0 | .."];
   const CLAUSE = "a clause is: head :- guard | body.", GOALS = "a query is goals with commas between them, as append([1],[2],R)";
-  const ARGUMENT = ["an argument is a term, and is not computed", "compute it first: N1 := N - 1, fact(N1,F)"];
+  const ARGUMENT = "an argument is a term, and is not computed", COMPUTE_FIRST = "compute it first: N1 := N - 1, fact(N1,F)", PAIR = "a pair is a structure, as pair(A,B), or two arguments";
   const BEHIND_NUMBER = "numbers are integers, written in digits alone";
 
   const quoted = (token) => `'${token.text}'`;
@@ -25,6 +26,34 @@ const SyntaxCauses = ((Tokens, Habits) => {
       text, isQuery, tokens, place, token, before: tokens[place - 1], next: tokens[place + 1] ?? token, here: tokens.slice(stop + 1, place),
       later: end < 0 ? following : following.slice(0, end), rest: text.slice(token.at), depth: Tokens.depthOf(tokens.slice(stop + 1, place)),
     };
+  }
+
+  /** Lines that declare something elsewhere: directives, modules, modes. */
+  function declaration({ token, next, here, isQuery }) {
+    const [first, second] = [...here, token, next];
+    if (isQuery || second === first) return undefined;
+    if (first.text === "mode" && second.kind === "name") return { ...cause("there are no mode declarations", "drop this line: heads and guards tell what is read"), at: first };
+    const isDirective = (first.text === ":-" && here.length > 0) || (first.text === "-" && second.kind === "name");
+    return isDirective ? { ...cause("there are no directives and modules", "drop this line"), at: first } : undefined;
+  }
+
+  const hasArrow = (tokens) => tokens.some((token, place) => token.text === "-" && tokens[place + 1]?.text === ">" && touches(token, tokens[place + 1]));
+
+  /** A semicolon, which is "or" in a body, the end of a clause elsewhere, or what stands before an else. */
+  function semicolon({ token, next, here, isQuery }) {
+    if (token.text !== ";") return undefined;
+    const isAfterNeck = here.some(({ text }) => text === ":-"), ends = next.kind === "end" || next.line > token.line;
+    if (isQuery) return cause("there is no \"or\"", "a query is one row of goals: separate them by commas");
+    if (hasArrow(here)) return cause(...(isAfterNeck ? IF_THEN_ELSE : ["-> is written :-, and a clause ends with a full stop", CLAUSE]));
+    return ends && isAfterNeck ? cause("there is no \"or\"", "write two clauses", "a clause ends with a full stop") : undefined;
+  }
+
+  /** Marks of other languages that have two meanings. */
+  function markInPlace({ token, before, next, here, depth, isQuery }) {
+    if (token.text === "?" && endsTerm(before) && touches(before, token)) return cause("there are no read-only marks", "drop the ?: heads and guards wait for what they look at");
+    const isCommit = token.text === ":" && !touches(before, token) && !touches(token, next) && depth === 0 && Tokens.barOutside(here) < 0;
+    if (isCommit && !isQuery && here.length > 0) return cause("the bar of a clause is written |", CLAUSE);
+    return undefined;
   }
 
   function foreignMark({ rest, text, token }) {
@@ -92,9 +121,11 @@ const SyntaxCauses = ((Tokens, Habits) => {
   function beginning({ token, here, next, isQuery, before }) {
     if (here.length > 0) return undefined;
     if (isQuery && before?.text === ".") return cause("a query is one row of goals", "separate goals by commas");
-    if (token.text === ":-") return cause("a clause begins with a name", "there are no directives and modules: drop this line");
+    if (token.text === ":-") return isQuery ? cause("a query is given without :-", "drop the :-") : cause("a clause begins with a name", "there are no directives and modules: drop this line");
+    if (next.text === "." && ["otherwise", "alternatively"].includes(token.text)) return cause(...Habits.TESTS[token.text]);
     if (["true", "otherwise", "alternatively", "instream"].includes(token.text)) return cause(
-      `no clause is for ${token.text}`, "it has a meaning of its own; name the predicate otherwise");
+      `no clause is for ${token.text}`, "it has a meaning of its own: give the predicate another name");
+    if (token.text === "." && before?.text === ".") return cause("there is a full stop too many", "drop it");
     if (token.kind === "variable" && !isQuery && (next.text === "=" || next.text === ":=")) return cause(
       `a clause begins with a name, and not with ${quoted(token)}`, "goals stand in a clause's body, or in the query");
     if (token.kind === "variable") return cause(
@@ -124,16 +155,32 @@ const SyntaxCauses = ((Tokens, Habits) => {
     return undefined;
   }
 
+  /** An expression in the place of a term: in a head, or in an argument of a body. */
+  function expressionWithin({ token, before, next, isHead }) {
+    const isNumber = [token, before, next].some(({ kind }) => kind === "integer") && before.kind !== "name";
+    if (isHead) return cause("a head has terms, and computes nothing", ...(isNumber ? ["take a variable there, and compute in the body: N1 := N - 1"] : [PAIR]));
+    if (before.kind === "name" || next.kind === "name" || next.text === "[") return cause(ARGUMENT, PAIR);
+    const mayBePair = !isNumber && endsTerm(before) && ["-", "/"].includes(token.text);
+    return cause(ARGUMENT, COMPUTE_FIRST, ...(mayBePair ? [PAIR] : []));
+  }
+
   const BEFORE_OPERAND = new Set([":=", "<", ">", "=<", ">=", "=:=", "=\\=", "+", "-", "*", "/", "mod", "(", "|"]);
 
-  function arithmetic({ token, before, next, depth, here, later }) {
-    const isOperator = ["+", "-", "*", "/", "mod"].includes(token.text);
+  /** Is what stands at the end of a clause's beginning a side of a comparison? */
+  function isCompared(here) {
+    const from = here.findLastIndex(({ text }) => [",", "|", ":-"].includes(text)), goal = here.slice(from + 1);
+    return hasComparison(goal) && (COMPARISONS.has(goal.at(-1).text) || BEFORE_OPERAND.has(goal.at(-1).text));
+  }
+
+  function arithmetic({ token, before, next, depth, here, later, isQuery }) {
+    const isOperator = OPERATIONS.has(token.text);
     if (token.text === "-" && before?.text !== "(" && BEFORE_OPERAND.has(before?.text)) return cause(
       "there is no minus before a variable or a bracket", "write 0 - X");
-    if (isOperator && depth > 0) return cause(...ARGUMENT);
-    if (token.text.startsWith("-") && token.kind === "integer" && depth > 0) return cause(...ARGUMENT);
+    if (depth > 0 && (isOperator || (token.text.startsWith("-") && token.kind === "integer"))) return expressionWithin({ token, before, next, isHead: !isQuery && !here.some(({ text }) => text === ":-") });
     if (isOperator && [...here, ...later].some(({ text }) => text === "=")) return cause("= does not compute", "to compute write :=, as Y := X + 1");
     if (token.text === ":=") return cause("only a variable stands before :=", "turn it round, as X := 3, or compare numbers by =:= in the guard");
+    if (token.kind === "name" && isCompared(here)) return cause(
+      `${quoted(token)} is no number, and only numbers are compared`, "the head tests for a term, as p(a) :- ..; for \"not equal\" write a clause for each case");
     if (token.kind === "name" && next.text === "(" && BEFORE_OPERAND.has(before?.text) && here.at(-1)?.text !== "|" && here.some(({ text }) => text === ":=" || COMPARISONS.has(text))) return cause(
       `${token.text} is no operator, and nothing computes it`, `let a process give the value: ${token.text}(..,V), and then X := V`, "to name a term write =");
     if (token.kind === "name" && BEFORE_OPERAND.has(before?.text) && here.some(({ text }) => text === ":=" || COMPARISONS.has(text))) return cause(
@@ -156,7 +203,7 @@ const SyntaxCauses = ((Tokens, Habits) => {
   /** May the last goal before a guard's bar be a test? An expression without a comparison is none. */
   function isTest(here) {
     const start = here.findLastIndex(({ text }, place) => [",", ":-"].includes(text) && Tokens.depthOf(here.slice(0, place)) === 0), goal = here.slice(start + 1);
-    const isExpression = goal[0]?.kind === "integer" || (goal.length > 1 && goal.some(({ text }) => ["+", "-", "*", "/", "mod"].includes(text)));
+    const isExpression = goal[0]?.kind === "integer" || (goal.length > 1 && goal.some(({ text }) => OPERATIONS.has(text)));
     return start < 0 || !isExpression || hasComparison(goal) || Tokens.depthOf(here) > 0;
   }
 
@@ -174,6 +221,14 @@ const SyntaxCauses = ((Tokens, Habits) => {
     return undefined;
   }
 
+  /** An expression and `=` before the bar: a comparison is meant. */
+  function equationInGuard({ token, here, later, depth }) {
+    if (depth > 0 || Tokens.barOutside(here) >= 0 || Tokens.barOutside(later) < 0) return undefined;
+    const goal = here.slice(here.findLastIndex(({ text }) => [",", ":-"].includes(text)) + 1);
+    if (token.text === "=" ? isTest(here) : !OPERATIONS.has(token.text) || !goal.some(({ text }) => text === "=")) return undefined;
+    return cause("= does not compare", "to compare numbers write =:=, as X mod 2 =:= 0");
+  }
+
   function comparisonAfterBar({ token, here, later }) {
     const hasBar = Tokens.barOutside(here) >= 0;
     if (!COMPARISONS.has(token.text) || !hasBar || !later.some(({ text }) => text === "|")) return undefined;
@@ -185,10 +240,13 @@ const SyntaxCauses = ((Tokens, Habits) => {
     if (chained) return cause("a comparison has two sides", `write two: X < Y, Y < Z`);
     const isCompared = COMPARISONS.has(token.text) || ([".", ","].includes(token.text) && hasComparison(here)) || (token.kind === "end" && hasComparison(here));
     if (!isCompared || before === undefined) return undefined;
+    const open = Tokens.openBrackets(here).at(-1), isGrouped = open?.text === "(" && here[here.indexOf(open) - 1]?.kind !== "name";
+    if (isGrouped && COMPARISONS.has(token.text)) return cause("brackets group expressions alone", "write the tests without them, with commas between them");
     if (isQuery) return cause(
       "a comparison stands in the query", "comparisons are tests of clauses; to compute write Y := X + 1, and look at it by `show`");
-    return cause(
-      "a comparison stands in the body", "tests stand before the bar: head :- X > Y | body.", "a clause without a bar has the guard true, and all of it is body");
+    const at = COMPARISONS.has(token.text) ? undefined : here.find(({ text }) => COMPARISONS.has(text));
+    return { at, ...cause(
+      "a comparison stands in the body", "tests stand before the bar: head :- X > Y | body.", "a clause without a bar has the guard true, and all of it is body") };
   }
 
   function brackets({ token, before, here, depth }) {
@@ -261,14 +319,32 @@ const SyntaxCauses = ((Tokens, Habits) => {
     return cause("a name has no hyphen", `write ${before.text}_${next.text}`);
   }
 
-  function neighbours({ token, before, isQuery }) {
+  function neighbours({ token, before, isQuery, here, later, tokens, place }) {
     if (token.kind === "variable" && before?.kind === "name" && before.line === token.line) return cause(
       `${quoted(token)} cannot follow ${quoted(before)}`, `arguments stand in brackets: ${before.text}(${token.text})`);
     if (token.text === "(" && before?.kind === "variable") return cause(`${before.text} is a variable, and names nothing that has arguments`, `names begin with a small letter: ${before.text[0].toLowerCase()}${before.text.slice(1)}(..)`);
     if (!endsTerm(before) || !(["name", "variable", "integer"].includes(token.kind) || ["(", "["].includes(token.text))) return undefined;
-    const isNewLine = before.line < token.line && !isQuery;
-    return cause(
-      `${quoted(token)} cannot follow ${quoted(before)}`, isNewLine ? `is there a full stop missing after ${quoted(before)} in line ${before.line}?` : "a comma or an operator is missing");
+    return cause(`${quoted(token)} cannot follow ${quoted(before)}`, missingBetween({ token, before, isQuery, here, later, tokens, place }));
+  }
+
+  /** What is missing between two tokens: the bar after a comparison; in a new line a comma where it is indented and begins no clause, else a full stop. */
+  function missingBetween({ token, before, isQuery, here, later, tokens, place }) {
+    const last = here.slice(here.findLastIndex(({ text }) => [",", ":-"].includes(text)) + 1), hasBar = Tokens.barOutside(here) >= 0 || Tokens.barOutside(later) >= 0;
+    if (!isQuery && !hasBar && Tokens.depthOf(here) === 0 && hasComparison(last)) return `is the bar missing after ${quoted(before)}? ${CLAUSE}`;
+    if (before.line === token.line || isQuery) return "a comma or an operator is missing";
+    const isGoal = token.column > here[0].column && tokens[endOfCall(tokens, place) + 1]?.text !== ":-";
+    return `is there a ${isGoal ? "comma" : "full stop"} missing after ${quoted(before)} in line ${before.line}?`;
+  }
+
+  /** The place of the last token of the call that begins at a place. */
+  function endOfCall(tokens, place) {
+    if (tokens[place + 1]?.text !== "(") return place;
+    let at = place + 1;
+    for (let depth = 0; at < tokens.length - 1; at += 1) {
+      depth += Tokens.depthOf([tokens[at]]);
+      if (depth === 0) break;
+    }
+    return at;
   }
 
   function variableAsGoal({ token, before, tokens, place, depth }) {
@@ -278,12 +354,21 @@ const SyntaxCauses = ((Tokens, Habits) => {
     return cause(`the variable ${before.text} is no goal`, "goals are calls, as p(X), and X = Y, X := E; there is no call of a term");
   }
 
-  function afterMark({ token, before, isQuery }) {
+  /** The tokens of a goal, of which the first ones are given: up to the comma after it. */
+  function goalOf(tokens) {
+    const end = tokens.findIndex(({ text }, place) => text === "," && Tokens.depthOf(tokens.slice(0, place)) === 0);
+    return end < 0 ? tokens : tokens.slice(0, end);
+  }
+
+  function afterMark({ token, before, isQuery, later }) {
     if (before?.text === ",") return cause(
       `a goal or a term is expected after the comma, and ${quoted(token)} is none`, "drop the comma, or write what is missing");
+    if (token.text === "(" && hasArrow(later)) return cause(...IF_THEN_ELSE);
+    if (token.text === "(" && before?.text === "=" && goalOf(later).some(({ text }) => OPERATIONS.has(text))) return cause("= does not compute", "to compute write :=, as Y := X + 1");
+    if (token.text === "(" && [":-", "|"].includes(before?.text)) return cause("brackets group expressions alone", "write the goals without them, with commas between them");
     if (token.text === "(" && before?.text === "=") return cause("brackets group expressions alone", "a pair is a structure, as pair(1,2)");
     if (["=", ":="].includes(before?.text)) return cause(
-      `${quoted(token)} cannot stand after ${quoted(before)}`, before.text === "=" ? "a term stands there, as [A|X]" : "an expression stands there, as X + 1");
+      `${quoted(token)} cannot stand after ${quoted(before)}`, before.text === "=" ? "a term stands there, as [A|X]" : "an expression stands there, as X + 1; to name a term write =");
     if ([":-", "|"].includes(before?.text)) return cause(`no goal begins with ${quoted(token)}`, isQuery ? GOALS : CLAUSE);
     return undefined;
   }
@@ -293,7 +378,7 @@ const SyntaxCauses = ((Tokens, Habits) => {
   }
 
   const RULES = [
-    badToken, splitMark, foreignMark, arrow, foreignPair, hyphen, commentInExpression, numbers, comparisonAfterBar, comparison, variableAsGoal, endOfText, streams, beginning, foreignWord,
+    declaration, badToken, splitMark, semicolon, markInPlace, foreignMark, arrow, foreignPair, hyphen, commentInExpression, numbers, equationInGuard, comparisonAfterBar, comparison, variableAsGoal, endOfText, streams, beginning, foreignWord,
     clauseInQuery, secondNeck, bars, arithmetic, brackets, afterHead, withinBrackets, neighbours, afterMark, anything,
   ];
 
@@ -303,8 +388,8 @@ const SyntaxCauses = ((Tokens, Habits) => {
     for (const rule of RULES) {
       const found = rule(where);
       if (found === undefined) continue;
-      const { after, ...told } = found;
-      if (after === undefined) return { ...told, token: where.token };
+      const { after, at: meant, ...told } = found;
+      if (after === undefined) return { ...told, token: meant ?? where.token };
       return { ...told, token: { line: after.line, column: after.column + after.text.length, text: " " } };
     }
     return undefined;

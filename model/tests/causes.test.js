@@ -43,6 +43,11 @@ test("the caret stands below the place, whatever letters and tabs are before it"
   assert.strictEqual(at[3].indexOf("ä"), at[4].indexOf("^"));
 });
 
+test("a text gives a terminal no orders", () => {
+  const program = "p(X) :- true | X == 1. % \u001b[2J\n", lines = Causes.linesOf(Causes.causeOf("F2 syntax at 1:19", { text: program, which: "m.ghc" }), program);
+  assert.strictEqual(lines[3], "1 | p(X) :- true | X == 1. % \ufffd[2J");
+});
+
 test("of a long line the place is shown, with what stands around it", () => {
   const program = `p(X) :- true | ${"X = 1, ".repeat(100)}X == 2.\n`, cause = Causes.causeOf("F2 syntax at 1:718", { text: program, which: "m.ghc" });
   const [, place, , source, caret] = Causes.linesOf(cause, program);
