@@ -8,6 +8,7 @@ const { Ended } = require("./program.js");
 const { NotTold, Session, isRefusal } = require("./session.js");
 const { helpLines, isNewer, meaningOf, suggestionFor, usageOf } = require("./commands.js");
 const Own = require("./own.js");
+const { whyRefused } = require("./refused.js");
 const { notesAfter, plural } = require("./telling.js");
 
 const MARK = "% ";
@@ -72,7 +73,7 @@ class Front {
   tellRefusal({ errors }, session, tell) {
     for (const line of errors.trimEnd().split("\n")) {
       tell(line);
-      whyRefused(line, session).forEach((told) => tell(MARK + told));
+      whyRefused(line, session).lines.forEach((told) => tell(MARK + told));
     }
   }
 
@@ -314,40 +315,8 @@ class Front {
   }
 }
 
-/** What helps with a refusal of a text or a file. */
-function whyRefused(line, { text, given }) {
-  const [, who, refusal] = /^(program|query|history|schedule): (F\d+ .*)$/.exec(line) ?? [];
-  if (who === undefined) return [];
-  const file = who === "history" ? given.load : given.file;
-  if (refusal.startsWith("F26")) return whyNotRead(file);
-  if (who === "history") return whyNotLoaded(file, refusal);
-  const isQuery = who === "query", source = isQuery ? given.query : text;
-  const limit = /^F6 limit: (\w+)$/.exec(refusal);
-  if (limit !== null) return [Causes.LIMITS[limit[1]]];
-  const cause = Causes.causeOf(refusal, { text: source, which: isQuery ? "query" : file, isQuery, program: text });
-  return cause === undefined ? [] : Causes.linesOf(cause, source);
-}
-
 /** Does a reply to `show` tell a variable that nothing has bound? */
 const isUnbound = ([line]) => / = _\d+_\d+$/.test(line);
-
-function whyNotRead(file) {
-  try {
-    fs.readFileSync(file);
-    return [];
-  } catch (error) {
-    const reason = { ENOENT: "no such file", EACCES: "reading it is not allowed", EISDIR: "it is a folder" }[error.code] ?? error.message;
-    return [`${file}: ${reason}`];
-  }
-}
-
-/** The line of a history at which loading it stopped. */
-function whyNotLoaded(file, refusal) {
-  const [, number] = /^F24 history line (\d+)$/.exec(refusal) ?? [];
-  if (number === undefined) return [];
-  const line = fs.readFileSync(file, "latin1").split("\n")[number - 1];
-  return [`${file}:${number}: ${line ?? "the file ends before this line"}`, "the line is not of its form, or its step cannot be taken: is it of this program and query?"];
-}
 
 /** Is it a file that holds something else than a history? */
 function isOtherFile(file) {

@@ -107,6 +107,7 @@ class Adapter {
   request(command, given) {
     const handler = this[`on_${command.replace("/", "_")}`];
     if (handler === undefined) throw new Refused(`${command} is not known here`);
+    if (this.session === undefined && !WITHOUT_SESSION.has(command)) throw new Refused(`${command}: no program was launched`);
     if (this.isRunning && RUNS.has(command)) throw new Refused("a run goes on: pause it first");
     return handler.call(this, given);
   }
@@ -178,6 +179,8 @@ class Adapter {
     if (this.isSkipping) this.ending = this.session.endRun();
   }
 }
+
+const WITHOUT_SESSION = new Set(["initialize", "launch", "attach", "disconnect", "terminate"]);
 
 // Requests that make a run or a step: while a run goes on they are refused.
 const RUNS = new Set(["continue", "next", "stepIn", "stepOut", "stepBack", "reverseContinue", "goto", "restartFrame", "setVariable", "setExpression", "evaluate",

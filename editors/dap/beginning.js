@@ -5,6 +5,7 @@ const fs = require("node:fs");
 const path = require("node:path");
 const Causes = require("../../model/causes.js");
 const { Ended } = require("../../terminal/program.js");
+const { whyNotRead, whyRefused } = require("../../terminal/refused.js");
 const { Session } = require("../../terminal/session.js");
 const { Inside } = require("./inside.js");
 const { Places, queryOf } = require("./places.js");
@@ -23,11 +24,11 @@ function wordsOf({ load, workers }, program, query) {
   return [program, "--query", query, ...(load ? ["--load", load] : []), ...(workers ? ["--workers", String(workers)] : [])];
 }
 
-/** Why ghcdb refused program or query, in words for the editor's user. */
-function whyRefused({ errors }, program, query, file) {
-  const [, who, refusal] = /^(program|query): (F\d+ .*)$/m.exec(errors) ?? [], isQuery = who === "query", text = isQuery ? query : program;
-  const cause = who && Causes.causeOf(refusal, { text, which: isQuery ? "query" : path.basename(file), isQuery, program });
-  return [errors.trim(), ...(cause ? Causes.linesOf(cause, text) : [])].join("\n");
+/** The text of a program's file. */
+function textOf(file) {
+  const [why] = whyNotRead(file);
+  if (why !== undefined) throw refused(why);
+  return fs.readFileSync(file, "utf8");
 }
 
 /** The breakpoints of an editor's list, each made by `make`, which gives none or why there is none. */
@@ -50,28 +51,37 @@ module.exports = {
     this.later(() => this.event("initialized"));
   },
 
+  /** Begins a session; where it is refused, the one before stands. */
   async launch(given) {
     if (typeof given.program !== "string") throw refused("no program: give `program` in the launch configuration");
-    const file = path.resolve(given.program), program = fs.readFileSync(file, "utf8"), query = given.query || queryOf(program);
+    const file = path.resolve(given.program), program = textOf(file), query = given.query || queryOf(program);
     if (query === undefined) throw refused("no query: give `query` in the launch configuration, or a comment `% Query: ..` in the program");
-    this.given = given;
-    this.slice = Number(given.slice ?? 1000);
-    this.session = new Session(wordsOf(given, file, query), this.native);
+    const session = new Session(wordsOf(given, file, query), this.native), places = new Places(file, program, query, this.first);
     try {
-      await this.session.begin();
+      await session.begin();
     } catch (error) {
-      throw error instanceof Ended ? refused(whyRefused(error, program, query, file)) : error;
+      throw error instanceof Ended ? refused(this.tellRefusal(error, session, places)) : error;
     }
-    this.places = new Places(file, program, query, this.first);
-    this.processes = new Processes(this.session);
-    this.inside = new Inside(this.session);
-    this.live = new Set();
-    this.hasToldEnd = false;
-    this.frameTexts = new Map();
-    this.textsNow = this.textsBefore = this.notedAt = undefined;
+    await this.session?.end();
+    Object.assign(this, { given, session, places, slice: Number(given.slice ?? 1000), processes: new Processes(session), inside: new Inside(session) });
+    Object.assign(this, { live: new Set(), hasToldEnd: false, frameTexts: new Map(), textsNow: undefined, textsBefore: undefined, notedAt: undefined });
     this.breakpoints.spied = new Set();
     const notes = Causes.notesOn(program, path.basename(file)).slice(0, MOST_NOTES);
-    this.later(() => this.tell(notes.flatMap((cause) => Causes.linesOf(cause, program)), "important"));
+    this.later(() => notes.forEach((cause) => this.tellCause(cause, Causes.linesOf(cause, program), places, "important")));
+  },
+
+  /** Tells why ghcdb refused what was to begin, at its place; the same in words for the answer. */
+  tellRefusal({ errors }, session, places) {
+    const said = errors.trim(), { lines, cause } = whyRefused(said, session, path.basename(places.file)), told = [said, ...lines];
+    if (cause !== undefined) this.tellCause(cause, told, places, "stderr");
+    return told.join("\n");
+  },
+
+  /** Tells lines about a cause in the editor's console, so that they lead to its place. */
+  tellCause(cause, lines, places, category) {
+    const letter = Causes.letterOf(cause, cause.isQuery ? places.queryText : places.program), place = { line: cause.line, letter, endLine: cause.line, endLetter: letter };
+    const { source, line, column } = places.spotOf({ clause: cause.isQuery ? 0 : 1, ...place });
+    this.event("output", { category, output: `${lines.join("\n")}\n`, ...(source.path && { source, line, column }) });
   },
 
   on_attach() {
@@ -83,7 +93,6 @@ module.exports = {
   },
 
   async on_restart({ arguments: given }) {
-    await this.session.end();
     await this.launch(given ?? this.given);
     await this.breakpoints.spy(this.session);
     this.later(() => this.stopped("entry", "begun anew"));

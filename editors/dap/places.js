@@ -13,7 +13,7 @@ const queryOf = (program) => COMMENT.exec(program)?.[1];
 
 class Places {
   constructor(file, program, query, first) {
-    this.file = file;
+    Object.assign(this, { file, program, queryText: query });
     this.first = first; // the number of the first line, 0 or 1
     const found = COMMENT.exec(program);
     if (found === null || found[1] !== query) return;

@@ -233,6 +233,48 @@ test("what ghcdb refuses is told with its cause", async () => {
   await client.end();
 });
 
+test("a refusal is told at its place", async () => {
+  const client = new Client(), query = "p(a) p(b)", file = programFile(`% Query: ${query}\np(_).\n`), wrong = programFile("p(1).\n\np(X) :-\n  true | Y is X + 1.\n");
+  await client.ask("initialize", { adapterID: "ghcdb" });
+  await client.refusal("launch", { program: wrong, query: "p(1)" });
+  const told = await client.event("output");
+  assert.deepStrictEqual([told.category, told.source.path, told.line, told.column], ["stderr", wrong, 4, 12]);
+  assert.match(told.output, /^program: F2 syntax at 4:12\nsyntax: `is` is written :=\n --> program.ghc:4:12\n/);
+  await client.refusal("launch", { program: file });
+  const inComment = await client.event("output");
+  assert.deepStrictEqual([inComment.source.path, inComment.line, inComment.column], [file, 1, 15]);
+  await client.refusal("launch", { program: file, query: "p(a" });
+  assert.strictEqual((await client.event("output")).source, undefined);
+  await client.end();
+});
+
+test("a note on an accepted program leads to its place", () => session(async (client) => {
+  const file = programFile("p(_).\np(Xs) :- true | true.\n");
+  await client.begin(file, { query: "p(1)" });
+  const note = Client.heard.findLast(({ event, body }) => event === "output" && body.category === "important").body;
+  assert.deepStrictEqual([note.source.path, note.line, note.column, note.output.split("\n")[0]], [file, 2, 3, "note: Xs stands once in clause 2"]);
+}));
+
+test("what cannot be begun is told with the reason", async () => {
+  const client = new Client(), bill = example("bill.ghc"), history = programFile("ghc-history 2\nopening 0 1\nentries 1\n1 7.1 by 1\nspies 0\nend 2\n");
+  await client.ask("initialize", { adapterID: "ghcdb" });
+  const refusals = [[{ program: "/nosuch.ghc", query: "p" }, /^\/nosuch.ghc: no such file$/], [{ program: os.tmpdir(), query: "p" }, /: it is a folder$/],
+    [{ program: bill, query: "bill(12,3,T)", load: "/nosuch" }, /^history: F26 device\n\/nosuch: no such file$/], [{ program: bill, query: "bill(12,3,T)", load: history }, /^history: F24 history line 4\n.*1 7\.1 by 1\n.*is it of this program and query\?$/],
+    [{ program: programFile("p(1).\n".repeat(10001)), query: "p(1)" }, /^program: F6 limit: clauses\nthere are more than 10,000 clauses$/]];
+  for (const [given, wanted] of refusals) assert.match(await client.refusal("launch", given), wanted);
+  for (const command of ["configurationDone", "setBreakpoints", "threads", "continue", "evaluate", "restart"]) assert.match(await client.refusal(command, {}), /no program was launched$/);
+  await client.end();
+});
+
+test("a restart that is refused leaves the session as it is", () => session(async (client) => {
+  const file = programFile("p(1).\n");
+  await client.begin(file, { query: "p(X), X = 1" });
+  await client.go("stepIn");
+  fs.writeFileSync(file, "p(1)\n");
+  assert.match(await client.refusal("restart", {}), /write a full stop after/);
+  assert.match(await client.type("records"), /^1 0\.2 eq /);
+}));
+
 test("every request that the adapter says it has was tried", () => {
   const requests = { ConfigurationDoneRequest: "configurationDone", FunctionBreakpoints: "setFunctionBreakpoints", DataBreakpoints: "setDataBreakpoints", StepBack: "stepBack", RestartFrame: "restartFrame",
     RestartRequest: "restart", GotoTargetsRequest: "gotoTargets", StepInTargetsRequest: "stepInTargets", CompletionsRequest: "completions", SetVariable: "setVariable", SetExpression: "setExpression",
