@@ -34,7 +34,7 @@ const COMMANDS = [
   { name: "ask", form: "ask GOALS", tells: "add goals" },
   { name: "in", form: "in K TERM", tells: "feed input stream K with a term" },
   { name: "end", form: "end K", tells: "close input stream K" },
-  { name: "spy", form: "spy P", tells: "stop runs at calls of predicate P" },
+  { name: "spy", form: "spy P", tells: "stop runs at calls of predicate P, as price/2" },
   { name: "nospy", form: "nospy P", tells: "do so no longer" },
   { name: "save", form: "save [1] [FILE]", tells: "the session as a history, into FILE; 1: its kept steps alone" },
   { name: "restart", form: "restart", tells: "begin anew, with the program as it stands in its file now", own: true },
@@ -110,7 +110,7 @@ const GOAL = /^[A-Za-z_]\w*\s*(\(|:?=)/;
 
 /** What a line that is no command may be meant to be, in words. */
 function suggestionFor(typed) {
-  const text = typed.trim();
+  const text = typed.trim().replace(/^\?-\s*/, "");
   return GOAL.test(text) ? `no such command; ask adds goals: ask ${text.replace(/\.$/, "")}` : suggestion(text.split(/\s+/)[0]);
 }
 

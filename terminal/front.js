@@ -5,7 +5,7 @@
 const fs = require("node:fs");
 const Causes = require("../model/causes.js");
 const { Ended } = require("./program.js");
-const { NotTold, Session, isRefusal } = require("./session.js");
+const { NotTold, Session, formOf, isRefusal } = require("./session.js");
 const { helpLines, isNewer, meaningOf, suggestionFor, usageOf } = require("./commands.js");
 const Own = require("./own.js");
 const { whyRefused } = require("./refused.js");
@@ -205,6 +205,17 @@ class Front {
     return true;
   }
 
+  /** A predicate may be named without the number of its arguments. */
+  async on_spy(meaning) {
+    const [word, more] = meaning.words, named = this.session.predicates.filter((predicate) => more === undefined && predicate.split("/")[0] === word);
+    for (const predicate of named) await this.send({ ...meaning, words: [predicate], line: `${meaning.name} ${predicate}` });
+    return named.length > 0;
+  }
+
+  async on_nospy(meaning) {
+    return this.on_spy(meaning);
+  }
+
   on_list({ words }) {
     this.note(...Own.list(this.session, words));
   }
@@ -231,6 +242,7 @@ class Front {
   async askNewer({ name, words: given }, typed) {
     if (given.length !== (name === "causes" ? 0 : 1)) return this.note(usageOf(name));
     const words = given.map((word) => this.variableFor(name, word)), line = [name, ...words].join(" ");
+    if (formOf(line) === undefined) return this.note(usageOf(name));
     const reply = await this.session.askNewer(line);
     if (reply === undefined) return this.note(...await Own[name](this.session, words, (roll) => this.rolled(roll)));
     if (typed.trim() !== line) this.note(`sent: ${line}`);
@@ -255,6 +267,7 @@ class Front {
   async on_watch({ words: [name] }) {
     if (name === undefined) return this.note(usageOf("watch"));
     const line = `show ${name}`, was = await this.session.ask(line);
+    if (was[0] === "F25 command") return this.note(usageOf("watch"));
     if (isRefusal(was)) return this.send({ name: "show", words: [name], line }, line);
     let now = was, last = "", taken = 0;
     for (; taken < MOST_WATCHED && !this.isInterrupted && isUnbound(now); taken += 1) {

@@ -24,7 +24,8 @@ function list(session, [word]) {
 
 async function stuck(session) {
   const goals = await session.goals(), lines = Stuck.linesOf(goals, (variable) => session.run.labelOf(variable));
-  if (lines.length > 0) return lines;
+  const failed = goals.filter(({ status }) => status === "failed").map(({ name, refusal }) => `${name} has failed: ${refusal}; explain ${name} tells more`);
+  if (lines.length + failed.length > 0) return [...failed, ...lines];
   return [goals.length === 0 ? "all is done" : "no goal waits"];
 }
 

@@ -178,4 +178,4 @@ class Session {
   }
 }
 
-module.exports = { Session, NotTold, isRefusal };
+module.exports = { Session, NotTold, formOf, isRefusal };

@@ -64,6 +64,16 @@ async function notKept(session, [number]) {
   return [isThere ? `step ${Number(number)} was taken back: redo ${Number(number)} puts it there again` : "records lists the kept steps"];
 }
 
+/** Why a step that was taken back cannot be put there again: what it rested on is not there, or somebody else took its goal. */
+async function notRedone(session, [word]) {
+  const number = Number(word), line = (await session.ask("shelf")).find((one) => one.startsWith(`${number} `));
+  if (line === undefined) return undefined;
+  const [, goal] = line.split(" "), maker = Number.parseInt(goal, 10), taker = session.kept.takers.get(goal);
+  if (taker !== undefined) return [`step ${number} takes ${goal}, which step ${taker} has taken: take that back first`];
+  if (maker > 0 && !session.kept.steps.has(maker)) return [`step ${number} takes ${goal}, which step ${maker} made: redo ${maker} first`];
+  return [`it rested on steps that are not there: redo those before it first; shelf lists what was taken back`];
+}
+
 async function hasConsequences(session, [number]) {
   if (session.kept.steps.size > MOST_LOOKED) return [`roll ${Number(number)} takes it back with all that depends on it`];
   const all = (await session.look()).consequencesOf(Number(number));
@@ -111,7 +121,7 @@ async function afterRefusal(session, meaning, reply) {
   }
   const limit = /^F6 limit: (\w+)$/.exec(reply[0]);
   if (limit !== null) return [Causes.LIMITS[limit[1]]];
-  const told = await HELPERS[number]?.(session, meaning.words, reply);
+  const helper = meaning.name === "redo" ? notRedone : HELPERS[number], told = await helper?.(session, meaning.words, reply);
   return told === undefined || told.length === 0 ? [REFUSALS[number]] : told;
 }
 

@@ -96,7 +96,28 @@ REFUSED = [
     ("watch Q", "=F23 no variable"),
 ]
 
+# Steps that are put there again, and words that are not of the form.
+AGAIN = [
+    ("leap", "=stopped quiet"),
+    ("roll 2", "=undone 2,3,6"),
+    ("redo 3", "=F7 no goal", "=% step 3 takes 2.1, which step 2 made: redo 2 first"),
+    ("redo 6", "=F19 changed", "=% it rested on steps that are not there: redo those before it first; shelf lists what was taken back"),
+    ("step 1.1 3", "=REDU 7 1.1 by 3"),
+    ("redo 2", "=F7 no goal", "=% step 2 takes 1.1, which step 7 has taken: take that back first"),
+    ("redo 4", "=F18 not on the shelf", "=% that number was not taken back, or is there again"),
+    ("clauses price", "% usage: clauses G"),
+    ("explain 3", "% usage: explain X or G"),
+    ("watch 1.3", "% usage: watch X"),
+    ("?- price(1,P).", "=F25 command", "=% no such command; ask adds goals: ask price(1,P)"),
+    ("break price", "=% sent: spy price/2", "=spying price/2"),
+    ("nospy price", "=not spying price/2"),
+    ("spy nothing", "=F25 command", "% usage: spy P"),
+    ("ask price(0,T)", "REDU 8"),
+    ("stuck", "=% 8.1 has failed: F10; explain 8.1 tells more"),
+]
+
 SESSIONS = {
+    "again": (*BILL, AGAIN),
     "without the manual": (*APPEND, WITHOUT_THE_MANUAL),
     "refused": (*BILL, REFUSED),
     "failed": (*BILL, [("ask price(0,T)", "REDU 1"), ("leap", "stopped clash 1.1", "price(0,_0_1) has failed: F10", "clause 2: N > 0 says no (N = 0)")]),
