@@ -9,6 +9,7 @@ const Stuck = require("../model/stuck.js");
 const { nearest } = require("../model/nearest.js");
 const { REFUSALS } = require("./commands.js");
 const { isRefusal } = require("./session.js");
+const { causeInTerm } = require("./terms.js");
 
 const MOST = 12; // lines of a kind that it tells
 const MOST_LOOKED = 200_000; // kept steps: of a longer run not all that depends on a step is looked for
@@ -101,8 +102,9 @@ function noPredicate(session, words, reply) {
 
 /** Why the text after `ask` or `in` is refused. */
 function badText(session, meaning, reply) {
-  const text = meaning.line.replace(meaning.name === "in" ? /^in +\S+ +/ : /^ask +/, "");
-  const cause = Causes.causeOf(reply[0], { text, which: meaning.name, isQuery: true, program: session.text });
+  const text = meaning.line.replace(meaning.name === "in" ? /^in +\S+ +/ : /^ask +/, ""), [, column] = /^F2 syntax at 1:(\d+)$/.exec(reply[0]) ?? [];
+  const own = meaning.name === "in" && column !== undefined ? causeInTerm(text, Number(column)) : undefined;
+  const cause = own ?? Causes.causeOf(reply[0], { text, which: meaning.name, isQuery: true, program: session.text });
   return cause === undefined ? undefined : Causes.linesOf(cause, text);
 }
 
