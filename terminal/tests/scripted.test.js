@@ -73,6 +73,11 @@ test("check and json run as commands", () => {
   assert.strictEqual(of("save 1").lines[0], "ghc-history 1");
 });
 
+test("a line that is not ASCII stands in its object as it was given", () => {
+  const { stdout } = spawnSync(process.execPath, [path.join(ROOT, "terminal", "json"), example("append.ghc"), "--query", "true"], { input: "ä\n", encoding: "utf8" });
+  assert.deepStrictEqual(JSON.parse(stdout), { command: "ä", ok: false, refused: "F25 command" });
+});
+
 test("the words of the command line", () => {
   const given = readWords(["--query=p(X)", "a.ghc", "--load", "h", "--workers=2"]);
   assert.deepStrictEqual([given.file, given.query, given.load, given.workers, isSession(given)], ["a.ghc", "p(X)", "h", "2", true]);
