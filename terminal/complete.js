@@ -4,6 +4,10 @@
 
 const { NAMES, commandOf } = require("./commands.js");
 
+const MOST = 200; // words that are offered: of more the first and the last, so that what they have in common is right
+
+const some = (words) => (words.length > MOST ? [...words.slice(0, MOST / 2), ...words.slice(-MOST / 2)] : words);
+
 const numbersOf = (lines) => lines.map((line) => line.split(" ")[0]).filter((word) => /^\d+$/.test(word));
 
 /** The variables of the query, and those that goals have. */
@@ -14,12 +18,14 @@ async function variables(session) {
 
 const goals = async (session, statuses) => (await session.goals()).filter(({ status }) => statuses.includes(status)).map(({ name }) => name);
 const variablesAndGoals = async (session) => [...await variables(session), ...await goals(session, ["ready", "waits", "failed"])];
+const streams = async (session) => (await session.goals()).filter(({ status }) => status === "stream").map(({ text }) => text.split(" ")[1]);
 const steps = (session) => [...session.kept.steps.keys()].map(String);
 
 const OFFERS = {
   step: (session) => goals(session, ["ready"]), skip: (session) => goals(session, ["ready"]), clauses: (session) => goals(session, ["ready", "waits", "failed"]),
   undo: steps, roll: steps, why: steps, goal: steps, since: steps, arrange: steps, redo: async (session) => numbersOf(await session.ask("shelf")),
   explain: variablesAndGoals, keep: variablesAndGoals, show: variables, who: variables, holders: variables, watch: variables,
+  in: streams, end: streams,
   spy: (session) => session.predicates, nospy: (session) => session.predicates, list: (session) => session.predicates, records: (session) => session.predicates,
   help: () => NAMES,
 };
@@ -27,7 +33,7 @@ const OFFERS = {
 /** In goals: predicates and variables, whatever mark stands before them. */
 async function completeGoals(session, line) {
   const [begun] = /\w*$/.exec(line), calls = session.predicates.map((predicate) => predicate.replace(/\/0$/, "").replace(/\/\d+$/, "("));
-  return { begun, words: [...new Set([...calls, ...await variables(session)])].filter((word) => word.startsWith(begun)) };
+  return { begun, words: some([...new Set([...calls, ...await variables(session)])].filter((word) => word.startsWith(begun))) };
 }
 
 /** The words that may stand at the end of a line, and the beginning of them that is there. */
@@ -37,7 +43,7 @@ async function completionsOf(session, line) {
   if (commandOf(words[0]) === "ask") return completeGoals(session, line);
   const offer = OFFERS[commandOf(words[0])];
   const offered = offer === undefined || (words.length > 2 && commandOf(words[0]) !== "arrange") ? [] : await offer(session);
-  return { begun: last, words: offered.filter((word) => word.startsWith(last)) };
+  return { begun: last, words: some(offered.filter((word) => word.startsWith(last))) };
 }
 
 module.exports = { completionsOf };

@@ -58,11 +58,14 @@ class NativeSession {
   gather(piece) {
     this.pieces.push(piece);
     if (this.waiting === undefined || !this.isWhole()) return;
-    const text = Buffer.concat(this.pieces).toString("latin1");
+    const { pieces, waiting: { resolve, reject } } = this;
     this.pieces = [];
-    const { resolve } = this.waiting;
     this.waiting = undefined;
-    resolve(text.slice(0, -MARK_REPLY.length - 1).split("\n"));
+    try {
+      resolve(Buffer.concat(pieces).toString("latin1").slice(0, -MARK_REPLY.length - 1).split("\n"));
+    } catch (error) {
+      reject(error); // the reply is longer than any text can be
+    }
   }
 
   /** The lines of the reply to a line, a text or bytes, which has a word at least. One line at a time. */

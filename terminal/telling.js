@@ -12,6 +12,7 @@ const { isRefusal } = require("./session.js");
 const { causeInTerm } = require("./terms.js");
 
 const MOST = 12; // lines of a kind that it tells
+const BEGINNING = 200, TOO_LONG = 10_000; // letters that it tells of a value that is too long; of a text that it reads
 const MOST_LOOKED = 200_000; // kept steps: of a longer run not all that depends on a step is looked for
 
 const plural = (count, word) => `${count} ${word}${count === 1 ? "" : "s"}`;
@@ -114,6 +115,27 @@ const HELPERS = {
   F21: notLawful, F23: noVariable,
 };
 
+/** The store of a run in which a text that is too long to be read stands for itself, as far as it is shown. */
+function storeOf(run) {
+  const endOf = (term) => {
+    let end = term;
+    while (end.variable !== undefined && run.bound.has(end.variable)) {
+      const bound = run.bound.get(end.variable);
+      if (bound.length > TOO_LONG) return { name: `${bound.slice(0, BEGINNING)}${Print.CUT}`, arguments: [] };
+      end = run.termOf(end.variable);
+    }
+    return end;
+  };
+  return { endOf };
+}
+
+/** How a value begins that is too long to be printed. */
+async function beginningOf(session, [word]) {
+  const run = await session.look(), variable = /^_\d+_\d+$/.test(word) ? word : run.variablesNamed(word)[0];
+  if (variable === undefined) return [];
+  return [`it begins so: ${Print.term({ variable }, { store: storeOf(run), most: BEGINNING })}`];
+}
+
 /** What helps with a refusal. */
 async function afterRefusal(session, meaning, reply) {
   const [number] = reply[0].split(" ");
@@ -122,7 +144,7 @@ async function afterRefusal(session, meaning, reply) {
     if (told !== undefined) return told;
   }
   const limit = /^F6 limit: (\w+)$/.exec(reply[0]);
-  if (limit !== null) return [Causes.LIMITS[limit[1]]];
+  if (limit !== null) return [Causes.LIMITS[limit[1]], ...(meaning.name === "show" ? await beginningOf(session, meaning.words) : [])];
   const helper = meaning.name === "redo" ? notRedone : HELPERS[number], told = await helper?.(session, meaning.words, reply);
   return told === undefined || told.length === 0 ? [REFUSALS[number]] : told;
 }

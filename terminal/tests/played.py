@@ -212,6 +212,10 @@ def test_goals_that_are_too_long_to_print(home):
         wants(terminal.type("R") == ["% sent: show R", "R = _0_1", "% _0_1 (R of the query) is unbound"], "no value")
         wants(terminal.type("step")[:2] == ["% sent: leap 1", "REDU 46 45.1 is"], "no step")
         wants(terminal.type("run")[-2:] == ["stopped quiet", "% all is done"], "no end")
+        wants(re.fullmatch(r"% it begins so: f\(f\(f\(.*…", terminal.type("R")[-1]), "no beginning")
+        terminal.type("ask X = [b,R,1,2]")
+        terminal.type("leap")
+        wants(is_met("% it begins so: [b,f(f(f(", terminal.type("show _51_1")), "no beginning within a term")
         terminal.end()
 
 
@@ -351,6 +355,19 @@ def test_tab(home):
     wants(terminal.offered("explain ")[:2] == ["Total", "_1_1"], "no variable is offered")
     wants("goals" in terminal.offered("go") and "goal" in terminal.offered("go"), "no commands are offered")
     terminal.end()
+
+
+def test_tab_where_there_is_much(home):
+    with tempfile.TemporaryDirectory() as folder:
+        program = Path(folder, "endless.ghc")
+        program.write_text(ENDLESS)
+        terminal = start(home, str(program), "--query", "p(0), instream(S)")
+        terminal.type("leap 5000")
+        offered = terminal.offered("undo ")
+        wants(len(offered) == 200 and {"1", "5000"} < set(offered), f"{len(offered)} words")
+        wants(terminal.complete("undo 4") == "undo 4", "what all have in common is wrong")
+        wants(terminal.complete("in ").rstrip() == "in 1", "no stream is offered")
+        terminal.end()
 
 
 def test_terminal_that_edits_no_lines(home):
