@@ -17,6 +17,10 @@ const Run = ((Graph, Reader, Print) => {
   }
 
   const NONE = [];
+  const LONGEST = 1_048_576, SHOWN = 200; // letters of a binding that is read; letters of a longer one that are shown
+
+  // What is thrown where a binding would have to be read whose text is too long for that.
+  class TooLong extends Error {}
   const bindingOf = (text) => ({ variable: text.slice(0, text.indexOf("=")), term: text.slice(text.indexOf("=") + 1) });
 
   /** The variables of others that an ask names. */
@@ -100,6 +104,7 @@ const Run = ((Graph, Reader, Print) => {
     termOf(variable) {
       const bound = this.bound.get(variable);
       if (typeof bound !== "string") return bound;
+      if (bound.length > LONGEST) throw new TooLong(`the value of ${variable} has ${bound.length} letters, and is not taken apart`);
       const term = Reader.readTerm(bound);
       this.bound.set(variable, term);
       return term;
@@ -111,6 +116,20 @@ const Run = ((Graph, Reader, Print) => {
       if (!this.isFresh) return end;
       while (end.variable !== undefined && this.bound.has(end.variable)) end = this.termOf(end.variable);
       return end;
+    }
+
+    /** The store as it is shown: of a binding that is too long to be read its first letters stand for it. */
+    get shown() {
+      const endOf = (term) => {
+        let end = term;
+        while (this.isFresh && end.variable !== undefined && this.bound.has(end.variable)) {
+          const bound = this.bound.get(end.variable);
+          if (bound.length > LONGEST) return { name: `${bound.slice(0, SHOWN)}${Print.CUT}`, arguments: [] };
+          end = this.termOf(end.variable);
+        }
+        return end;
+      };
+      return { endOf };
     }
 
     /** The step that made a goal; undefined for a goal of the query, and where the step is not kept. */

@@ -67,7 +67,7 @@ async function goal(session, [word]) {
 function bindingLine(run, variable, step) {
   const maker = step.goal === null ? undefined : run.makerOf(step.goal);
   const made = maker?.clause ? `   <- step ${maker.number}: ${cut(run.textOf(maker.goal))} by ${maker.clause}` : "";
-  const value = Print.term({ variable }, { store: run, most: SHOWN });
+  const value = Print.term({ variable }, { store: run.shown, most: SHOWN });
   return `${run.labelOf(variable)} = ${value}   step ${step.number}: ${cut(run.textOf(step.goal))}${made}`;
 }
 

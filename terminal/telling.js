@@ -12,7 +12,7 @@ const { isRefusal } = require("./session.js");
 const { causeInTerm } = require("./terms.js");
 
 const MOST = 12; // lines of a kind that it tells
-const BEGINNING = 200, TOO_LONG = 10_000; // letters that it tells of a value that is too long; of a text that it reads
+const BEGINNING = 200; // letters that it tells of a value that is too long
 const MOST_LOOKED = 200_000; // kept steps: of a longer run not all that depends on a step is looked for
 
 const plural = (count, word) => `${count} ${word}${count === 1 ? "" : "s"}`;
@@ -32,7 +32,7 @@ async function whyNoClause(session, goal, clause) {
 async function whyNoValue(session, name) {
   const run = await session.look(), goal = run.goalOf(name);
   if (goal?.right === undefined) return [];
-  const [left, right] = [goal.left, goal.right].map((term) => Print.term(term, { store: run, most: 60 }));
+  const [left, right] = [goal.left, goal.right].map((term) => Print.term(term, { store: run.shown, most: 60 }));
   const why = goal.sort === "assignment" ? Choices.whyNoValue(goal.right, run) : undefined;
   return [why === undefined ? `${left} and ${right}` : `${right}: ${why}`];
 }
@@ -115,25 +115,11 @@ const HELPERS = {
   F21: notLawful, F23: noVariable,
 };
 
-/** The store of a run in which a text that is too long to be read stands for itself, as far as it is shown. */
-function storeOf(run) {
-  const endOf = (term) => {
-    let end = term;
-    while (end.variable !== undefined && run.bound.has(end.variable)) {
-      const bound = run.bound.get(end.variable);
-      if (bound.length > TOO_LONG) return { name: `${bound.slice(0, BEGINNING)}${Print.CUT}`, arguments: [] };
-      end = run.termOf(end.variable);
-    }
-    return end;
-  };
-  return { endOf };
-}
-
 /** How a value begins that is too long to be printed. */
 async function beginningOf(session, [word]) {
   const run = await session.look(), variable = /^_\d+_\d+$/.test(word) ? word : run.variablesNamed(word)[0];
   if (variable === undefined) return [];
-  return [`it begins so: ${Print.term({ variable }, { store: storeOf(run), most: BEGINNING })}`];
+  return [`it begins so: ${Print.term({ variable }, { store: run.shown, most: BEGINNING })}`];
 }
 
 /** What helps with a refusal. */
@@ -212,7 +198,7 @@ function namesOfFirst(session, lines) {
 /** The clause by which a step was taken, and what its variables stand for, as far as records have told it. */
 function clauseLines({ run, clauses }, step) {
   const clause = clauses[step.clause - 1], values = [...run.environmentOf(step.number) ?? []].filter(([name]) => Reader.isWritten(name));
-  const shown = values.map(([name, term]) => `${name} = ${Print.term(term, { store: run, most: 40 })}`).join(", ");
+  const shown = values.map(([name, term]) => `${name} = ${Print.term(term, { store: run.shown, most: 40 })}`).join(", ");
   return [`by clause ${clause.number}: ${clause.text.replace(/\s*\n\s*/g, " ")}`, ...(shown === "" ? [] : [`with ${shown}`])];
 }
 

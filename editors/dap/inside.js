@@ -69,7 +69,7 @@ class Inside {
   }
 
   /** A variable or a part of a term, which unfolds where it has parts. */
-  variable(name, term, store = this.session.run) {
+  variable(name, term, store = this.session.run.shown) {
     const end = store.endOf(term), unfolds = end.arguments?.length > 0 && !Print.isOperation(end);
     const shown = { name, value: Print.term(end, { store, most: LONGEST }), variablesReference: unfolds ? this.reference("term", { term: end, store }) : 0 };
     if (term.variable === undefined) return shown;
@@ -133,8 +133,10 @@ class Inside {
     const shown = [];
     for (const [name, { variable }] of this.session.run.environmentOf(0)) {
       if (!Reader.isWritten(name)) continue;
-      const [line] = await this.session.ask(`show ${name}`), text = line.slice(`${name} = `.length), term = read(() => Reader.readTerm(text));
-      const found = term === undefined ? flat(name, text.slice(0, LONGEST)) : this.variable(name, term, SETTLED);
+      const [line] = await this.session.ask(`show ${name}`), isTold = line.startsWith(`${name} = `);
+      const text = line.slice(isTold ? `${name} = `.length : 0), term = isTold ? read(() => Reader.readTerm(text)) : undefined;
+      if (!isTold) await this.session.look();
+      const found = !isTold ? this.variable(name, { variable }) : term === undefined ? flat(name, text.slice(0, LONGEST)) : this.variable(name, term, SETTLED);
       shown.push({ ...found, evaluateName: variable, type: this.session.run.labelOf(variable) });
     }
     return shown;

@@ -77,8 +77,9 @@ module.exports = {
     if (reason !== "quiet") return ["pause", reason];
     const waiting = goals.filter(({ status }) => status === "waits");
     if (waiting.length > 0) {
+      const isFed = goals.some(({ status }) => status === "stream");
       this.tell(Stuck.linesOf(goals, (variable) => this.session.run.labelOf(variable)), "important");
-      return [this.breakpoints.stopsWhereStuck ? "exception" : "pause", `${plural(waiting.length, "goal")} wait, and none is ready`];
+      return [this.breakpoints.stopsWhereStuck ? "exception" : "pause", `${plural(waiting.length, "goal")} wait${waiting.length === 1 ? "s" : ""}, and none is ready${isFed ? "; `in 1 TERM` feeds the input stream" : ""}`];
     }
     if (goals.length > 0) return ["pause", "the input streams are open: `in 1 TERM` feeds one"];
     this.tell(["all is done", ...await this.answers()], "important");
