@@ -28,13 +28,29 @@ async function whyNoClause(session, goal, clause) {
     .map((choice) => `clause ${choice.clause.number}: ${choice.why}`);
 }
 
+/** The variable that was bound to the value of a term, at the end of its chain; undefined where the term is no variable, or unbound. */
+function boundVariable(run, term) {
+  for (let at = term.variable; run.bound.has(at);) {
+    const bound = run.bound.get(at), next = typeof bound !== "string" ? bound.variable : /^_\d+_\d+$/.test(bound) ? bound : undefined;
+    if (next === undefined) return at;
+    at = next;
+  }
+  return undefined;
+}
+
+/** Which steps had bound the two sides of what could not be made equal. */
+function boundBefore(run, goal) {
+  const variables = [goal.left, goal.right].map((term) => boundVariable(run, term)).filter((variable) => variable !== undefined);
+  return [...new Set(variables)].map((variable) => `${run.labelOf(variable)} was bound by step ${run.binders.get(variable)}; explain ${variable} tells why`);
+}
+
 /** What could not be made equal, or be computed. */
 async function whyNoValue(session, name) {
   const run = await session.look(), goal = run.goalOf(name);
   if (goal?.right === undefined) return [];
   const [left, right] = [goal.left, goal.right].map((term) => Print.term(term, { store: run.shown, most: 60 }));
   const why = goal.sort === "assignment" ? Choices.whyNoValue(goal.right, run) : undefined;
-  return [why === undefined ? `${left} and ${right}` : `${right}: ${why}`];
+  return why === undefined ? [`${left} and ${right}`, ...boundBefore(run, goal)] : [`${right}: ${why}`];
 }
 
 async function whyWaits(session, name) {

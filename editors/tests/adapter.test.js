@@ -250,14 +250,14 @@ test("a refusal is told at its place", async () => {
 
 test("a value that is too long to be told is shown by its beginning", () => session(async (client) => {
   const file = programFile("d(0,T,R) :- true | R = T.\nd(N,T,R) :- N > 0 | M := N - 1, d(M,f(T,T),R).\n");
-  await client.begin(file, { query: "d(24,a,R), X = [b,R]" });
+  await client.begin(file, { query: "d(19,a,R), X = [b,R]" });
   await client.go("continue");
   const [frame] = await client.frames(), values = await client.scope(frame, "Query");
   assert.match(values.R, /^f\(f\(f\(.*…$/);
   assert.match(values.X, /^\[b,f\(f\(f\(.*…/);
   assert.match((await client.ask("evaluate", { expression: "R", context: "watch" })).result, /^f\(f\(f\(.*…$/);
   await client.type("ask R = g(1)");
-  assert.match(await client.type("step 52.1"), /F11 clash\nf\(f\(f\(.*… and g\(1\)$/);
+  assert.match(await client.type("step 42.1"), /F11 clash\nf\(f\(f\(.*… and g\(1\)\n_0_1 \(R of the query\) was bound by step 41; explain _0_1 tells why$/);
 }));
 
 test("goals that wait for an input stream are told so", () => session(async (client) => {

@@ -116,7 +116,20 @@ AGAIN = [
     ("stuck", "=% 8.1 has failed: F10; explain 8.1 tells more"),
 ]
 
+# Two goals that bind one variable, and a chain between them.
+CLASH = [
+    ("ask T = Q, Q = 1, T = 2", "REDU 1"),
+    ("step 1.1", "=REDU 2 1.1 eq"),
+    ("step 1.2", "=REDU 3 1.2 eq", "=% 1.3 has failed: F11", "=% 1 and 2", "=% _1_1 was bound by step 3; explain _1_1 tells why"),
+    ("leap", "=stopped clash 1.3", "=% 1 = 2 has failed: F11", "=% _1_1 was bound by step 3; explain _1_1 tells why"),
+    ("ask T := 2 + 3", "REDU 4"),
+    ("step 4.1", "=F11 clash", "=% 1 and 2 + 3", "=% _1_1 was bound by step 3; explain _1_1 tells why"),
+    ("ask f(T) = f(2)", "REDU 5"),
+    ("step 5.1", "=F11 clash", "=% f(1) and f(2)"),
+]
+
 SESSIONS = {
+    "clash": (*BILL, CLASH),
     "again": (*BILL, AGAIN),
     "without the manual": (*APPEND, WITHOUT_THE_MANUAL),
     "refused": (*BILL, REFUSED),
