@@ -19,59 +19,87 @@ const Stuck = ((Graph) => {
   const waitsAlone = (goal, variable) => goal.waitsFor.length === 1 && goal.waitsFor[0] === variable;
   const mayBind = (goal, variable) => goal.status !== "failed" && !waitsAlone(goal, variable);
 
-  /** For each goal that waits and each variable that it waits for: the others that have the variable, and those that could bind it. */
-  function waitsOf(goals) {
-    const holders = holdersOf(goals), waits = [];
-    for (const goal of goals.filter(({ status }) => status === "waits")) {
-      for (const variable of goal.waitsFor) {
-        const others = (holders.get(variable) ?? []).filter((other) => other !== goal);
-        waits.push({ goal, variable, others, binders: others.filter((other) => mayBind(other, variable)) });
-      }
+  // Of many goals: how many a line names, among how many that could bind a variable a circle is looked for, of how many it is told.
+  const NAMED = 12, LOOKED = 40, TOLD = 200, CIRCLES = 20;
+
+  /** Of the goals of a set the first ones beside one of them, and how many there are beside it. */
+  function beside(goals, goal) {
+    const first = [];
+    for (const other of goals) {
+      if (first.length === LOOKED) break;
+      if (other !== goal) first.push(other);
+    }
+    return { first, count: goals.size - (goals.has(goal) ? 1 : 0) };
+  }
+
+  /** For each of the goals that wait and each variable that it waits for: the others that have the variable, and those that could bind it. */
+  function waitsOf(goals, waiting = goals.filter(({ status }) => status === "waits")) {
+    const holders = holdersOf(goals), sets = new Map(), waits = [];
+    const setsOf = (variable) => {
+      const all = holders.get(variable) ?? [];
+      if (!sets.has(variable)) sets.set(variable, { all: new Set(all), binders: new Set(all.filter((goal) => mayBind(goal, variable))) });
+      return sets.get(variable);
+    };
+    for (const goal of waiting) {
+      for (const variable of goal.waitsFor) waits.push({ goal, variable, others: beside(setsOf(variable).all, goal), binders: beside(setsOf(variable).binders, goal) });
     }
     return waits;
   }
 
   const statusOf = (other) => `${other.name}, which ${other.status === "failed" ? "has failed" : "waits for it too"}`;
+  const namesOf = ({ first, count }, nameOf) => [...first.slice(0, NAMED).map(nameOf), ...(count > NAMED ? [`.. (${count} goals)`] : [])].join(", ");
 
   /** A wait in words. `labelOf` gives a variable its name. */
   function wordsOf({ goal, variable, others, binders }, labelOf) {
     const start = `${goal.name} waits for ${labelOf(variable)}: `;
-    if (binders.length > 0) return `${start}held by ${binders.map((binder) => `${binder.name} ${binder.status}`).join(", ")}`;
-    if (others.length === 0) return `${start}nobody can bind it (no other goal has it)`;
-    return `${start}nobody can bind it (only ${others.map(statusOf).join(", ")})`;
+    if (binders.count > 0) return `${start}held by ${namesOf(binders, (binder) => `${binder.name} ${binder.status}`)}`;
+    if (others.count === 0) return `${start}nobody can bind it (no other goal has it)`;
+    return `${start}nobody can bind it (only ${namesOf(others, statusOf)})`;
+  }
+
+  /** For each goal that waits the names of those that could bind what it waits for. */
+  function nextOf(waits) {
+    const next = new Map();
+    for (const { goal, binders } of waits) next.set(goal.name, [...(next.get(goal.name) ?? []), ...binders.first.map(({ name }) => name)]);
+    return next;
   }
 
   /** The circles that a search from each goal along what it waits for comes upon, each by the names of its goals in order. */
   function circlesOf(waits) {
-    const next = new Map(), circles = [], done = new Set();
-    for (const { goal, binders } of waits) next.set(goal.name, [...(next.get(goal.name) ?? []), ...binders.map(({ name }) => name)]);
+    const next = nextOf(waits), circles = [], done = new Set();
     for (const start of next.keys()) {
-      const way = [], left = [[start, 0]];
-      while (left.length > 0) {
+      const way = [], places = new Map(), left = [[start, 0]], leave = (name) => places.delete(name) && done.add(name);
+      while (left.length > 0 && circles.length < CIRCLES) {
         const [name, depth] = left.pop();
-        while (way.length > depth) done.add(way.pop());
-        const at = way.indexOf(name);
-        if (at >= 0) circles.push(way.slice(at));
-        if (at >= 0 || done.has(name) || !next.has(name)) continue;
+        while (way.length > depth) leave(way.pop());
+        const at = places.get(name);
+        if (at !== undefined) circles.push(way.slice(at));
+        if (at !== undefined || done.has(name) || !next.has(name)) continue;
+        places.set(name, way.length);
         way.push(name);
         for (const other of next.get(name)) left.push([other, way.length]);
       }
-      way.forEach((name) => done.add(name));
+      way.forEach(leave);
     }
     return circles;
   }
 
+  /** A circle in words; of a long one the first and the last goals. */
+  function circleLine(circle) {
+    const names = circle.length > 2 * NAMED ? [...circle.slice(0, NAMED), `.. (${circle.length} goals)`, ...circle.slice(-NAMED)] : circle;
+    return `a circle: ${[...names, circle[0]].join(" waits for ")}`;
+  }
+
   /** Why nothing goes on, as lines; none where no goal waits. */
   function linesOf(goals, labelOf) {
-    const waits = waitsOf(goals);
+    const waits = waitsOf(goals), more = waits.length > TOLD ? [`.. ${waits.length - TOLD} more such lines; goals lists all goals`] : [];
     const ready = waits.length > 0 && goals.some(({ status }) => status === "ready") ? ["not stuck: some goal is ready"] : [];
-    const circles = circlesOf(waits).map((circle) => `a circle: ${[...circle, circle[0]].join(" waits for ")}`);
-    return [...ready, ...waits.map((wait) => wordsOf(wait, labelOf)), ...circles];
+    return [...ready, ...waits.slice(0, TOLD).map((wait) => wordsOf(wait, labelOf)), ...more, ...circlesOf(waits).map(circleLine)];
   }
 
   /** The lines of one goal. */
   function linesOfGoal(goals, name, labelOf) {
-    return waitsOf(goals).filter(({ goal }) => goal.name === name).map((wait) => wordsOf(wait, labelOf));
+    return waitsOf(goals, goals.filter((goal) => goal.name === name && goal.status === "waits")).map((wait) => wordsOf(wait, labelOf));
   }
 
   return { holdersOf, linesOf, linesOfGoal };

@@ -225,7 +225,8 @@ class Front {
   }
 
   async on_holders({ words }) {
-    this.note(...(words.length === 1 ? await Own.holders(this.session, words) : [usageOf("holders")]));
+    if (words.length !== 1) return this.note(usageOf("holders"));
+    return this.showAll((await Own.holders(this.session, words)).map((line) => MARK + line));
   }
 
   async on_stat() {

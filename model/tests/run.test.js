@@ -160,6 +160,18 @@ test("why nothing goes on: circles, and what nobody can bind", () => {
   ]);
 });
 
+test("of many goals that wait the first are told", () => {
+  const many = 5000, all = (line) => Graph.readGoals(Array.from({ length: many }, (none, place) => line(place + 1)));
+  const lines = Stuck.linesOf(all((place) => `${place}.1 waits _0_1 w(_0_1)`), (variable) => variable);
+  assert.strictEqual(lines.length, 201);
+  assert.match(lines[0], /^1\.1 waits for _0_1: nobody can bind it \(only 2\.1, which waits for it too, .*13\.1, which waits for it too, \.\. \(4999 goals\)\)$/);
+  assert.strictEqual(lines[200], ".. 4800 more such lines; goals lists all goals");
+  assert.strictEqual(Stuck.linesOf(all((place) => `${place}.1 waits _0_1,_0_2 w(_0_1,_0_2)`), (variable) => variable).at(-1).split(": ")[0], "a circle");
+  const ring = Stuck.linesOf(all((place) => `${place}.1 waits _${place}_1 w(_${place}_1,_${place === many ? 1 : place + 1}_1)`), (variable) => variable);
+  assert.match(ring.at(-1), /^a circle: .* waits for \.\. \(5000 goals\) waits for .* waits for \d+\.1$/);
+  assert.strictEqual(Stuck.linesOfGoal(all((place) => `${place}.1 waits _0_1 w(_0_1)`), "7.1", (variable) => variable).length, 1);
+});
+
 test("a long list, a long chain and a deep term are walked by loops", () => {
   const kept = new Kept(), run = new Run([], "p(X)", kept), length = 200000;
   run.learn([]);
