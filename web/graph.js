@@ -5,16 +5,16 @@ const Graph = (() => {
   /** The parts of a text between the marks that stand outside all brackets. */
   function splitOutside(text, mark) {
     const parts = [];
-    let depth = 0, part = "";
-    for (const letter of text) {
+    let depth = 0, start = 0;
+    for (let at = 0; at < text.length; at++) {
+      const letter = text[at];
       if (letter === "(" || letter === "[") depth++;
       if (letter === ")" || letter === "]") depth--;
-      if (letter === mark && depth === 0) {
-        parts.push(part);
-        part = "";
-      } else part += letter;
+      if (letter !== mark || depth !== 0) continue;
+      parts.push(text.slice(start, at));
+      start = at + 1;
     }
-    parts.push(part);
+    parts.push(text.slice(start));
     return parts;
   }
 

@@ -53,9 +53,9 @@ const Panels = (() => {
   }
 
   const showGoals = () => {
-    const { goals } = Talk.run;
+    const { goals, goalsRefused } = Talk.run;
     fill("goals", goals.slice(0, MOST_ROWS).map((goal) => ({ key: [goal.name, goal.status, goal.waitsFor, goal.refusal, goal.text].join(" "), does: () => goalRow(goal) })),
-      Talk.refusal ? "none" : "none: all is done", goals.length);
+      Talk.refusal ? "none" : goalsRefused ? "They are too long to be told." : "none: all is done", goals.length);
     const spied = [...Talk.spied].map((predicate) => lineButton(`spied: ${predicate} ×`, `nospy ${predicate}`, { class: "chip" }));
     if (spied.length > 0) find("goals").prepend(make("div", null, ...spied));
   };
@@ -98,6 +98,7 @@ const Panels = (() => {
     if (Overview.until !== null) return [`This is the run after ${plural(Overview.until, "step")}: nothing was taken back. `, make("button", { class: "small", id: "show-all-steps" }, "Show all steps")];
     if (graph.count >= MOST_KEPT) return ["1,000,000 steps are kept, and there is no room for another one. ", ...withCode("`undo`, `roll` or Start lead back.")];
     if (Beside.isOn()) return Beside.noteParts();
+    if (Talk.run.goalsRefused) return ["A goal is longer than the console tells (", make("code", null, Talk.run.goalsRefused), "), so none is shown. Press Run to go on, or Undo last to go back."];
     if (failed) return tellFailure(failed);
     if (isReady && graph.count === 0) return ["A green ring is a goal that is ready: click it, or press Run."];
     if (isReady) return [];
@@ -116,12 +117,12 @@ const Panels = (() => {
   }
 
   function showCount() {
-    const { graph, goals } = Talk.run, ready = goals.filter((goal) => goal.status === "ready");
+    const { graph, goals, goalsRefused } = Talk.run, ready = goals.filter((goal) => goal.status === "ready");
     find("count").textContent = `${plural(graph.count, "step")}, depth ${graph.deepestChain}`;
     find("count").title = `${plural(graph.count, "kept step")}; the longest chain of causes has ${graph.deepestChain}; ${plural(ready.length, "goal")} ready`;
     const last = graph.count > 0 ? graph.numbers.at(graph.count - 1) : undefined;
     const isOver = !Talk.session || Talk.session.hasEnded, isFull = graph.count >= MOST_KEPT;
-    for (const name of ["step", "leap", "leap-ten"]) find(name).disabled = isOver || isFull || ready.length === 0;
+    for (const name of ["step", "leap", "leap-ten"]) find(name).disabled = isOver || isFull || (ready.length === 0 && (name === "step" || !goalsRefused));
     find("undo-last").disabled = isOver || last === undefined;
     find("tidy").disabled = isOver || graph.count < 3 || graph.count > MOST_TIDIED;
     find("ask-more").disabled = isOver || Boolean(Talk.refusal);

@@ -10,17 +10,17 @@ const RunModel = ((Graph, Lanes) => {
       this.graph = new Graph.RunGraph();
       this.lanes = new Lanes.RunLanes();
       this.goals = [];
+      this.goalsRefused = ""; // why the console did not tell them
       this.shelf = [];
       this.texts = new Map();
       this.clauses = Graph.readClauses(program);
-      this.values = [];
       this.isWhole = true; // not while a change is read
       this.version = 0; // grows with each change
     }
 
     /**
      * Follows what the worker tells. Steps have gone (`gone`, their numbers); or the first `kept` steps stay, all later ones go, and those of
-     * `lines` come. Beside it stand the lines of `goals` and `shelf`, one after the other, of the values, and texts. It yields how many steps
+     * `lines` come. Beside it stand the lines of `goals` and `shelf`, one after the other, and texts. It yields how many steps
      * are read, each time that it may pause; `isWhole` is false until it has ended.
      */
     *change(look, lines) {
@@ -32,10 +32,10 @@ const RunModel = ((Graph, Lanes) => {
         yield* this.add(lines);
       }
       this.goals = yield* this.inParts(look.goals, Graph.readGoals);
+      this.goalsRefused = look.goalsRefused;
       yield* this.addLanes();
       for (const [name, text] of look.texts) this.texts.set(name, text);
       this.shelf = yield* this.inParts(look.shelf, Graph.readShelf);
-      this.values = look.values;
       this.version += 1;
       this.isWhole = true;
     }

@@ -3,7 +3,7 @@
 const Service = (() => {
   "use strict";
 
-  const PARTS = ["heap.js", "host.js", "engine.js", "graph.js", "asking.js", "told.js", "worker_side.js"];
+  const PARTS = ["heap.js", "host.js", "engine.js", "graph.js", "short.js", "asking.js", "told.js", "worker_side.js"];
   const STOPPED = new Error("stopped by hand");
   const waiting = new Map(), listeners = { progress: () => {} };
   let worker = null, answers = null, lastId = 0;

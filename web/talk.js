@@ -45,7 +45,8 @@ const Talk = (() => {
     const decoder = new TextDecoder(), PIECE = 0x20000;
     let rest = "";
     for (let at = 0; at < bytes.length; at += PIECE) {
-      const lines = (rest + decoder.decode(bytes.subarray(at, at + PIECE), { stream: true })).split("\n");
+      const lines = decoder.decode(bytes.subarray(at, at + PIECE), { stream: true }).split("\n");
+      lines[0] = rest + lines[0];
       rest = lines.pop();
       yield* lines;
     }

@@ -1,11 +1,11 @@
 // Runs in a worker, or in the page where a browser refuses workers: keeps the engine's session, plays lines, and tells what has changed.
-const WorkerSide = ((Graph, Asking, Told) => {
+const WorkerSide = ((Graph, Asking, Told, Short) => {
   "use strict";
 
   const MOST_WITH_TEXTS = 3000; // steps; the goals of a longer run are not asked for
   const MOST_LINES_READ = 300000; // bytes; a longer reply is handed on as it is
   const EVERY = 8192, LEAST_PAUSE = 150; // requests for memory, milliseconds: how often it says that a line is still at work
-  const NOTHING = new Uint8Array(0);
+  const NOTHING = new Uint8Array(0), FIRST_OF_REFUSAL = 70; // the letter F
 
   /** What the console's commands do to the record: add steps at its end, take steps away, or look at it alone. All others are looked at anew. */
   const ADDS = new Set(["step", "in", "end", "ask", "redo", "leap", "skip"]), TAKES = new Set(["undo", "roll", "keep"]);
@@ -13,6 +13,7 @@ const WorkerSide = ((Graph, Asking, Told) => {
 
   const decode = (bytes) => new TextDecoder().decode(bytes);
   const linesOf = (bytes) => decode(bytes).split("\n").slice(0, -1);
+  const refusalIn = (reply) => (reply[0] === FIRST_OF_REFUSAL ? decode(reply).trim() : "");
   const wordOf = (line) => line.trim().split(" ")[0];
 
   /** The numbers of the steps that a reply tells to be taken back. */
@@ -58,21 +59,16 @@ const WorkerSide = ((Graph, Asking, Told) => {
       return this.changed({ gone: Float64Array.from(gone), come: NOTHING });
     }
 
-    changed({ gone = null, kept = 0, come }) {
-      return { gone, kept, come, ...this.beside(), texts: this.newTexts(come) };
-    }
-
-    /** What is shown beside the record: the bytes of the replies to `goals` and `shelf`, and the lines of values. */
-    beside() {
-      const values = Asking.variablesOf(this.given.query).flatMap((name) => this.session.line(`show ${name}`));
-      return { goals: this.session.bytes("goals"), shelf: this.session.bytes("shelf"), values };
+    /** What has changed, its long terms shortened, with the bytes of the replies to `goals` and `shelf` beside the record. */
+    changed({ gone = null, kept = 0, come: all }) {
+      const come = Short.lines(all, Short.record), goals = Short.lines(this.session.bytes("goals"), Short.goal);
+      return { gone, kept, come, goals, goalsRefused: refusalIn(goals), shelf: this.session.bytes("shelf"), texts: this.newTexts(come) };
     }
 
     /** The texts of goals that were not handed on yet, those that steps took which have come among them. */
     newTexts(come) {
-      const isLong = this.told.count > MOST_WITH_TEXTS;
-      if (!isLong) Asking.completeTexts(this.texts, Graph.readRecords(linesOf(this.lacksTexts ? this.told.bytes : come)), this.session);
-      this.lacksTexts = isLong;
+      const isLong = this.told.count > MOST_WITH_TEXTS, lines = () => linesOf(this.lacksTexts ? Short.lines(this.told.bytes, Short.record) : come);
+      this.lacksTexts = isLong || !Asking.completeTexts(this.texts, Graph.readRecords(lines()), this.session);
       const fresh = [...this.texts].filter(([name]) => !this.sent.has(name));
       for (const [name] of fresh) this.sent.add(name);
       return fresh;
@@ -107,7 +103,7 @@ const WorkerSide = ((Graph, Asking, Told) => {
     /** Asks what no line of the user asks for, and what changes nothing: the text of a step's goal, or on what a value or a goal rests. */
     ask({ line }) {
       const reply = this.session.hasEnded ? [] : this.session.line(line);
-      return wordOf(line) === "explain" ? { slice: Asking.sliceIn(reply) } : { reply };
+      return wordOf(line) === "explain" ? { slice: Asking.sliceIn(reply) } : { reply: reply.map((told) => Short.term(told)) };
     }
   }
 
@@ -164,5 +160,5 @@ const WorkerSide = ((Graph, Asking, Told) => {
   }
 
   return Object.assign(WorkerSide, { serve, answerer });
-})(typeof require === "undefined" ? Graph : require("./graph.js"), typeof require === "undefined" ? Asking : require("./asking.js"), typeof require === "undefined" ? Told : require("./told.js"));
+})(typeof require === "undefined" ? Graph : require("./graph.js"), typeof require === "undefined" ? Asking : require("./asking.js"), typeof require === "undefined" ? Told : require("./told.js"), typeof require === "undefined" ? Short : require("./short.js"));
 if (typeof module !== "undefined") module.exports = WorkerSide;
