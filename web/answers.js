@@ -58,12 +58,26 @@ const Answers = (() => {
     put(false, make("code", null, wordsOf(entry.line)), " ", ...lines.flatMap((line, index) => [index === 0 ? "" : ", ", ...linkedLine(line)]), more > 0 ? ` and ${more} more` : "");
   }
 
-  /** After lines: the last refusal among them, else the answer to a question. */
+  /** Of another line: the limit that it met. */
+  function partsOfLimit({ reply }) {
+    const [, limit] = /^F6 limit: (\w+)$/.exec(reply[0]) || [], words = Causes.LIMITS[limit];
+    return words === undefined ? [] : [`${words}. ${limit === "print" ? "The store shows how each value begins." : ""}`];
+  }
+
+  /** A line that was not taken, or was stopped. */
+  function tellNote({ line, note }) {
+    put(true, make("code", null, Terms.cut(line, 60)), ` ${note}.`, note.startsWith("stopped") && /^(leap|skip)\b/.test(line) ? " With a number, as in leap 10000, a run ends by itself." : "");
+  }
+
+  /** After lines: what was not taken, else the last refusal among them, else the answer to a question. */
   function show(what) {
     const fresh = what === "lines" ? Talk.entries.slice(shown) : [], refused = fresh.filter(isRefused).pop(), last = fresh[fresh.length - 1];
     shown = Talk.entries.length;
+    if (Talk.refusal && last && last.note) return; // why the text was refused stands there
     hide();
-    if (refused) put(true, make("code", null, wordsOf(refused.line)), " was refused: ", ...linkedLine(refused.reply[0]), make("div", null, ...partsOfAsked(refused)));
+    const asked = refused ? partsOfAsked(refused) : [];
+    if (last && last.note) tellNote(last);
+    else if (refused) put(true, make("code", null, wordsOf(refused.line)), " was refused: ", ...linkedLine(refused.reply[0]), make("div", null, ...(asked.length > 0 ? asked : partsOfLimit(refused))));
     else if (last && last.slice) Resting.tell(wordsOf(last.line).split(" ")[1], last.slice);
     else if (last && /^(why|who) /.test(wordsOf(last.line)) && last.reply[0] !== "none") {
       tellReply(last);

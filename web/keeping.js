@@ -1,10 +1,12 @@
-// Loses nothing: keeps the session in the browser's own storage after each line, offers to go on after a reload, and makes a link of it.
+// Loses nothing: keeps each session in the browser's own storage, with a text that was typed and not started, offers to go on, and makes a link.
 const Keeping = (() => {
   "use strict";
 
   const { find, make } = Elements;
-  const NAME = "ghcdb.session";
-  let before = null;
+  const NAME = "ghcdb.session", MOST = 5; // sessions that are kept
+  const PAUSE = 400; // milliseconds after a letter was typed
+  let name = null; // of this session in the storage; null before anything of it is kept
+  let before = [], timer = null;
 
   const warn = (event) => event.preventDefault();
 
@@ -17,50 +19,116 @@ const Keeping = (() => {
   /** The text of the session, with all lines and no replies. */
   const linesText = () => SessionText.write({ ...Talk.given, entries: Talk.typedLines().map((line) => ({ line, reply: [] })) });
 
-  function read() {
+  const isExample = (program) => EXAMPLES.some((example) => example.program === program);
+
+  /** What there is to be kept: the session, and what was typed since its Start; null where all of it stands in an example. */
+  function now() {
+    const typed = Page.typed(), draft = Page.isChanged() ? { program: typed.program, query: typed.query } : null;
+    if (Talk.entries.length > 0) return { text: linesText(), draft };
+    return typed.program.trim() === "" || isExample(typed.program) ? null : { text: SessionText.write({ ...Talk.given, ...typed, entries: [] }), draft: null };
+  }
+
+  /** What was kept under a name; null where nothing can be read there. */
+  function read(key) {
     try {
-      const text = localStorage.getItem(NAME), session = text === null ? null : SessionText.read(text, () => undefined);
-      return session !== null && session.lines.length > 0 ? session : null;
+      const kept = localStorage.getItem(key), { text, draft = null, at = 0 } = kept.startsWith("{") ? JSON.parse(kept) : { text: kept };
+      const session = SessionText.read(text, () => undefined);
+      return session === null ? null : { ...session, draft, at, key };
     } catch {
       return null;
     }
   }
 
+  /** All that is kept, the last one first. */
+  function all() {
+    try {
+      const keys = Object.keys(localStorage).filter((key) => key === NAME || key.startsWith(`${NAME}.`));
+      return keys.map(read).filter(Boolean).sort((one, other) => other.at - one.at);
+    } catch {
+      return [];
+    }
+  }
+
+  /** Whether a session that is kept has all of this one, which is none yet. */
+  function isWithin({ program, query, history, lines, draft }) {
+    const { given } = Talk, typed = Talk.typedLines();
+    return !Page.isChanged() && draft === null && program === given.program && query === given.query && history === given.history && typed.every((line, at) => line === lines[at]);
+  }
+
   /** Keeps the session as it is; where the browser refuses that, it warns before the page is left. */
   function keep() {
-    if (Talk.entries.length === 0) return;
+    clearTimeout(timer);
+    const kept = now(), at = Date.now();
+    if (kept === null || (name === null && all().some((other) => isWithin(other)))) return;
+    name = name || `${NAME}.${at}.${Math.random()}`;
     try {
-      localStorage.setItem(NAME, linesText());
+      localStorage.setItem(name, JSON.stringify({ ...kept, at }));
+      for (const { key } of all().slice(MOST)) localStorage.removeItem(key);
       setKept(true);
     } catch {
       setKept(false);
     }
   }
 
+  /** The same, a little after the last letter was typed. */
+  function keepSoon() {
+    clearTimeout(timer);
+    timer = setTimeout(keep, PAUSE);
+  }
+
+  /** Another session begins: this one stays as it is kept. Gives its name where its program is the user's own. */
+  function leave() {
+    keep();
+    const isOwn = !Guide.isOn() && !(isExample(Page.typed().program) && isExample(Talk.given.program)), left = isOwn ? name : null;
+    name = null;
+    return left;
+  }
+
+  /** Begins another session than the one that stands here, and offers to bring that one back where its program is the user's own. */
+  async function beginOther(begins) {
+    const left = leave();
+    begins();
+    await Talk.settled();
+    if (left === null || !find("answer").hidden) return;
+    before = all().filter(({ key }) => key === left);
+    if (before.length > 0) Answers.put(false, "Your own program is kept. ", make("button", { class: "small main-button", "data-go-on": 0 }, "Go back to it"));
+  }
+
+  const wordsOf = ({ lines, query }) => [lines.length === 0 ? "A program" : `${lines.length} line${lines.length === 1 ? "" : "s"}`, lines.length === 0 ? " for " : " on ", make("code", null, Terms.cut(query.trim() || "no query", 60))];
+
+  /** Of an address that holds a session, only one that has gone on from there is offered. */
+  const goesOn = (session) => session.program === Talk.given.program && session.query === Talk.given.query && session.lines.length > Talk.typedLines().length;
+
+  /** Offers to go on with what was kept, where the page was not opened for something else. */
+  function offer(isOfLink = false) {
+    before = isOfLink ? all().filter((session) => session.key !== name && goesOn(session)) : all();
+    const [last, ...others] = before;
+    if (last === undefined || (location.hash.length > 1 && !isOfLink)) return;
+    const isOne = last.lines.length < 2, them = isOne ? "it" : "them";
+    const also = others.flatMap((session, index) => [index === 0 ? " Also kept: " : ", ", make("button", { class: "link", "data-go-on": index + 1 }, ...wordsOf(session))]);
+    Answers.put(false, ...wordsOf(last), isOne ? " is" : " are", " kept from the last time. ", make("button", { class: "small main-button", id: "go-on", "data-go-on": 0 }, `Go on with ${them}`), " ",
+      make("button", { class: "small", id: "forget" }, `Forget ${them}`), ...also);
+  }
+
   function forget() {
-    before = null;
     try {
-      localStorage.removeItem(NAME);
+      localStorage.removeItem(before[0].key);
     } catch {
       setKept(false);
     }
     Answers.hide();
+    offer();
   }
 
-  /** Offers to go on with the session that was kept, where the page was not opened for another one. */
-  function offer() {
-    before = read();
-    if (before === null || location.hash.length > 1) return;
-    const count = before.lines.length;
-    Answers.put(false, `${count} line${count === 1 ? "" : "s"} on `, make("code", null, Terms.cut(before.query.trim(), 60)), " are kept from the last time. ",
-      make("button", { class: "small main-button", id: "go-on" }, "Go on with them"), " ", make("button", { class: "small", id: "forget" }, "Forget them"));
-  }
-
-  /** Plays the session that was kept. */
-  function goOn() {
-    const { program, query, history, lines } = before;
+  /** Plays a session that was kept, and puts there what was typed since its Start. */
+  async function goOn(index) {
+    const { program, query, history, lines, draft, key } = before[index];
+    leave();
+    name = key;
     Page.begin({ program, query, history });
-    Talk.send(...lines);
+    if (lines.length > 0) Talk.send(...lines);
+    await Talk.settled();
+    if (draft !== null) Page.setTyped(draft);
   }
 
   /** The address of the page with all of the session in it; null where it would be too long. */
@@ -82,7 +150,7 @@ const Keeping = (() => {
     }
     history.replaceState(null, "", link);
     const field = make("input", { readonly: true, value: link, id: "link-text", "aria-label": "The link" });
-    Answers.put(false, "The address holds program, query and lines now: ", field, " ", make("button", { class: "small", id: "copy-link" }, "Copy"));
+    Answers.put(false, "The address holds program, query and lines now: ", field, " ", make("button", { class: "small", id: "copy-link" }, "Copy"), Page.isChanged() ? " What you typed since Start is not in it." : "");
     field.select();
   }
 
@@ -97,5 +165,10 @@ const Keeping = (() => {
     }
   }
 
-  return { keep, offer, goOn, forget, makeLink, copyLink };
+  function listenToAll() {
+    for (const field of ["program", "query"]) find(field).addEventListener("input", keepSoon);
+    window.addEventListener("pagehide", keep);
+  }
+
+  return { keep, offer, goOn, forget, beginOther, makeLink, copyLink, listenToAll };
 })();

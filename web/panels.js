@@ -93,7 +93,7 @@ const Panels = (() => {
     const { goals, graph } = Talk.run, isReady = goals.some((goal) => goal.status === "ready");
     const failed = goals.find((goal) => goal.status === "failed"), stream = goals.find((goal) => goal.status === "stream");
     if (Talk.trouble) return [Talk.trouble, ...(Talk.session && Talk.session.hasEnded ? [" ", make("button", { class: "small", id: "again" }, "Go on without the last line")] : [])];
-    if (Talk.refusal) return [`Refused: ${Talk.refusal}`];
+    if (Talk.refusal) return [`Refused: ${Talk.refusal}. Mend it, then press Start.`];
     if (Talk.session.hasEnded) return ["The session has ended. Start begins a new one."];
     if (Overview.until !== null) return [`This is the run after ${plural(Overview.until, "step")}: nothing was taken back. `, make("button", { class: "small", id: "show-all-steps" }, "Show all steps")];
     if (graph.count >= MOST_KEPT) return ["1,000,000 steps are kept, and there is no room for another one. ", ...withCode("`undo`, `roll` or Start lead back.")];
@@ -109,8 +109,14 @@ const Panels = (() => {
     return [];
   }
 
+  /** Where program or query were changed since Start: that the run is not of them. */
+  function changedParts() {
+    if (Talk.refusal || !Page.isChanged()) return [];
+    return [make("div", null, "This run is of the text before your changes. ", make("button", { class: "small main-button", id: "start-anew" }, "Start"), " runs the text as it stands now.")];
+  }
+
   function showNote() {
-    const parts = noteParts();
+    const parts = [...noteParts(), ...changedParts()];
     find("note").replaceChildren(...parts);
     find("note").hidden = parts.length === 0;
     find("note").classList.toggle("refused", Boolean(Talk.refusal || Talk.trouble));

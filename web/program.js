@@ -22,8 +22,10 @@ const Program = (() => {
   const follow = () => { find("program-lines").style.transform = `translate(${-find("program").scrollLeft}px, ${-find("program").scrollTop}px)`; };
 
   function setText(program) {
-    find("program").value = program;
-    find("program").scrollTop = 0;
+    if (find("program").value !== program) { // a browser takes seconds to put a long one there again
+      find("program").value = program;
+      find("program").scrollTop = 0;
+    }
     showLines();
   }
 

@@ -150,12 +150,29 @@ const Talk = (() => {
     isStopped = false;
     talk.busy = { ...talk.busy, line: "playing the lines before it again", since: performance.now(), read: 0, canStop: false };
     await playAgain(typedLines());
-    talk.entries.push({ line: lines.join("; "), reply: [], length: 0, tail: () => [], note: `stopped by hand after ${seconds} s: not taken; the run stands where it stood` });
+    noteLine(lines, `stopped by hand after ${seconds} s: not taken; the run stands where it stood`);
+  }
+
+  /** Why no line is taken; nothing where lines are taken. */
+  function whyNot() {
+    if (talk.refusal) return "there is no run. Mend the program or the query, then press Start";
+    return talk.session.hasEnded ? "the session has ended. Press Start for a new one" : "";
+  }
+
+  /** Notes a line, or the first of some, that was not taken. */
+  function noteLine(lines, note) {
+    const line = lines.length > 1 ? `${lines[0]} (and ${lines.length - 1} more)` : lines[0];
+    talk.entries.push({ line, reply: [], length: 0, tail: () => [], note });
   }
 
   /** Types lines one after the other, and shows where they led. */
   const send = (...lines) => queued(lines.join("; "), async () => {
-    if (!talk.session || talk.refusal || talk.session.hasEnded) return;
+    if (!talk.session) return;
+    if (whyNot() !== "") {
+      noteLine(lines, `not taken: ${whyNot()}`);
+      await changed("lines");
+      return;
+    }
     const { since } = talk.busy;
     talk.typed = lines;
     talk.trouble = "";

@@ -32,7 +32,7 @@ inBrowsers("a failed goal tells what clashed and which step bound it; an error i
   assert.deepEqual(await page.value("Canvas.chosen"), { step: 3 });
   const program = `${"p(a) :- true | true.\n".repeat(40)}p(b) :- true | q(.\n`;
   await page.value(`(Files.openText(${JSON.stringify(program)}), Talk.settled())`);
-  assert.equal(await page.value(text("note")), "Refused: program: F2 syntax at 41:18");
+  assert.equal(await page.value(text("note")), "Refused: program: F2 syntax at 41:18. Mend it, then press Start.");
   assert.equal(await page.value(text("answer")), ["syntax: '(' of line 41, column 17 is not closed  --> program:41:18", "   |", "41 | p(b) :- true | q(.", "   |                  ^= missing: )×"].join("\n"));
   assert.ok(await page.value('(() => { const line = document.querySelector("#program-lines .wrong").getBoundingClientRect(), pane = document.getElementById("program-pane").getBoundingClientRect(); return line.top >= pane.top && line.bottom <= pane.bottom; })()'), "the line is in sight");
 });

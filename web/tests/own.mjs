@@ -1,0 +1,106 @@
+// Tests of web/ghcdb.html with programs that users bring, in a headless Chromium and a headless Firefox, from a file: what they type is
+// started, kept and told.
+import assert from "node:assert/strict";
+import { inBrowsers, open } from "./in_browsers.mjs";
+
+const PHONE = [390, 800], WIDE = [1440, 900];
+const STACK = "stack([],_) :- true | true.\nstack([push(X)|S],T) :- true | stack(S,[X|T]).\nstack([pop(X)|S],[Y|T]) :- true | X = Y, stack(S,T).\n";
+const text = (id) => `(() => { const area = document.getElementById("${id}"); return area.hidden ? "" : area.textContent; })()`;
+const lines = "[...document.querySelectorAll('#told > .typed')].map((one) => one.textContent.slice(2))";
+const field = (id) => `document.getElementById("${id}").value`;
+
+/** Types a text into a field, in the place of what stands there. */
+async function write(page, id, words) {
+  await page.value(`(document.getElementById("${id}").focus(), document.getElementById("${id}").select(), true)`);
+  await page.value(`(document.execCommand("insertText", false, ${JSON.stringify(words)}), true)`);
+}
+
+async function startOwn(page, program, query) {
+  await write(page, "program", program);
+  await write(page, "query", query);
+  await page.value('(document.getElementById("start").requestSubmit(), Talk.settled().then(() => true))');
+}
+
+/** Waits until an expression is true. */
+const until = (page, is) => page.value(`new Promise((done) => { const look = () => (${is} ? done(true) : setTimeout(look, 20)); look(); })`);
+
+async function chooseExample(page, name) {
+  await page.value(`(() => { const list = document.getElementById("examples"); list.value = "${name}"; list.dispatchEvent(new Event("change", { bubbles: true })); return Talk.settled().then(() => true); })()`);
+}
+
+inBrowsers("a text that was changed since Start is told, and started from there; on a phone Start shows the run", async (page) => {
+  await open(page, "", WIDE);
+  await page.value("localStorage.clear()");
+  await startOwn(page, STACK, "stack([push(1),pop(X)],[])");
+  assert.equal(await page.value(text("note")), "A green ring is a goal that is ready: click it, or press Run.");
+  await write(page, "program", STACK.replace("X = Y", "X = f(Y)"));
+  await page.click("#leap");
+  assert.equal(await page.value(text("note")), "This run is of the text before your changes. Start runs the text as it stands now.");
+  await page.click("#start-anew");
+  await page.click("#leap");
+  assert.equal(await page.value('document.querySelector("#store .row").textContent'), "X = f(1)");
+  assert.equal(await page.value(text("note")), "");
+  await write(page, "query", "stack([pop(X)],[])");
+  assert.match(await page.value(text("note")), /^This run is of the text before/);
+  await open(page, "", PHONE);
+  await page.click('[data-tab="program"]');
+  await page.click("#start .main-button");
+  assert.equal(await page.value("document.body.dataset.tab"), "run");
+});
+
+inBrowsers("own programs are kept: when an example is chosen, when they were refused or not started, and when one steps after a reload", async (page) => {
+  await open(page, "", WIDE);
+  await page.value("localStorage.clear()");
+  await startOwn(page, STACK, "stack([push(1),pop(X)],[])");
+  await page.click("#step");
+  await write(page, "query", "stack([push(7)],[])");
+  await chooseExample(page, "bill");
+  await until(page, '!document.getElementById("answer").hidden');
+  assert.equal(await page.value(text("answer")), "Your own program is kept. Go back to it×");
+  await page.click("#answer [data-go-on]");
+  await until(page, "Page.isChanged()");
+  assert.equal(await page.value(field("program")), STACK);
+  assert.equal(await page.value(field("query")), "stack([push(7)],[])");
+  assert.deepEqual(await page.value(lines), ["step 0.1"]);
+  await open(page, "", WIDE);
+  assert.match(await page.value(text("answer")), /^1 line on stack\(\[push\(1\),pop\(X\)\],\[\]\) is kept from the last time\. Go on with it Forget it×$/);
+  await page.click("#step");
+  await open(page, "", WIDE);
+  assert.match(await page.value(text("answer")), /^1 line on quicksort.* Also kept: 1 line on stack\(/);
+  await startOwn(page, "p(X) :- q(X.", "p(1)");
+  await open(page, "", WIDE);
+  assert.match(await page.value(text("answer")), /^A program for p\(1\) is kept from the last time\./);
+  await page.click("#forget");
+  assert.match(await page.value(text("answer")), /^1 line on quicksort/);
+  await page.click('#answer [data-go-on="1"]');
+  assert.equal(await page.value(field("program")), STACK);
+});
+
+inBrowsers("after a reload of a link's address the lines that came later are offered", async (page) => {
+  await open(page, "#example=append&lines=step 0.1", WIDE);
+  await page.value("(localStorage.clear(), Keeping.makeLink())");
+  await page.value('Talk.send("step 1.1", "step 1.2")');
+  const link = await page.value("location.href");
+  for (const count of [3, 3]) {
+    await page.go(link, 'document.body.classList.contains("started") && !Talk.busy && Talk.entries.length > 0');
+    assert.match(await page.value(text("answer")), new RegExp(`^${count} lines on append\\(\\[1\\],\\[2\\],R\\) are kept from the last time\\. Go on with them Forget them×$`));
+  }
+  await page.click("#go-on");
+  assert.deepEqual(await page.value(lines), ["step 0.1", "step 1.1", "step 1.2"]);
+});
+
+inBrowsers("a line is told not to be taken where nothing runs; a limit is told in words", async (page) => {
+  await open(page, "", WIDE);
+  await startOwn(page, "p(X) :- q(X.", "p(1)");
+  const cause = await page.value(text("answer"));
+  await page.value('Talk.send("step 0.1")');
+  assert.match(await page.value(text("told")), /> step 0\.1not taken: there is no run\. Mend the program or the query, then press Start$/);
+  assert.equal(await page.value(text("answer")), cause, "why it was refused stands there still");
+  await open(page, "#example=append&lines=quit", WIDE);
+  await page.value('Talk.send("goals")');
+  assert.equal(await page.value(text("answer")), "goals not taken: the session has ended. Press Start for a new one.×");
+  assert.ok(!(await page.value("Files.sessionText()")).includes("> goals"), "and is not saved");
+  await startOwn(page, "n(0,L) :- true | L = [].\nn(N,L) :- N > 0 | L = [123456789|M], N1 := N - 1, n(N1,M).\n", "n(120000,L)");
+  await page.value('Talk.send("leap", "show L")');
+  assert.equal(await page.value(text("answer")), "show L was refused: F6 limit: printthe text of a term would be longer than 1,048,576 bytes. The store shows how each value begins.×");
+});
