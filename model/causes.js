@@ -16,6 +16,7 @@ const Causes = ((Tokens, Reader, SyntaxCauses, CheckerCauses, Nearest) => {
       const found = SyntaxCauses.causeOf(text, { line: Number(syntax[1]), column: Number(syntax[2]) }, isQuery);
       return caused(which, { ...found, title: `syntax: ${found.title}` });
     }
+    if (!clause && !twice && !call) return undefined;
     const tokens = Tokens.tokensOf(text);
     if (number === "F3" && clause) return caused(which, CheckerCauses.notFlat(tokens, Number(clause[1])));
     if (number === "F4" && twice) return caused(which, CheckerCauses.notLinear(tokens, twice[1], Number(twice[2])));

@@ -23,12 +23,19 @@ const Answers = (() => {
     return [make("b", null, title), make("pre", { class: "cause" }, place), ...lines.map((hint) => make("div", { class: "hint" }, hint.trim()))];
   }
 
+  /** The limit that a refusal names, in words; undefined where it names none. */
+  const limitIn = (refusal) => Causes.LIMITS[(/^F6 limit: (\w+)$/.exec(refusal) || [])[1]];
+
   /** Why a program, a query or a line's goals were refused: the cause where one is known. Nothing where there is none to be told. */
-  function partsOfRefusal(refusal, given) {
-    const limit = /^F6 limit: (\w+)$/.exec(refusal), cause = Causes.causeOf(refusal, given);
-    if (limit) return [Causes.LIMITS[limit[1]]];
+  function partsOfRefusal(refusal, given, known = null) {
+    const limit = limitIn(refusal);
+    if (limit !== undefined) return [limit];
+    const cause = known || Causes.causeOf(refusal, given);
     return cause === undefined ? [] : causeParts(cause, given.text);
   }
+
+  /** The same of a program so long that no cause is looked for. */
+  const partsOfLong = (refusal) => [limitIn(refusal) || "The program is so long that the page does not look for the cause."];
 
   const ASKED = /^ *(?:ask +|in +\S+ +)(.*)$/;
 
@@ -60,8 +67,8 @@ const Answers = (() => {
 
   /** Of another line: the limit that it met. */
   function partsOfLimit({ reply }) {
-    const [, limit] = /^F6 limit: (\w+)$/.exec(reply[0]) || [], words = Causes.LIMITS[limit];
-    return words === undefined ? [] : [`${words}. ${limit === "print" ? "The store shows how each value begins." : ""}`];
+    const words = limitIn(reply[0]);
+    return words === undefined ? [] : [`${words}. ${reply[0].endsWith("print") ? "The store shows how each value begins." : ""}`];
   }
 
   /** A line that was not taken, or was stopped. */
@@ -85,5 +92,5 @@ const Answers = (() => {
     }
   }
 
-  return { show, hide, put, causeParts, partsOfRefusal };
+  return { show, hide, put, causeParts, partsOfRefusal, partsOfLong };
 })();

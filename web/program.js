@@ -3,7 +3,8 @@ const Program = (() => {
   "use strict";
 
   const { find, make } = Elements;
-  const MOST_LINES = 3000; // of a longer program no numbers are shown
+  const MOST_LINES = 3000, MOST_LETTERS = 500000; // of a longer program no numbers are shown
+  const MOST_BYTES = 1048576; // of a program that ghcdb takes
   let marked = null, wrong = null;
 
   const text = () => find("program").value;
@@ -13,7 +14,7 @@ const Program = (() => {
 
   function showLines() {
     const lines = text().split("\n"), area = find("program-lines");
-    area.replaceChildren(...(lines.length > MOST_LINES ? [] : lines.map(lineBehind)));
+    area.replaceChildren(...(lines.length > MOST_LINES || text().length > MOST_LETTERS ? [] : lines.map(lineBehind)));
     marked = null;
     wrong = null;
     follow();
@@ -85,7 +86,19 @@ const Program = (() => {
 
   const width = () => find("source").getBoundingClientRect().width;
 
+  const isTooLong = (given) => given.length > MOST_BYTES;
+  const tellTooLong = (given) => `it has ${given.length.toLocaleString("en")} letters, and ghcdb takes a program of ${MOST_BYTES.toLocaleString("en")} bytes at most.`;
+
+  /** A text that no program can be is not taken: a browser stands still for seconds to show it. */
+  function onPaste(event) {
+    const given = event.clipboardData ? event.clipboardData.getData("text/plain") : "";
+    if (!isTooLong(given)) return;
+    event.preventDefault();
+    Answers.put(true, `The text was not pasted: ${tellTooLong(given)}`);
+  }
+
   function listenToAll() {
+    find("program").addEventListener("paste", onPaste);
     const divider = find("divider"), field = find("program");
     field.addEventListener("input", showLines);
     field.addEventListener("scroll", follow, { passive: true });
@@ -98,5 +111,5 @@ const Program = (() => {
     });
   }
 
-  return { text, setText, markClause, showPlace, showLine, setWrap, listenToAll, isWrapped: () => find("program").wrap === "soft" };
+  return { text, setText, markClause, showPlace, showLine, setWrap, isTooLong, tellTooLong, listenToAll, isWrapped: () => find("program").wrap === "soft" };
 })();

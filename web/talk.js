@@ -86,7 +86,7 @@ const Talk = (() => {
     talk.refusal = told.refusal;
     talk.goalForms = new Set(told.goalForms);
     talk.session = { hasEnded: Boolean(told.refusal) };
-    talk.run = new RunModel(talk.given.program, talk.given.query);
+    talk.run = new RunModel(told.refusal ? "" : talk.given.program, talk.given.query);
     if (told.look) await take(told.look);
   }
 

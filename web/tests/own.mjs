@@ -104,3 +104,37 @@ inBrowsers("a line is told not to be taken where nothing runs; a limit is told i
   await page.value('Talk.send("leap", "show L")');
   assert.equal(await page.value(text("answer")), "show L was refused: F6 limit: printthe text of a term would be longer than 1,048,576 bytes. The store shows how each value begins.×");
 });
+
+inBrowsers("a file in Latin-1, with other line ends, with its query in a comment, or that is no text", async (page) => {
+  await open(page, "", WIDE);
+  const openBytes = (name, words, put = "") => page.value(`(() => { const bytes = Uint8Array.from(${JSON.stringify(words)}, (letter) => letter.charCodeAt(0)); ${put} return Files.openBytes("${name}", bytes).then(() => Talk.settled()).then(() => true); })()`);
+  await openBytes("latin.ghc", "% Gr\u00f6\u00dfe\n%\n% Query: p(1)\np(X) :- X > 0 | q(X).\nq(1).\n");
+  assert.ok((await page.value(field("program"))).startsWith("% Größe\n"));
+  assert.equal(await page.value(field("query")), "p(1)");
+  assert.equal(await page.value(text("answer")), "latin.ghc is not in UTF-8. It was read as Latin-1: look at its letters beyond ASCII.×");
+  for (const end of ["\r\n", "\r"]) {
+    await openBytes("ends.ghc", `% Query: p(2)${end}p(X) :- X > 0 | q(X).${end}q(2).${end}`);
+    await page.click("#leap");
+    await page.value("Canvas.choose({ step: 1 })");
+    assert.equal(await page.value('document.querySelector("#program-lines .marked").textContent'), "p(X) :- X > 0 | q(X).");
+    assert.equal(await page.value(text("note")), "");
+  }
+  await openBytes("picture.png", "\u0089PNG\r\n\u0000\u0000");
+  assert.equal(await page.value(text("answer")), "picture.png was not opened: it is no text in UTF-8.×");
+  assert.equal(await page.value(field("query")), "p(2)");
+});
+
+inBrowsers("a program that is too long is not pasted or opened; of a long one the place of a refusal is shown in a second", async (page) => {
+  await open(page, "", WIDE);
+  const before = await page.value(field("program")), told = "it has 1,200,000 letters, and ghcdb takes a program of 1,048,576 bytes at most.×";
+  await page.value(`(() => { const event = new Event("paste", { bubbles: true, cancelable: true }); event.clipboardData = { getData: () => "p(1).\\n\\n\\n\\n\\n\\n\\n".repeat(100000) }; document.getElementById("program").dispatchEvent(event); return event.defaultPrevented; })()`);
+  assert.equal(await page.value(text("answer")), `The text was not pasted: ${told}`);
+  await page.value('Files.openText("p(1).\\n\\n\\n\\n\\n\\n\\n".repeat(100000))');
+  assert.equal(await page.value(text("answer")), `This text was not opened: ${told}`);
+  assert.equal(await page.value(field("program")), before);
+  await page.value('(Files.openText("p(X) :- X > 0 | true.\\n".repeat(40000) + "q(1) :- r(\\n"), Talk.settled())');
+  assert.equal(await page.value(text("note")), "Refused: program: F2 syntax at 40002:1. Mend it, then press Start.");
+  assert.equal(await page.value(text("answer")), "The program is so long that the page does not look for the cause.×");
+  const taken = await page.value('(async () => { const start = performance.now(); document.getElementById("start").requestSubmit(); await Talk.settled(); return performance.now() - start; })()');
+  assert.ok(taken < 2000, `Start took ${Math.round(taken)} ms`);
+});
