@@ -102,6 +102,13 @@ const Stuck = ((Graph) => {
     return waitsOf(goals, goals.filter((goal) => goal.name === name && goal.status === "waits")).map((wait) => wordsOf(wait, labelOf));
   }
 
-  return { holdersOf, linesOf, linesOfGoal };
+  /** Of the first goals that wait, one that nobody can help, else the first; in words. */
+  function lineOfOne(goals, labelOf, most = 100) {
+    const waiting = goals.filter(({ status }) => status === "waits").slice(0, most), waits = waitsOf(goals, waiting);
+    const one = waits.find(({ binders }) => binders.count === 0) ?? waits[0];
+    return one === undefined ? undefined : { words: wordsOf(one, labelOf), isHelped: one.binders.count > 0 };
+  }
+
+  return { holdersOf, linesOf, linesOfGoal, lineOfOne };
 })(typeof require === "undefined" ? Graph : require("../web/graph.js"));
 if (typeof module !== "undefined") module.exports = Stuck;

@@ -88,6 +88,15 @@ const Panels = (() => {
     return [`Goal ${goal.name} has failed: `, ...withCode(words), ". ", ...bound, "Take back a step that it read, and it may be ready again."];
   }
 
+  /** Where no goal is ready: who waits for what, and who could help. */
+  function tellWaiting(goals) {
+    const names = new Map([...Asking.queryVariables(Talk.given.query)].map(([name, variable]) => [variable, name]));
+    const told = Stuck.lineOfOne(goals, (variable) => (names.has(variable) ? `${variable} (${names.get(variable)})` : variable));
+    const start = `Nothing is ready, and ${goals.length === 1 ? "a goal waits" : `${goals.length} goals wait`}.`;
+    if (told === undefined) return [start];
+    return [`${start} ${Terms.cut(told.words, 400)}. `, ...withCode(told.isHelped ? "Click a goal that waits, then `Explain`." : "`ask …` adds a goal that binds it.")];
+  }
+
   /** What is said above the picture where there is something that one should know. */
   function noteParts() {
     const { goals, graph } = Talk.run, isReady = goals.some((goal) => goal.status === "ready");
@@ -105,7 +114,7 @@ const Panels = (() => {
     const circle = Graph.circleOf(goals);
     if (circle.length > 0) return [`Nothing is ready: ${Terms.cut([...circle, circle[0]].join(" waits for "), 400)}, in a circle.`];
     if (stream) return [`Nothing is ready. Click the stream ${stream.name} and give it an input.`];
-    if (goals.length > 0) return ["Nothing is ready, and some goals wait."];
+    if (goals.length > 0) return tellWaiting(goals);
     return [];
   }
 
