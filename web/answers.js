@@ -34,7 +34,13 @@ const Answers = (() => {
     return cause === undefined ? [] : causeParts(cause, given.text);
   }
 
-  /** The same of a program so long that no cause is looked for. */
+  /** The place that a refusal names; undefined where it names none. */
+  function placeIn(refusal) {
+    const [, line, column] = /^F2 syntax at (\d+):(\d+)$/.exec(refusal) || [];
+    return line === undefined ? undefined : { line: Number(line), column: Number(column), length: 1 };
+  }
+
+  /** Why a program was refused that is so long that no cause is looked for. */
   const partsOfLong = (refusal) => [limitIn(refusal) || "The program is so long that the page does not look for the cause."];
 
   const ASKED = /^ *(?:ask +|in +\S+ +)(.*)$/;
@@ -92,5 +98,5 @@ const Answers = (() => {
     }
   }
 
-  return { show, hide, put, causeParts, partsOfRefusal, partsOfLong };
+  return { show, hide, put, causeParts, partsOfRefusal, partsOfLong, placeIn };
 })();

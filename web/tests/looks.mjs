@@ -100,6 +100,16 @@ inBrowsers("all of a run fits where that is asked for, and after a run one looks
   assert.ok(await page.value(isThere), "the first goal that is there is in sight");
 });
 
+inBrowsers("where as much is shown as a picture can, no name of a lane is over another one", async (page) => {
+  const numbers = Array.from({ length: 100 }, (none, at) => (at * 37) % 101);
+  for (const size of Object.values(SIZES)) {
+    await open(page, `#example=quicksort&query=quicksort([${numbers}],R)&lines=leap 3000`, size);
+    await page.click("#fit");
+    assert.deepEqual(await page.value(TEXTS), []);
+    assert.ok(await page.value('document.querySelectorAll("#canvas .names text").length') > 3, "some have a name");
+  }
+});
+
 inBrowsers("at 50 steps on a wide window the numbers of the steps are written where they have room, and no room is left unused", async (page) => {
   for (const wide of [SIZES.wide, [2400, 900]]) {
     await open(page, "#example=primes&query=primes(30,Ps)&lines=leap 50", wide);
