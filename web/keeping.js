@@ -60,10 +60,11 @@ const Keeping = (() => {
     clearTimeout(timer);
     const kept = now(), at = Date.now();
     if (kept === null || (name === null && all().some((other) => isWithin(other)))) return;
+    const isNew = name === null;
     name = name || `${NAME}.${at}.${Math.random()}`;
     try {
       localStorage.setItem(name, JSON.stringify({ ...kept, at }));
-      for (const { key } of all().slice(MOST)) localStorage.removeItem(key);
+      if (isNew) for (const { key } of all().slice(MOST)) localStorage.removeItem(key);
       setKept(true);
     } catch {
       setKept(false);

@@ -74,6 +74,11 @@ inBrowsers("own programs are kept: when an example is chosen, when they were ref
   assert.match(await page.value(text("answer")), /^1 line on quicksort/);
   await page.click('#answer [data-go-on="1"]');
   assert.equal(await page.value(field("program")), STACK);
+  for (const name of ["append", "bill", "counter", "merge", "primes"]) {
+    await chooseExample(page, name);
+    await page.click("#step");
+  }
+  assert.equal(await page.value("Object.keys(localStorage).length"), 5, "no more than five are kept");
 });
 
 inBrowsers("after a reload of a link's address the lines that came later are offered", async (page) => {
