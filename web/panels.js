@@ -10,7 +10,7 @@ const Panels = (() => {
   const MOST_LINKED = 60; // lines of a reply in which numbers are links
   const plural = (count, word) => `${count} ${word}${count === 1 ? "" : "s"}`;
   const isRefusal = (line) => /^F\d+ /.test(line) || /^(program|query|history|session): /.test(line);
-  let shown = 0;
+  let shown = 0, wasChanged = false;
 
   function addTold(entry) {
     const told = find("told");
@@ -125,10 +125,16 @@ const Panels = (() => {
   }
 
   function showNote() {
+    wasChanged = Page.isChanged();
     const parts = [...noteParts(), ...changedParts()];
     find("note").replaceChildren(...parts);
     find("note").hidden = parts.length === 0;
     find("note").classList.toggle("refused", Boolean(Talk.refusal || Talk.trouble));
+  }
+
+  /** After a letter was typed in program or query: what is said is said anew where that is the first change, or the last one is gone. */
+  function followText() {
+    if (Talk.session && Page.isChanged() !== wasChanged) showNote();
   }
 
   function showCount() {
@@ -184,5 +190,5 @@ const Panels = (() => {
     find("stop").hidden = !busy.canStop;
   }
 
-  return { PARTS, showBusy, showNote, showDetail, showLookAt, madeWith };
+  return { PARTS, showBusy, showNote, followText, showDetail, showLookAt, madeWith };
 })();
