@@ -3,8 +3,9 @@
 
 PROGRAM is the built program, ../crates/ghcdb/out/ghcdb where none is named. Each row is one `leap`: of a program whose matching is
 heavy, and of some whose steps are light. Columns are numbers of workers (1, 2 and 4): the time by the clock, the processor time of
-all threads, and how many times faster by the clock it is than the first. The first line is what this machine can give at most: runs of
-the first row by one worker each, as many side by side as the column has workers, so that they share nothing but the processors. What the program takes to start is taken off; the lines of
+all threads, and how many times faster by the clock it is than the first. The first line is about what this machine can give: runs of
+the first row by one worker each, as many side by side as the column has workers, so that they share nothing but the processors. Read
+medians of many runs: on a shared machine best times differ from them by a half. What the program takes to start is taken off; the lines of
 the steps are made and thrown away. The figure is the median of N runs (5). --only takes the rows whose name has WORD. Where there is
 `strace`, a last column tells in how many rounds the most workers made the run: each round starts one thread fewer than there are
 workers. Where there is `valgrind`, --instructions tells in place of the times how many instructions all threads took together, in
