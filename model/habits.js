@@ -30,6 +30,7 @@ const Habits = (() => {
     [/^\u00a0/, "a no-break space stands here, which looks like a blank", "write a blank"],
     [/^[\x00-\x1f\x7f]/, "a control character stands here, which nobody sees", "drop it"],
     [/^[^\x00-\x7f]/u, "this letter is not of the language", "names have the 52 letters of ASCII, digits and _; other letters may stand in comments alone"],
+    [/^\\\//, "there is no operator \\/", "the operators are + - * / mod"],
     [/^\\/, "\\ begins no mark here but =\\=", "\"not equal\" of numbers is =\\= and stands in the guard"],
   ];
 
@@ -51,6 +52,7 @@ const Habits = (() => {
     "<<": ["there is no operator <<", "multiply: Y := X * 2"],
     ">>": ["there is no operator >>", "divide: Y := X / 2"],
     "=.": ["there is no =..", "the head takes a term apart, as p(f(X)) :- .."],
+    "/\\": ["there is no operator /\\", "the operators are + - * / mod"],
     "//": ["there is no operator //", "integer division is /, the remainder mod"],
   };
 

@@ -56,9 +56,10 @@ const SyntaxCauses = ((Tokens, Habits) => {
     return undefined;
   }
 
-  function foreignMark({ rest, text, token }) {
+  function foreignMark({ rest, text, token, before }) {
     if (text.startsWith("\ufeff") && token.at <= 1) return cause(
       Habits.MARKS.find(([pattern]) => pattern.test("\ufeff"))[1], "save it as UTF-8 without BOM");
+    if (token.text === "\\" && before?.text === "/" && touches(before, token)) return cause(...Habits.PAIRS["/\\"]);
     const found = Habits.MARKS.find(([pattern]) => pattern.test(rest));
     if (found === undefined || (token.kind !== "wrong" && !/^\/[*/]/.test(rest))) return undefined;
     return cause(found[1], found[2]);
