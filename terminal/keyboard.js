@@ -9,12 +9,24 @@ const readline = require("node:readline");
 const HISTORY = path.join(os.homedir(), ".ghcdb_history");
 const MOST_LINES = 1000;
 
+/** Writes the file of history anew with these lines alone. */
+function shorten(lines) {
+  const made = `${HISTORY}.${process.pid}`;
+  fs.writeFileSync(made, `${lines.join("\n")}\n`, { mode: 0o600 });
+  fs.renameSync(made, HISTORY);
+}
+
+/** The last lines of earlier sessions, the last one first. A file that has more than twice as many is cut to these. */
 function oldLines() {
+  let last = [];
   try {
-    return fs.readFileSync(HISTORY, "utf8").split("\n").filter(Boolean).slice(-MOST_LINES).reverse();
+    const lines = fs.readFileSync(HISTORY, "utf8").split("\n").filter(Boolean);
+    last = lines.slice(-MOST_LINES);
+    if (lines.length > 2 * MOST_LINES) shorten(last);
   } catch {
-    return [];
+    // a session goes on without what cannot be read or written
   }
+  return last.reverse();
 }
 
 function keep(line) {
