@@ -6,6 +6,7 @@ for a logarithm and for caches; what grows with the square grows to sixteen time
 is `N passed, M failed`, and the status is 1 where one failed.
 """
 import os
+import resource
 import subprocess
 import sys
 import tempfile
@@ -92,6 +93,12 @@ GROWTHS = [
 ]
 
 
+def processor_time():
+    """The processor time of all programs that have ended, in seconds: finer than the ticks of os.times."""
+    spent = resource.getrusage(resource.RUSAGE_CHILDREN)
+    return spent.ru_utime + spent.ru_stime
+
+
 def share_a_processor():
     """Threads that run side by side meet at a lock now and then, and take longer than they do in turn."""
     os.sched_setaffinity(0, {min(os.sched_getaffinity(0))})
@@ -108,12 +115,11 @@ def played(session, folder):
         words += ["--workers", str(session.workers)]
     times = []
     for _ in range(RUNS):
-        before = os.times()
+        before = processor_time()
         text = "".join(f"{line}\n" for line in session.lines)
         how = {"input": text, "capture_output": True, "text": True, "cwd": folder, "timeout": SECONDS}
         run = subprocess.run(words, **how, preexec_fn=share_a_processor if session.workers > 1 else None)
-        after = os.times()
-        times.append(after.children_user + after.children_system - before.children_user - before.children_system)
+        times.append(processor_time() - before)
     if run.returncode:
         raise AssertionError(f"status {run.returncode}: {run.stderr.strip()}")
     return min(times), run.stdout.rstrip("\n").rpartition("\n")[2]
