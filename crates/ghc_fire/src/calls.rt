@@ -12,7 +12,7 @@ use crate::effect::Effect;
 use crate::firing::{Firing, Reduction};
 use crate::instances::instance;
 use ghc_flat::{Clause, Program};
-use ghc_match::{Met, Says, first_end, lay_until_no, refuses_at_first};
+use ghc_match::{Met, Places, Says, first_end, lay_until_no, refuses_at_first};
 use ghc_term::{Bindings, Fault, Name, Store, Term};
 use std::alloc::{AllocError, Global};
 use std::sync::Arc;
@@ -27,13 +27,14 @@ enum Verdict {
 }
 
 // What the clause makes of a call with these arguments as the step of this number: it tries the clause, and where that
-// accepts, goes once through its body.
-fn try_clause_as_step(
+// accepts, goes once through its body. Places of its head wait in `pending`.
+fn try_clause_as_step<'a>(
     alloc: Global,
-    clause: &Clause,
-    arguments: &[Term],
-    store: &Store,
+    clause: &'a Clause,
+    arguments: &'a [Term],
+    store: &'a Store,
     step: u32,
+    pending: &mut Vec<Places<'a>>,
 ) -> Result<Verdict, AllocError>
     requires { length clause.now.head ≡ length arguments.now }
     ensures { IfOk result (HasVerdict step clause.now arguments.now (value_at store.now.held)) }
@@ -41,7 +42,7 @@ fn try_clause_as_step(
     store.acyclic();
     let head_variables = clause.head_variables();
     let mut met = Met::new(alloc);
-    match lay_until_no(alloc, clause, arguments, store, &mut met)? {
+    match lay_until_no(alloc, clause, arguments, store, &mut met, pending)? {
         Says::No => Ok(Verdict::Refuses),
         Says::Waits => Ok(Verdict::Waits),
         Says::Yes => {
@@ -69,13 +70,21 @@ pub fn attempt_call(
 {
     let first = first_end(arguments, store);
     let mut waits = false;
+    let mut pending = Vec::new(alloc);
     let mut candidates = program.candidates(name, arguments.len(), first);
     while let Some(number) = candidates.pop_least() {
         let clause = program.clause(number).unwrap();
         if refuses_at_first(clause, first) {
             continue;
         }
-        match try_clause_as_step(alloc, clause, arguments, store, reduction.step)? {
+        match try_clause_as_step(
+            alloc,
+            clause,
+            arguments,
+            store,
+            reduction.step,
+            &mut pending,
+        )? {
             Verdict::Refuses => {}
             Verdict::Waits => waits = true,
             Verdict::Reduces(effect) => {
@@ -113,7 +122,10 @@ pub fn attempt_choice(
     if clause.name() != name || clause.head().len() != arguments.len() {
         return Err(Fault::NoClause);
     }
-    let verdict = try_clause_as_step(alloc, clause, arguments, store, step)?;
+    let verdict = {
+        let mut pending = Vec::new(alloc);
+        try_clause_as_step(alloc, clause, arguments, store, step, &mut pending)?
+    };
     match verdict {
         Verdict::Refuses => Err(Fault::NoMatch),
         Verdict::Waits => Err(Fault::Waits),

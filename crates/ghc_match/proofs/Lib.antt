@@ -1,6 +1,7 @@
 pub mod Chains
 pub mod Values
 pub mod LooksAt
+pub mod LooksAtArguments
 pub mod Outcomes
 pub mod Positions
 pub mod OutcomesByPlaces

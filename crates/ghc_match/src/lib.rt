@@ -30,6 +30,7 @@ pub use laws::{
     each_clause_has_an_outcome, each_expression_has_a_value, outcome_is_of_what_is_looked_at,
     outcomes_exclude, value_looks_at_its_terms, values_exclude,
 };
+pub use places::Places;
 pub use stands::Stands;
 pub use trying::{Outcome, Tried, lay_clause, try_clause};
 pub use until_no::lay_until_no;

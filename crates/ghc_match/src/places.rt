@@ -6,7 +6,7 @@ ghost use Rattle.ghc_match.specs.inner.Places.{ahead_in, all_ahead, TakesLast};
 use ghc_term::Term;
 use std::alloc::AllocError;
 
-// Terms of a head beside the goal's, of which those at the first so many places are still ahead.
+/// Terms of a head beside the goal's, of which those at the first so many places are still ahead.
 #[derive(Clone, Copy)]
 pub struct Places<'a> {
     heads: &'a [Term],

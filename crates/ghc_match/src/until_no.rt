@@ -19,14 +19,15 @@ use ghc_flat::{Clause, Test};
 use ghc_term::{Store, Term, Variables};
 use std::alloc::{AllocError, Global};
 
-// What the positions of the clause's head show, up to the first one that clashes; where none does, it goes once to each of them.
+// What the positions of the clause's head show, up to the first one that clashes; where none does, it goes once to each of them. Places
+// wait in `pending`, which is emptied first.
 #[inline(always)]
 fn match_until_clash<'a>(
-    alloc: Global,
     clause: &'a Clause,
     arguments: &'a [Term],
     store: &'a Store,
     met: &mut Met<'a>,
+    pending: &mut Vec<Places<'a>>,
 ) -> Result<(), AllocError>
     requires linear { IsLinear clause.now }
     requires nothing { HasShownNothing met.old }
@@ -35,14 +36,14 @@ fn match_until_clash<'a>(
     ensures wanted { OnOk result (met.new.clashes ≡ false → IsSetOf met.new.wanted (HeadWants clause.now arguments.now (value_at store.now.held))) }
     ensures looked { OnOk result (met.new.clashes ≡ false → IsSetOf met.new.looked (HeadLooksAt clause.now arguments.now (value_at store.now.held))) }
 {
+    pending.clear();
     let mut here = Places::all(clause.head(), arguments);
-    let mut pending = Vec::new(alloc);
-    while let Some((head, term)) = next_pair(&mut here, &mut pending) {
+    while let Some((head, term)) = next_pair(&mut here, pending) {
         let below = visit(store, head, term, met)?;
         if met.clashes {
             return Ok(());
         }
-        go_below(below, &mut here, &mut pending)?;
+        go_below(below, &mut here, pending)?;
     }
     Ok(())
 }
@@ -70,7 +71,8 @@ fn try_until_no(
 
 /// Lays the clause over a call with these arguments for a step, which uses nothing of a clause that does not accept. It says what
 /// `lay_clause` does, and ends at the first position that clashes and at the first test that says no: it costs as much at most.
-/// A clause of a program is linear.
+/// A clause of a program is linear. Places of the head wait in `pending`: what it holds before and after is nothing to anybody, and who
+/// lends it from clause to clause takes memory for it once.
 #[inline(always)]
 pub fn lay_until_no<'a>(
     alloc: Global,
@@ -78,12 +80,13 @@ pub fn lay_until_no<'a>(
     arguments: &'a [Term],
     store: &'a Store,
     met: &mut Met<'a>,
+    pending: &mut Vec<Places<'a>>,
 ) -> Result<Says, AllocError>
     requires linear { IsLinear clause.now }
     requires nothing { HasShownNothing met.old }
     ensures { IfOk result (λ says. IsAnswer clause.now arguments.now (value_at store.now.held) says met.new) }
 {
-    match_until_clash(alloc, clause, arguments, store, met)?;
+    match_until_clash(clause, arguments, store, met, pending)?;
     if met.clashes {
         return Ok(Says::No);
     }

@@ -41,7 +41,11 @@ fn read_by(
 {
     let _head_variables = clause.head_variables();
     let mut met = Met::new(alloc);
-    match lay_until_no(alloc, clause, arguments, store, &mut met)? {
+    let says = {
+        let mut pending = Vec::new(alloc);
+        lay_until_no(alloc, clause, arguments, store, &mut met, &mut pending)?
+    };
+    match says {
         Says::Yes => Ok(Some(met.looked)),
         Says::No => Ok(None),
         Says::Waits => Ok(None),

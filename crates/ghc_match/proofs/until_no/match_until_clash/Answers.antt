@@ -12,7 +12,7 @@ loop-head-init c =
     let here = c.all-here.result in
     let met = c.args.met.now in
     let nothing = c.requires.nothing in
-    let first : all_ahead here c.new-pending.result.items ≡ zip hs ts = ap (λ l. ahead_of l ++ ahead_in here) c.new-pending.ensures.items ∙ c.all-here.ensures ∙ ap (λ l. zip l ts) c.head.ensures in
+    let first : all_ahead here c.clear.new.self.items ≡ zip hs ts = ap (λ l. ahead_of l ++ ahead_in here) c.clear.ensures.items ∙ c.all-here.ensures ∙ ap (λ l. zip l ts) c.head.ensures in
     record {
       done = [];
       walked = subst (Walked S hs ts []) (sym first) (walk_begins S hs ts);
