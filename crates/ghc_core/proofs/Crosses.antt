@@ -177,7 +177,7 @@ tries_sync : IsSync tries.the_row
 tries_sync = search (notes_sync, goal_set_sync, looks_sync, crosses, sendable) depth 60 fits 20000
 
 pub core_send : IsSend core.the_row
-core_send = search (program_send, goal_send, state_send, records_send, shelf_send, taken_send, history_send, tries_send, crosses, sendable) depth 60 fits 20000
+core_send = search (program_send, program_sync, goal_send, state_send, records_send, shelf_send, taken_send, history_send, tries_send, crosses, sendable) depth 60 fits 20000
 
 pub core_sync : IsSync core.the_row
-core_sync = search (program_sync, goal_sync, state_sync, records_sync, shelf_sync, taken_sync, history_sync, tries_sync, crosses, sendable) depth 60 fits 20000
+core_sync = search (program_sync, program_send, goal_sync, state_sync, records_sync, shelf_sync, taken_sync, history_sync, tries_sync, crosses, sendable) depth 60 fits 20000

@@ -46,4 +46,6 @@ pub mod AskedAgain
 pub mod ResumedOnce
 pub mod ResumeSteps
 pub mod ToldResumed
+pub mod CutOut
+pub mod Excerpts
 mod Words

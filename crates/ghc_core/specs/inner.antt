@@ -3,5 +3,6 @@ pub mod ArrangementCode
 pub mod AskedAgain
 pub mod Carried
 pub mod CoreCode
+pub mod CutOut
 pub mod GoneCode
 pub mod StreamGoals

@@ -10,11 +10,12 @@ use ghc_reader::Query;
 use ghc_records::{History, Journal, Records, Shelf, State};
 use std::alloc::{AllocError, Global};
 use std::marker::Model;
+use std::sync::Arc;
 
 /// A core: in each state of its run, goals and store are the replay of the steps that it keeps, each noted outcome of a goal is
 /// the one from scratch, and each goal without one, but for stream goals, is marked untried.
 pub struct Core {
-    pub(crate) program: Program,
+    pub(crate) program: Arc<Program>,
     pub(crate) query: Query,
     pub(crate) state: State,
     pub(crate) records: Records,
@@ -55,14 +56,14 @@ impl Model for Core {
     ghost coded = { core_code };
 
     ghost view = { λ c. record {
-      world = record { opening = loaded_opening c.program c.query.goals c.query.variables c.loaded; state = c.state.held; kept = c.records.held; shelf = c.shelf.held; next = c.next; journal = c.journal.held };
+      world = record { opening = loaded_opening c.program.value c.query.goals c.query.variables c.loaded; state = c.state.held; kept = c.records.held; shelf = c.shelf.held; next = c.next; journal = c.journal.held };
       notes = c.tries.notes;
       untried = c.tries.untried;
       meter = c.meter;
       room = record { state = c.state.room; kept = c.records.room; shelf = c.shelf.room; journal = c.journal.room; tries = c.tries.room };
     } };
 
-    ghost invariant = { λ c. IsConsistent (record { opening = loaded_opening c.program c.query.goals c.query.variables c.loaded; state = c.state.held; kept = c.records.held; shelf = c.shelf.held; next = c.next; journal = c.journal.held }) c.tries.notes c.tries.untried c.streams };
+    ghost invariant = { λ c. IsConsistent (record { opening = loaded_opening c.program.value c.query.goals c.query.variables c.loaded; state = c.state.held; kept = c.records.held; shelf = c.shelf.held; next = c.next; journal = c.journal.held }) c.tries.notes c.tries.untried c.streams };
 }
 
 impl Core {
@@ -104,6 +105,7 @@ impl Core {
         let mut tries = Tries::new(alloc);
         tries.reserve(goals.len(), 0)?;
         mark_made(&mut tries, 0, goals, goals.len() as u32);
+        let program = Arc::new(alloc, program)?;
         Ok(Core {
             program,
             query,

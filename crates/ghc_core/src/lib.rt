@@ -6,6 +6,7 @@ mod command;
 mod copies;
 mod core_state;
 mod event;
+mod excerpt;
 mod face;
 mod hands;
 mod laws;
@@ -27,6 +28,7 @@ pub use changes::{Change, Coming, Going};
 pub use command::Command;
 pub use core_state::Core;
 pub use event::Event;
+pub use excerpt::Excerpt;
 pub use hands::Hands;
 pub use laws::facts::{redo_is_changed, second_hand_is_stale};
 pub use laws::history_laws::{

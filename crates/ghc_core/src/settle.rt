@@ -42,7 +42,7 @@ impl Core {
         let Some(found) = self.candidate(goal) else {
             return Err(Fault::NoGoal);
         };
-        let outcome = try_goal(alloc, &self.program, self.state.store(), found);
+        let outcome = try_goal(alloc, &*self.program, self.state.store(), found);
         self.meter.count_try();
         Ok(outcome?)
     }

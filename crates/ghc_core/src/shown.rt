@@ -35,14 +35,14 @@ impl Core {
         ensures legal { Leaves (history self.now.world.opening self.now.world.journal) self.now.world }
         ensures keeps { Keeps self.now.world.opening self.now.world.journal self.now.world.kept self.now.world.shelf }
     {
-        let _program = &self.program;
+        let _program = &*self.program;
     }
 
     /// The program.
     pub fn program(&self) -> &Program
         ensures { result.now ≡ self.now.world.opening.program }
     {
-        &self.program
+        &*self.program
     }
 
     /// The query, with the names of its variables.

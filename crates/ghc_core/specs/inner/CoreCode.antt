@@ -12,6 +12,9 @@ use Rattle.ghc_records.specs.inner.RecordCode.{state_room_code, state_code, reco
 use Rattle.ghc_core.specs.World.{World}
 use Rattle.ghc_core.specs.Core.{Core}
 use Rattle.ghc_core.specs.Room.{Room}
+use Rattle.ghc_core.specs.Excerpt.{Excerpt}
+use Rattle.ghc_term.specs.declared.goal_name.GoalName.{GoalName}
+use Rattle.ghc_term.specs.GoalMap.{goal_name_code}
 
 -- the code of a world, from its opening to its journal, which no other world has
 abbrev pub world_code : Coded World
@@ -39,3 +42,7 @@ core_code =
     code_by (World × (NotesByGoal × (GoalNames × (Meter × Room)))) (coded× world_code (coded× notes_code (coded× goal_names_code (coded× meter_code room_code))))
     (λ c. (c.world, (c.notes, (c.untried, (c.meter, c.room)))))
     (λ p. record { world = p.0; notes = p.1.0; untried = p.1.1.0; meter = p.1.1.1.0; room = p.1.1.1.1 }) (λ _. refl)
+
+-- the code of an excerpt, its world and its goal, which no other excerpt has
+abbrev pub excerpt_code : Coded Excerpt
+excerpt_code = code_by (World × GoalName) (coded× world_code goal_name_code) (λ e. (e.world, e.goal)) (λ p. record { world = p.0; goal = p.1 }) (λ _. refl)

@@ -101,7 +101,7 @@ impl Core {
     {
         self.stands();
         let goals = ask.goals();
-        match check_calls(&self.program, goals) {
+        match check_calls(&*self.program, goals) {
             Ok(()) => {}
             Err(fault) => return Err(fault),
         }

@@ -71,7 +71,7 @@ impl Core {
         attempt(
             alloc,
             meter,
-            &self.program,
+            &*self.program,
             self.state.goals(),
             self.state.store(),
             goal,
@@ -95,7 +95,7 @@ impl Core {
         attempt(
             alloc,
             &mut self.meter,
-            &self.program,
+            &*self.program,
             self.state.goals(),
             self.state.store(),
             goal,
@@ -119,7 +119,7 @@ impl Core {
         fire_as(
             alloc,
             &mut self.meter,
-            &self.program,
+            &*self.program,
             self.state.goals(),
             self.state.store(),
             goal,

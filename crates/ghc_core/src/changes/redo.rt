@@ -110,7 +110,7 @@ impl Core {
         if !names_known(&self.query, &self.records, shelved) {
             return Err(Fault::NoVariable);
         }
-        if !fires(alloc, &mut self.meter, &self.program, &self.state, shelved)? {
+        if !fires(alloc, &mut self.meter, &*self.program, &self.state, shelved)? {
             return Err(Fault::Changed);
         }
         if self.records.len() >= KEPT_LIMIT {

@@ -106,7 +106,7 @@ impl Core {
         ensures step { IfOk result (λ found. IfSome found (λ r. step_of r ≡ record { number = self.now.world.next; goal = None; act = asks asked.now })) }
         ensures none { IfOk result (λ found. IfNone found ((r : record_spec) → step_of r ≡ record { number = self.now.world.next; goal = None; act = asks asked.now } → ¬ IsNextStep self.now.world r)) }
     {
-        if !can_all_be_asked_for(&self.program, asked.goals()) {
+        if !can_all_be_asked_for(&*self.program, asked.goals()) {
             return Ok(None);
         }
         let Some(fresh) = own_count(asked, self.next) else {

@@ -96,7 +96,7 @@ impl Core {
         ensures world { self.new.world ≡ self.old.world }
         ensures notes { self.new.notes ≡ self.old.notes }
     {
-        fire_step(alloc, &mut self.meter, &self.program, &self.state, step)
+        fire_step(alloc, &mut self.meter, &*self.program, &self.state, step)
     }
 
     // Takes the step as the next one of those that are loaded, at the end of the opening. An error leaves the core as it was.

@@ -93,7 +93,7 @@ impl Core {
             Ok(()) => {}
             Err(fault) => return Err(fault),
         }
-        match first_unknown(&core.program, chronicle.spies()) {
+        match first_unknown(&*core.program, chronicle.spies()) {
             Some(index) => Err(Fault::History {
                 line: first + entries.len() as u32 + 1 + index as u32,
             }),

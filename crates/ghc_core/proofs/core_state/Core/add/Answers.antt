@@ -25,15 +25,15 @@ put-requires-clause-unbound c a x i bound again =
 
 pub carry_over-requires-clause-new : goal.carry_over-requires-clause-new
 carry_over-requires-clause-new c g made =
-    let w : World = record { opening = loaded_opening c.self.inside.program c.self.inside.query.goals c.self.inside.query.variables c.self.inside.loaded; state = c.self.inside.state.held; kept = c.self.inside.records.held; shelf = c.self.inside.shelf.held; next = c.self.inside.next; journal = c.self.inside.journal.held } in
+    let w : World = record { opening = loaded_opening c.self.inside.program.value c.self.inside.query.goals c.self.inside.query.variables c.self.inside.loaded; state = c.self.inside.state.held; kept = c.self.inside.records.held; shelf = c.self.inside.shelf.held; next = c.self.inside.next; journal = c.self.inside.journal.held } in
     let new = comes_new w c.self.invariant.standing c.args.from c.args.addition (subst (λ (x : Core). CanChange x.world (comes c.args.from c.args.addition)) (sym c.self.view_is) c.requires.found) in
     unnoted c.self.invariant.exact g (not_there w c.args.addition new.fires new.number g (subst (λ r. MakesGoal r g) c.take-step.ensures.record made))
 
 pub invariant_of-self : goal.invariant_of-self
 invariant_of-self c =
-    let w : World = record { opening = loaded_opening c.self.inside.program c.self.inside.query.goals c.self.inside.query.variables c.self.inside.loaded; state = c.self.inside.state.held; kept = c.self.inside.records.held; shelf = c.self.inside.shelf.held; next = c.self.inside.next; journal = c.self.inside.journal.held } in
-    let v : World = record { opening = loaded_opening c.self.inside.program c.self.inside.query.goals c.self.inside.query.variables c.self.inside.loaded; state = c.take-step.new.self.held; kept = c.put.new.self.held; shelf = c.self.inside.shelf.held; next = c.self.inside.next + 1; journal = c.put-in-Next.new.self.held } in
-    let left : v ≡ with_coming Coming.Next c.args.addition w = same_world (loaded_opening c.self.inside.program c.self.inside.query.goals c.self.inside.query.variables c.self.inside.loaded) (c.self.inside.next + 1) c.take-step.ensures.state
+    let w : World = record { opening = loaded_opening c.self.inside.program.value c.self.inside.query.goals c.self.inside.query.variables c.self.inside.loaded; state = c.self.inside.state.held; kept = c.self.inside.records.held; shelf = c.self.inside.shelf.held; next = c.self.inside.next; journal = c.self.inside.journal.held } in
+    let v : World = record { opening = loaded_opening c.self.inside.program.value c.self.inside.query.goals c.self.inside.query.variables c.self.inside.loaded; state = c.take-step.new.self.held; kept = c.put.new.self.held; shelf = c.self.inside.shelf.held; next = c.self.inside.next + 1; journal = c.put-in-Next.new.self.held } in
+    let left : v ≡ with_coming Coming.Next c.args.addition w = same_world (loaded_opening c.self.inside.program.value c.self.inside.query.goals c.self.inside.query.variables c.self.inside.loaded) (c.self.inside.next + 1) c.take-step.ensures.state
     (c.put.ensures ∙ ap (λ (r : Record). c.self.inside.records.held ++ r ∷ []) c.take-step.ensures.record) refl
     (c.put-in-Next.ensures.held ∙ ap (λ e. c.self.inside.journal.held ++ e ∷ []) c.take-step.ensures.entry) in
     let can : CanChange w (comes Coming.Next c.args.addition) = subst (λ from. CanChange w (comes from c.args.addition)) c.in-Next.is (subst (λ (x : Core). CanChange x.world (comes c.args.from c.args.addition)) (sym c.self.view_is) c.requires.found) in
@@ -44,9 +44,9 @@ invariant_of-self c =
 
 pub returns-in-Next-clause-world : goal.returns-in-Next-clause-world
 returns-in-Next-clause-world c =
-    let w : World = record { opening = loaded_opening c.self.inside.program c.self.inside.query.goals c.self.inside.query.variables c.self.inside.loaded; state = c.self.inside.state.held; kept = c.self.inside.records.held; shelf = c.self.inside.shelf.held; next = c.self.inside.next; journal = c.self.inside.journal.held } in
-    let v : World = record { opening = loaded_opening c.self.inside.program c.self.inside.query.goals c.self.inside.query.variables c.self.inside.loaded; state = c.take-step.new.self.held; kept = c.put.new.self.held; shelf = c.self.inside.shelf.held; next = c.self.inside.next + 1; journal = c.put-in-Next.new.self.held } in
-    let left : v ≡ with_coming Coming.Next c.args.addition w = same_world (loaded_opening c.self.inside.program c.self.inside.query.goals c.self.inside.query.variables c.self.inside.loaded) (c.self.inside.next + 1) c.take-step.ensures.state
+    let w : World = record { opening = loaded_opening c.self.inside.program.value c.self.inside.query.goals c.self.inside.query.variables c.self.inside.loaded; state = c.self.inside.state.held; kept = c.self.inside.records.held; shelf = c.self.inside.shelf.held; next = c.self.inside.next; journal = c.self.inside.journal.held } in
+    let v : World = record { opening = loaded_opening c.self.inside.program.value c.self.inside.query.goals c.self.inside.query.variables c.self.inside.loaded; state = c.take-step.new.self.held; kept = c.put.new.self.held; shelf = c.self.inside.shelf.held; next = c.self.inside.next + 1; journal = c.put-in-Next.new.self.held } in
+    let left : v ≡ with_coming Coming.Next c.args.addition w = same_world (loaded_opening c.self.inside.program.value c.self.inside.query.goals c.self.inside.query.variables c.self.inside.loaded) (c.self.inside.next + 1) c.take-step.ensures.state
     (c.put.ensures ∙ ap (λ (r : Record). c.self.inside.records.held ++ r ∷ []) c.take-step.ensures.record) refl
     (c.put-in-Next.ensures.held ∙ ap (λ e. c.self.inside.journal.held ++ e ∷ []) c.take-step.ensures.entry) in
     left ∙ ap (λ from. with_coming from c.args.addition w) (sym c.in-Next.is) ∙ ap (λ (x : Core). with_coming c.args.from c.args.addition x.world) c.self.view_is
@@ -60,10 +60,10 @@ returns-in-Next-clause-notes c =
 
 pub invariant_of-self-in-Shelved-1 : goal.invariant_of-self-in-Shelved-1
 invariant_of-self-in-Shelved-1 c =
-    let w : World = record { opening = loaded_opening c.self.inside.program c.self.inside.query.goals c.self.inside.query.variables c.self.inside.loaded; state = c.self.inside.state.held; kept = c.self.inside.records.held; shelf = c.self.inside.shelf.held; next = c.self.inside.next; journal = c.self.inside.journal.held } in
+    let w : World = record { opening = loaded_opening c.self.inside.program.value c.self.inside.query.goals c.self.inside.query.variables c.self.inside.loaded; state = c.self.inside.state.held; kept = c.self.inside.records.held; shelf = c.self.inside.shelf.held; next = c.self.inside.next; journal = c.self.inside.journal.held } in
     let number = c.number-number.ensures ∙ ap (λ (r : Record). r.number) c.take-step.ensures.record in
-    let v : World = record { opening = loaded_opening c.self.inside.program c.self.inside.query.goals c.self.inside.query.variables c.self.inside.loaded; state = c.take-step.new.self.held; kept = c.put.new.self.held; shelf = c.remove.new.self.held; next = c.self.inside.next; journal = c.put-in-Shelved.new.self.held } in
-    let left : v ≡ with_coming Coming.Shelved c.args.addition w = same_world (loaded_opening c.self.inside.program c.self.inside.query.goals c.self.inside.query.variables c.self.inside.loaded) c.self.inside.next c.take-step.ensures.state
+    let v : World = record { opening = loaded_opening c.self.inside.program.value c.self.inside.query.goals c.self.inside.query.variables c.self.inside.loaded; state = c.take-step.new.self.held; kept = c.put.new.self.held; shelf = c.remove.new.self.held; next = c.self.inside.next; journal = c.put-in-Shelved.new.self.held } in
+    let left : v ≡ with_coming Coming.Shelved c.args.addition w = same_world (loaded_opening c.self.inside.program.value c.self.inside.query.goals c.self.inside.query.variables c.self.inside.loaded) c.self.inside.next c.take-step.ensures.state
     (c.put.ensures ∙ ap (λ (r : Record). c.self.inside.records.held ++ r ∷ []) c.take-step.ensures.record)
     (c.remove.ensures.held ∙ ap (finite.remove c.self.inside.shelf.held) number)
     (c.put-in-Shelved.ensures.held ∙ ap (λ n. c.self.inside.journal.held ++ redid n ∷ []) number) in
@@ -75,10 +75,10 @@ invariant_of-self-in-Shelved-1 c =
 
 pub returns-in-Shelved-clause-world : goal.returns-in-Shelved-clause-world
 returns-in-Shelved-clause-world c =
-    let w : World = record { opening = loaded_opening c.self.inside.program c.self.inside.query.goals c.self.inside.query.variables c.self.inside.loaded; state = c.self.inside.state.held; kept = c.self.inside.records.held; shelf = c.self.inside.shelf.held; next = c.self.inside.next; journal = c.self.inside.journal.held } in
+    let w : World = record { opening = loaded_opening c.self.inside.program.value c.self.inside.query.goals c.self.inside.query.variables c.self.inside.loaded; state = c.self.inside.state.held; kept = c.self.inside.records.held; shelf = c.self.inside.shelf.held; next = c.self.inside.next; journal = c.self.inside.journal.held } in
     let number = c.number-number.ensures ∙ ap (λ (r : Record). r.number) c.take-step.ensures.record in
-    let v : World = record { opening = loaded_opening c.self.inside.program c.self.inside.query.goals c.self.inside.query.variables c.self.inside.loaded; state = c.take-step.new.self.held; kept = c.put.new.self.held; shelf = c.remove.new.self.held; next = c.self.inside.next; journal = c.put-in-Shelved.new.self.held } in
-    let left : v ≡ with_coming Coming.Shelved c.args.addition w = same_world (loaded_opening c.self.inside.program c.self.inside.query.goals c.self.inside.query.variables c.self.inside.loaded) c.self.inside.next c.take-step.ensures.state
+    let v : World = record { opening = loaded_opening c.self.inside.program.value c.self.inside.query.goals c.self.inside.query.variables c.self.inside.loaded; state = c.take-step.new.self.held; kept = c.put.new.self.held; shelf = c.remove.new.self.held; next = c.self.inside.next; journal = c.put-in-Shelved.new.self.held } in
+    let left : v ≡ with_coming Coming.Shelved c.args.addition w = same_world (loaded_opening c.self.inside.program.value c.self.inside.query.goals c.self.inside.query.variables c.self.inside.loaded) c.self.inside.next c.take-step.ensures.state
     (c.put.ensures ∙ ap (λ (r : Record). c.self.inside.records.held ++ r ∷ []) c.take-step.ensures.record)
     (c.remove.ensures.held ∙ ap (finite.remove c.self.inside.shelf.held) number)
     (c.put-in-Shelved.ensures.held ∙ ap (λ n. c.self.inside.journal.held ++ redid n ∷ []) number) in

@@ -8,7 +8,7 @@ use Rattle.ghc_core.proofs.core_state.Core.add_loaded.Goals as goal
 
 -- the world before the step, and what is known of it
 abbrev before : goal.After-put-2 → World
-before c = record { opening = loaded_opening c.self.inside.program c.self.inside.query.goals c.self.inside.query.variables c.self.inside.loaded; state = c.self.inside.state.held; kept = c.self.inside.records.held; shelf = c.self.inside.shelf.held; next = c.self.inside.next; journal = c.self.inside.journal.held }
+before c = record { opening = loaded_opening c.self.inside.program.value c.self.inside.query.goals c.self.inside.query.variables c.self.inside.loaded; state = c.self.inside.state.held; kept = c.self.inside.records.held; shelf = c.self.inside.shelf.held; next = c.self.inside.next; journal = c.self.inside.journal.held }
 
 opened : (c : goal.After-put-2) → Opens (before c).opening (before c)
 opened c = subst (λ (x : Core). Opens x.world.opening x.world) (sym c.self.view_is) c.requires.opened
@@ -40,13 +40,13 @@ put-requires-clause-unbound c a x i bound again =
 
 pub carry_over-requires-clause-new : goal.carry_over-requires-clause-new
 carry_over-requires-clause-new c g made =
-    let w : World = record { opening = loaded_opening c.self.inside.program c.self.inside.query.goals c.self.inside.query.variables c.self.inside.loaded; state = c.self.inside.state.held; kept = c.self.inside.records.held; shelf = c.self.inside.shelf.held; next = c.self.inside.next; journal = c.self.inside.journal.held } in
+    let w : World = record { opening = loaded_opening c.self.inside.program.value c.self.inside.query.goals c.self.inside.query.variables c.self.inside.loaded; state = c.self.inside.state.held; kept = c.self.inside.records.held; shelf = c.self.inside.shelf.held; next = c.self.inside.next; journal = c.self.inside.journal.held } in
     let found = subst (λ (x : Core). CanLoad x.world c.args.addition) (sym c.self.view_is) c.requires.found in
     unnoted c.self.invariant.exact g (not_there w c.args.addition found.possible (loaded_is_new w c.self.invariant.standing c.args.addition found) g (subst (λ r. MakesGoal r g) c.take-taken.ensures.record made))
 
 -- the world that is left is the one with the step
 left : (c : goal.After-put-2)
-    → record { opening = loaded_opening c.self.inside.program c.self.inside.query.goals c.self.inside.query.variables c.push.new.self; state = c.take-taken.new.self.held; kept = c.put.new.self.held; shelf = c.self.inside.shelf.held; next = c.self.inside.next; journal = c.put-2.new.self.held }
+    → record { opening = loaded_opening c.self.inside.program.value c.self.inside.query.goals c.self.inside.query.variables c.push.new.self; state = c.take-taken.new.self.held; kept = c.put.new.self.held; shelf = c.self.inside.shelf.held; next = c.self.inside.next; journal = c.put-2.new.self.held }
     ≡ with_loaded c.args.addition (before c)
 left c =
     loaded_world c.args.addition (before c) (c.in_ok-push.ensures.ok ∙ ap (λ s. record { steps = c.self.inside.loaded.steps ++ s ∷ []; next = c.self.inside.loaded.next }) c.requires.step)

@@ -25,7 +25,7 @@ put-requires-clause-unbound c a x i bound again =
 
 pub carry_over-requires-clause-new : goal.carry_over-requires-clause-new
 carry_over-requires-clause-new c g made =
-    let w : World = record { opening = loaded_opening c.self.inside.program c.self.inside.query.goals c.self.inside.query.variables c.self.inside.loaded; state = c.self.inside.state.held; kept = c.self.inside.records.held; shelf = c.self.inside.shelf.held; next = c.self.inside.next; journal = c.self.inside.journal.held } in
+    let w : World = record { opening = loaded_opening c.self.inside.program.value c.self.inside.query.goals c.self.inside.query.variables c.self.inside.loaded; state = c.self.inside.state.held; kept = c.self.inside.records.held; shelf = c.self.inside.shelf.held; next = c.self.inside.next; journal = c.self.inside.journal.held } in
     let new = comes_new w c.self.invariant.standing Coming.Next c.args.step (subst (λ (x : Core). CanChange x.world (comes Coming.Next c.args.step)) (sym c.self.view_is) c.requires.found) in
     unnoted c.self.invariant.exact g (not_there w c.args.step new.fires new.number g made)
 
@@ -34,9 +34,9 @@ invariant_of-self c = rw c.in_err-take_step.ensures.stays c.self.invariant
 
 pub invariant_of-self-2 : goal.invariant_of-self-2
 invariant_of-self-2 c =
-    let w : World = record { opening = loaded_opening c.self.inside.program c.self.inside.query.goals c.self.inside.query.variables c.self.inside.loaded; state = c.self.inside.state.held; kept = c.self.inside.records.held; shelf = c.self.inside.shelf.held; next = c.self.inside.next; journal = c.self.inside.journal.held } in
-    let v : World = record { opening = loaded_opening c.self.inside.program c.self.inside.query.goals c.self.inside.query.variables c.self.inside.loaded; state = c.take_step.new.self.held; kept = c.put.new.self.held; shelf = c.self.inside.shelf.held; next = c.self.inside.next + 1; journal = c.put-2.new.self.held } in
-    let left : v ≡ with_coming Coming.Next c.args.step w = same_world (loaded_opening c.self.inside.program c.self.inside.query.goals c.self.inside.query.variables c.self.inside.loaded) (c.self.inside.next + 1) c.in_ok-take_step.ensures.state c.put.ensures refl
+    let w : World = record { opening = loaded_opening c.self.inside.program.value c.self.inside.query.goals c.self.inside.query.variables c.self.inside.loaded; state = c.self.inside.state.held; kept = c.self.inside.records.held; shelf = c.self.inside.shelf.held; next = c.self.inside.next; journal = c.self.inside.journal.held } in
+    let v : World = record { opening = loaded_opening c.self.inside.program.value c.self.inside.query.goals c.self.inside.query.variables c.self.inside.loaded; state = c.take_step.new.self.held; kept = c.put.new.self.held; shelf = c.self.inside.shelf.held; next = c.self.inside.next + 1; journal = c.put-2.new.self.held } in
+    let left : v ≡ with_coming Coming.Next c.args.step w = same_world (loaded_opening c.self.inside.program.value c.self.inside.query.goals c.self.inside.query.variables c.self.inside.loaded) (c.self.inside.next + 1) c.in_ok-take_step.ensures.state c.put.ensures refl
     (c.put-2.ensures.held ∙ ap (λ r. c.self.inside.journal.held ++ took (step_of r) ∷ []) c.in_ok-share.ensures) in
     let can : CanChange w (comes Coming.Next c.args.step) = subst (λ (x : Core). CanChange x.world (comes Coming.Next c.args.step)) (sym c.self.view_is) c.requires.found in
     subst (λ u. IsConsistent u c.carry_over.new.tries.notes c.carry_over.new.tries.untried c.tell.new.self) (sym left)
@@ -44,9 +44,9 @@ invariant_of-self-2 c =
 
 pub returns-clause-world : goal.returns-clause-world
 returns-clause-world c =
-    let w : World = record { opening = loaded_opening c.self.inside.program c.self.inside.query.goals c.self.inside.query.variables c.self.inside.loaded; state = c.self.inside.state.held; kept = c.self.inside.records.held; shelf = c.self.inside.shelf.held; next = c.self.inside.next; journal = c.self.inside.journal.held } in
-    let v : World = record { opening = loaded_opening c.self.inside.program c.self.inside.query.goals c.self.inside.query.variables c.self.inside.loaded; state = c.take_step.new.self.held; kept = c.put.new.self.held; shelf = c.self.inside.shelf.held; next = c.self.inside.next + 1; journal = c.put-2.new.self.held } in
-    let left : v ≡ with_coming Coming.Next c.args.step w = same_world (loaded_opening c.self.inside.program c.self.inside.query.goals c.self.inside.query.variables c.self.inside.loaded) (c.self.inside.next + 1) c.in_ok-take_step.ensures.state c.put.ensures refl
+    let w : World = record { opening = loaded_opening c.self.inside.program.value c.self.inside.query.goals c.self.inside.query.variables c.self.inside.loaded; state = c.self.inside.state.held; kept = c.self.inside.records.held; shelf = c.self.inside.shelf.held; next = c.self.inside.next; journal = c.self.inside.journal.held } in
+    let v : World = record { opening = loaded_opening c.self.inside.program.value c.self.inside.query.goals c.self.inside.query.variables c.self.inside.loaded; state = c.take_step.new.self.held; kept = c.put.new.self.held; shelf = c.self.inside.shelf.held; next = c.self.inside.next + 1; journal = c.put-2.new.self.held } in
+    let left : v ≡ with_coming Coming.Next c.args.step w = same_world (loaded_opening c.self.inside.program.value c.self.inside.query.goals c.self.inside.query.variables c.self.inside.loaded) (c.self.inside.next + 1) c.in_ok-take_step.ensures.state c.put.ensures refl
     (c.put-2.ensures.held ∙ ap (λ r. c.self.inside.journal.held ++ took (step_of r) ∷ []) c.in_ok-share.ensures) in
     left ∙ ap (λ (x : Core). with_coming Coming.Next c.args.step x.world) c.self.view_is
 

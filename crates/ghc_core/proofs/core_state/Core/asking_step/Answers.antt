@@ -5,7 +5,7 @@ use Rattle.ghc_core.proofs.core_state.Core.asking_step.Goals as goal
 pub returns-then-not-can_all_be_asked_for-clause-none : goal.returns-then-not-can_all_be_asked_for-clause-none
 returns-then-not-can_all_be_asked_for-clause-none c r is next =
     let each = asking_each c.args.self.now.world c.args.asked.now r is next in
-    let yes = c.can_all_be_asked_for.ensures.1 (subst (CanBeAsked c.self.inside.program) (sym c.goals.ensures.goals) (subst (λ (x : Core). CanBeAsked x.world.opening.program c.args.asked.now) (sym c.self.view_is) each)) in
+    let yes = c.can_all_be_asked_for.ensures.1 (rw (c.deref.ensures, c.goals.ensures.goals) (subst (λ (x : Core). CanBeAsked x.world.opening.program c.args.asked.now) (sym c.self.view_is) each)) in
     cc
 
 pub returns-then-not-names_known-clause-none : goal.returns-then-not-names_known-clause-none
@@ -22,7 +22,7 @@ returns-clause-next c =
     let gs = c.args.asked.now in
     let q = c.in_ok-record.record in
     let fresh = c.in-Some.fresh in
-    let all = subst (λ (x : Core). CanBeAsked x.world.opening.program gs) c.self.view_is (subst (CanBeAsked c.self.inside.program) c.goals.ensures.goals (c.can_all_be_asked_for.ensures.0 c.if-not-can_all_be_asked_for.false)) in
+    let all = subst (λ (x : Core). CanBeAsked x.world.opening.program gs) c.self.view_is (rw (c.deref.ensures, c.goals.ensures.goals) at (c.can_all_be_asked_for.ensures.0 c.if-not-can_all_be_asked_for.false)) in
     let own = subst (λ (x : Core). own_variables x.world.next gs ≡ made_from x.world.next 1 fresh) c.self.view_is c.in-Some.ensures.some in
     let known : IsKnown w q = subst (λ (x : Core). AreKnownIn x.world.opening.query x.world.kept q) c.self.view_is (c.names_known.ensures.0 c.if-not-names_known.false) in
     let next = ap (λ (x : Core). x.world.next) c.self.view_is in

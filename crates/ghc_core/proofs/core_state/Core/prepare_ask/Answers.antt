@@ -12,7 +12,7 @@ returns-in-Err-clause-anyway c f fails =
     let gs = c.args.ask.now in
     let u = c.in-Err.ensures.refused in
     let first = subst (λ (x : Core). IsFirstCallWithout (HasClauseFor x.world.opening.program) gs u.0 u.1) c.self.view_is
-    (rw c.goals-goals.ensures.goals at u.2) in
+    (rw (c.deref.ensures, c.goals-goals.ensures.goals) at u.2) in
     absurd (undefined_first c.args.self.now.world gs u.0 u.1 first fails)
 
 pub returns-then-not-ask_is_known : goal.returns-then-not-ask_is_known
@@ -20,7 +20,7 @@ returns-then-not-ask_is_known c =
     let w = c.args.self.now.world in
     let gs = c.args.ask.now in
     let all = subst (λ (x : Core). AllCalls (HasClauseFor x.world.opening.program) gs) c.self.view_is
-    (rw c.goals-goals.ensures.goals at c.in-Ok.ensures.defined) in
+    (rw (c.deref.ensures, c.goals-goals.ensures.goals) at c.in-Ok.ensures.defined) in
     let told = unknown_told w gs all (λ known. not_both _ c.if-not-ask_is_known.true
     (c.ask_is_known.ensures.1 (subst (λ (x : Core). NameKnown x.world gs) (sym c.self.view_is) known))) in
     record { answer = (tt, inr told); anyway = λ f fails. ap Err (one_ask_refusal w gs told fails) }
@@ -30,7 +30,7 @@ returns-then-is_full c =
     let w = c.args.self.now.world in
     let gs = c.args.ask.now in
     let all = subst (λ (x : Core). AllCalls (HasClauseFor x.world.opening.program) gs) c.self.view_is
-    (rw c.goals-goals.ensures.goals at c.in-Ok.ensures.defined) in
+    (rw (c.deref.ensures, c.goals-goals.ensures.goals) at c.in-Ok.ensures.defined) in
     let known = subst (λ (x : Core). NameKnown x.world gs) c.self.view_is (c.ask_is_known.ensures.0 c.if-not-ask_is_known.false) in
     let told = full_told w gs all known (c.is_full.ensures.full c.if-is_full.true) in
     record { answer = (tt, inr told); anyway = λ f fails. ap Err (one_ask_refusal w gs told fails) }
@@ -53,7 +53,7 @@ returns c =
     let gs = c.args.ask.now in
     let P = w.opening.program in
     let all = subst (λ (x : Core). AllCalls (HasClauseFor x.world.opening.program) gs) c.self.view_is
-    (rw c.goals-goals.ensures.goals at c.in-Ok.ensures.defined) in
+    (rw (c.deref.ensures, c.goals-goals.ensures.goals) at c.in-Ok.ensures.defined) in
     let known = subst (λ (x : Core). NameKnown x.world gs) c.self.view_is (c.ask_is_known.ensures.0 c.if-not-ask_is_known.false) in
     let room = c.is_full.ensures.room c.if-is_full.false in
     let number : c.self.inside.next ≡ w.next = ap (λ (x : Core). x.world.next) c.self.view_is in

@@ -37,7 +37,7 @@ returns-then-not-names_known-clause-fired c shelved there unknown =
     (λ known. not_both c.names_known.result c.if-not-names_known.true (c.names_known.ensures.1 known)))))
 
 pub fires-requires : goal.fires-requires
-fires-requires c = record { asks = λ none. asking_fires c.self.inside.program c.self.inside.state.held c.in-Some.shelved.now ((replayed c.self.invariant.standing).asking c.args.number c.in-Some.shelved.now (sym c.in-Some.ensures) none) }
+fires-requires c = rw c.deref.ensures (record { asks = λ none. asking_fires c.self.inside.program.value c.self.inside.state.held c.in-Some.shelved.now ((replayed c.self.invariant.standing).asking c.args.number c.in-Some.shelved.now (sym c.in-Some.ensures) none) })
 
 pub returns-then-not-branch-clause-fault : goal.returns-then-not-branch-clause-fault
 returns-then-not-branch-clause-fault c =
@@ -45,13 +45,13 @@ returns-then-not-branch-clause-fault c =
     inr (subst (λ (x : Core). RedoFails x.world c.args.number Fault.Changed) c.self.view_is (changed r (sym c.in-Some.ensures)
     (λ g named none. not_both c.lacks_goal.result c.if-lacks_goal.false (c.lacks_goal.ensures.1 (subst (λ m. LacksGoal m r) (sym c.goals.ensures) (g, named, none))))
     (c.names_known.ensures.0 c.if-not-names_known.false)
-    (λ fires. not_both c.in_ok-fires.field-0 c.if-not-branch.true (c.in_ok-fires.ensures.answer.1 fires))))
+    (λ fires. not_both c.in_ok-fires.field-0 c.if-not-branch.true (c.in_ok-fires.ensures.answer.1 (rw c.deref.ensures fires)))))
 
 pub returns-then-len-ge-KEPT_LIMIT-clause-fault : goal.returns-then-len-ge-KEPT_LIMIT-clause-fault
 returns-then-len-ge-KEPT_LIMIT-clause-fault c =
     let count = c.len.ensures.count in
     let many = c.if-len-ge-KEPT_LIMIT.true in
-    inr (subst (λ (x : Core). RedoFails x.world c.args.number Fault.Full) c.self.view_is (full c.in-Some.shelved.now (sym c.in-Some.ensures) (c.names_known.ensures.0 c.if-not-names_known.false) (c.in_ok-fires.ensures.answer.0 c.if-not-branch.false) (omega (arith, count, many))))
+    inr (subst (λ (x : Core). RedoFails x.world c.args.number Fault.Full) c.self.view_is (full c.in-Some.shelved.now (sym c.in-Some.ensures) (c.names_known.ensures.0 c.if-not-names_known.false) (rw c.deref.ensures at (c.in_ok-fires.ensures.answer.0 c.if-not-branch.false)) (omega (arith, count, many))))
 
 pub returns-clause-found : goal.returns-clause-found
 returns-clause-found c =
@@ -61,8 +61,8 @@ returns-clause-found c =
     let few = c.if-len-ge-KEPT_LIMIT.false in
     let same : c.in_ok-of.field-0 ≡ r = c.in_ok-of.ensures ∙ c.in_ok-share.ensures in
     subst (λ (x : Core). CanChange x.world (comes Coming.Shelved c.in_ok-of.field-0)) c.self.view_is
-    (subst (λ (q : Record). CanChange (record { opening = loaded_opening c.self.inside.program c.self.inside.query.goals c.self.inside.query.variables c.self.inside.loaded; state = c.self.inside.state.held; kept = c.self.inside.records.held; shelf = c.self.inside.shelf.held; next = c.self.inside.next; journal = c.self.inside.journal.held }) (comes Coming.Shelved q)) (sym same)
-    (subst (λ n. finite.get c.self.inside.shelf.held n ≡ Some r) (sym number) (sym c.in-Some.ensures), c.in_ok-fires.ensures.answer.0 c.if-not-branch.false, omega (arith, count, few), c.names_known.ensures.0 c.if-not-names_known.false))
+    (subst (λ (q : Record). CanChange (record { opening = loaded_opening c.self.inside.program.value c.self.inside.query.goals c.self.inside.query.variables c.self.inside.loaded; state = c.self.inside.state.held; kept = c.self.inside.records.held; shelf = c.self.inside.shelf.held; next = c.self.inside.next; journal = c.self.inside.journal.held }) (comes Coming.Shelved q)) (sym same)
+    (subst (λ n. finite.get c.self.inside.shelf.held n ≡ Some r) (sym number) (sym c.in-Some.ensures), rw c.deref.ensures at (c.in_ok-fires.ensures.answer.0 c.if-not-branch.false), omega (arith, count, few), c.names_known.ensures.0 c.if-not-names_known.false))
 
 pub returns-clause-step : goal.returns-clause-step
 returns-clause-step c =

@@ -5,13 +5,13 @@ use Rattle.ghc_core.proofs.core_state.Core.put_in_order.Goals as goal
 
 -- the world before the change, what it takes, and the world that is left
 abbrev before : goal.After-put → World
-before c = record { opening = loaded_opening c.self.inside.program c.self.inside.query.goals c.self.inside.query.variables c.self.inside.loaded; state = c.self.inside.state.held; kept = c.self.inside.records.held; shelf = c.self.inside.shelf.held; next = c.self.inside.next; journal = c.self.inside.journal.held }
+before c = record { opening = loaded_opening c.self.inside.program.value c.self.inside.query.goals c.self.inside.query.variables c.self.inside.loaded; state = c.self.inside.state.held; kept = c.self.inside.records.held; shelf = c.self.inside.shelf.held; next = c.self.inside.next; journal = c.self.inside.journal.held }
 
 abbrev taken : goal.After-put → Arrangement
 taken c = record { records = c.into_inner.result.held; order = c.arrangement.inside.order.value.items }
 
 abbrev left : goal.After-put → World
-left c = record { opening = loaded_opening c.self.inside.program c.self.inside.query.goals c.self.inside.query.variables c.self.inside.loaded; state = c.self.inside.state.held; kept = c.into_inner.result.held; shelf = c.self.inside.shelf.held; next = c.self.inside.next; journal = c.put.new.self.held }
+left c = record { opening = loaded_opening c.self.inside.program.value c.self.inside.query.goals c.self.inside.query.variables c.self.inside.loaded; state = c.self.inside.state.held; kept = c.into_inner.result.held; shelf = c.self.inside.shelf.held; next = c.self.inside.next; journal = c.put.new.self.held }
 
 is_taken : (c : goal.After-put) → taken c ≡ c.args.arrangement
 is_taken c = ap (λ (x : RecordsTables). record { records = x.held; order = c.arrangement.inside.order.value.items }) c.into_inner.ensures ∙ c.arrangement.view_is
@@ -21,7 +21,7 @@ can c = subst (λ (a : Arrangement). CanChange (before c) (reorders a)) (sym (is
 
 -- the change took the one to the other
 changed : (c : goal.After-put) → Changes (before c) (reorders (taken c)) (left c)
-changed c = same_world (loaded_opening c.self.inside.program c.self.inside.query.goals c.self.inside.query.variables c.self.inside.loaded) c.self.inside.next refl refl refl c.put.ensures.held
+changed c = same_world (loaded_opening c.self.inside.program.value c.self.inside.query.goals c.self.inside.query.variables c.self.inside.loaded) c.self.inside.next refl refl refl c.put.ensures.held
 
 pub invariant_of-self : goal.invariant_of-self
 invariant_of-self c = record { standing = by_change (reorders (taken c)) c.self.invariant.standing (can c) (changed c); exact = c.self.invariant.exact; streams = c.self.invariant.streams }

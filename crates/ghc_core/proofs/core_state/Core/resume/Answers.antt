@@ -25,8 +25,8 @@ returns-in-Some-clause-answer c =
     let each = rw c.entries-entries.ensures at c.in-Ok-carry_out_each.ensures.carried in
     let steps : length c.steps.result.now ≡ length h.opening.steps = cc in
     let entries : length c.entries-entries.result.now ≡ length h.entries = sym (length-map c.entries-entries.result.now said_by) ∙ ap (λ (es : List Entry). length es) c.entries-entries.ensures in
-    let program : c.core.inside.program ≡ c.args.program = ap (λ (x : Core). x.world.opening.program) c.core.view_is ∙ program_stays _ _ _ h _ _ opens each in
-    let lacks = rw (program, c.spies.ensures) at c.in-Some.ensures.some in (
+    let program : c.core.inside.program.value ≡ c.args.program = ap (λ (x : Core). x.world.opening.program) c.core.view_is ∙ program_stays _ _ _ h _ _ opens each in
+    let lacks = rw (c.deref.ensures, program, c.spies.ensures) at c.in-Some.ensures.some in (
       tt,
       inr (spy_refused _ _ _ _ _ _ c.in-Some.index (length c.steps.result.now + 4 + length c.entries-entries.result.now + 1 + c.in-Some.index)
           opens each lacks (omega (arith, steps, entries))),
@@ -36,9 +36,9 @@ pub returns-in-None-clause-answer : goal.returns-in-None-clause-answer
 returns-in-None-clause-answer c =
     let opens = loaded_opened _ _ _ c.args.chronicle.now (rw c.opening-opening.ensures at c.in-Ok.ensures.answer.0) in
     let each = rw c.entries-entries.ensures at c.in-Ok-carry_out_each.ensures.carried in
-    let program : c.core.inside.program ≡ c.args.program =
+    let program : c.core.inside.program.value ≡ c.args.program =
     ap (λ (x : Core). x.world.opening.program) c.core.view_is ∙ program_stays _ _ _ c.args.chronicle.now _ _ opens each in
-    (resumes _ (_, opens, each) (rw (program, c.spies.ensures) at c.in-None.ensures.none), tt)
+    (resumes _ (_, opens, each) (rw (c.deref.ensures, program, c.spies.ensures) at c.in-None.ensures.none), tt)
 
 pub returns-in-None-clause-meter : goal.returns-in-None-clause-meter
 returns-in-None-clause-meter c =

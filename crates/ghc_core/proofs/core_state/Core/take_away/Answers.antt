@@ -33,10 +33,10 @@ take_one_back-requires-clause-new c g used =
 
 -- the world before the change, and the world that is left
 abbrev before : goal.After-put → World
-before c = record { opening = loaded_opening c.self.inside.program c.self.inside.query.goals c.self.inside.query.variables c.self.inside.loaded; state = c.self.inside.state.held; kept = c.self.inside.records.held; shelf = c.self.inside.shelf.held; next = c.self.inside.next; journal = c.self.inside.journal.held }
+before c = record { opening = loaded_opening c.self.inside.program.value c.self.inside.query.goals c.self.inside.query.variables c.self.inside.loaded; state = c.self.inside.state.held; kept = c.self.inside.records.held; shelf = c.self.inside.shelf.held; next = c.self.inside.next; journal = c.self.inside.journal.held }
 
 abbrev left : goal.After-put → World
-left c = record { opening = loaded_opening c.self.inside.program c.self.inside.query.goals c.self.inside.query.variables c.self.inside.loaded; state = c.take_one_back.new.state.held; kept = c.strike.new.records.held; shelf = c.take_one_back.new.shelf.held; next = c.self.inside.next; journal = c.put.new.self.held }
+left c = record { opening = loaded_opening c.self.inside.program.value c.self.inside.query.goals c.self.inside.query.variables c.self.inside.loaded; state = c.take_one_back.new.state.held; kept = c.strike.new.records.held; shelf = c.take_one_back.new.shelf.held; next = c.self.inside.next; journal = c.put.new.self.held }
 
 -- the records that are left
 struck : (c : goal.After-put) → Can c.self.inside.records.held c.args.how (record { first = c.rollback.inside.step; others = c.rollback.inside.consequences.items })
