@@ -1,5 +1,5 @@
 // The calls of a shared core.
-ghost use Rattle.std.specs.Prelude.{◌≡◌, ◌≤◌, ◌↔◌, List, length, IsTrue, IfOk, IfErr, OnOk, OnErr, None, Err};
+ghost use Rattle.std.specs.Prelude.{◌≡◌, ◌≤◌, ◌↔◌, List, length, IsTrue, IfOk, IfErr, IfSome, OnOk, OnErr, None, Err};
 ghost use mathlib.Core.List.{IsPrefix};
 ghost use Rattle.ghc_fire.specs.Meter.{fired, one_more};
 ghost use Rattle.ghc_records.specs.Journal.{Item, Opening};
@@ -19,7 +19,7 @@ use crate::pass::Pass;
 use crate::receipt::Receipt;
 use crate::shared::Shared;
 use crate::waking::list_woken;
-use ghc_core::{Command, Core, Reply, leaves_is_one, legal_is_reachable};
+use ghc_core::{Command, Core, Excerpt, Reply, leaves_is_one, legal_is_reachable};
 use ghc_fire::{Meter, Proposal};
 use ghc_term::{Fault, GoalName};
 use std::alloc::{AllocError, Global};
@@ -112,6 +112,21 @@ impl<N: Naming> Shared<Core, N> {
     {
         let held = self.lock.read(rt);
         held.value.program().clauses().len() <= 32
+    }
+
+    /// What an attempt at the goal reads, where that is a call for which the program has more than 32 clauses and which reaches few
+    /// terms; nothing else. An attempt at it is made apart, while others hold the lock. It takes one holding of the read side, and
+    /// costs what the excerpt of a core costs. It fails only where memory is refused.
+    pub fn excerpt<R: Wait>(
+        &self,
+        rt: &R,
+        alloc: Global,
+        goal: GoalName,
+    ) -> Result<Option<Excerpt>, AllocError>
+        ensures { IfOk result (λ found. IfSome found (λ e. (code_of e.world.opening ≡ N.opened) × (e.goal ≡ goal))) }
+    {
+        let held = self.lock.read(rt);
+        held.value.excerpt(alloc, goal)
     }
 
     // Asks the core, and tells it by the core's words.
