@@ -15,6 +15,7 @@ pub mod Openings
 pub mod Drained
 pub mod Jobs
 pub mod Telling
+pub mod Turns
 pub mod Scopes
 pub mod SameCalls
 pub mod RoundPlaces

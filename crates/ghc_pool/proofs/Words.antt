@@ -49,7 +49,7 @@ pub use Rattle.ghc_pool.specs.inner.Gathered.{AreDrained, AreDrainedTo, ArePendi
 pub use Rattle.ghc_pool.specs.Laws.{AddsAtTheEnd, RunsAddAtTheEnd, RunsReduce}
 pub use Rattle.ghc_pool.specs.inner.Meeting.{HasStepped, IsMet, IsNotedReady, IsNotedWaiting, TookInQuestion, WasTaken, WasTried}
 pub use Rattle.ghc_pool.specs.Modes.{root_of}
-pub use Rattle.ghc_pool.specs.inner.Opened.{AreCounted, AreFresh, AreFreshFrom, AreHandfuls, AreJobs, AreNew, AreStarting, HasWorked, IsCounted, IsFresh, IsHandful, IsJob, IsStarting, Owner, Works, deques_of, passes_in, workers_in}
+pub use Rattle.ghc_pool.specs.inner.Opened.{AreCounted, AreFresh, AreFreshFrom, AreHandfuls, AreJobs, AreNew, AreStarting, HasGone, HasWorked, IsCounted, IsFresh, IsHandful, IsJob, IsStarting, Owner, Works, deques_of, passes_in, workers_in}
 pub use Rattle.ghc_pool.specs.inner.Plans.{GoesOnWithout, IsDecidedAs, IsNoteStop, IsSettlingStop, IsSubmitStop}
 pub use Rattle.ghc_pool.specs.Runs.{AsksForNoStop, CanGoOn, HasFailed, HasMetNoFailure, Holds, IsInQuestion, IsNotedFailed, IsRunStep, IsSpiedIn, Runs, RunsIn, Takes, all_taken, and_step, and_tries, at_start, has_failed, is_full, is_quiet, is_spied, starved}
 pub use Rattle.ghc_pool.specs.inner.Stops.{AreFed, AreJudged, AreOpen, AreWell, GoesOn, IsJudged, IsOpen, IsSpent, IsWell, OneAsks, WentOn, joined}

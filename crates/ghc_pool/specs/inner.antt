@@ -9,4 +9,5 @@ pub mod Stops
 pub mod Stretches
 pub mod Survey
 pub mod Told
+pub mod Turns
 pub mod Workers

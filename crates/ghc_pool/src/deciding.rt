@@ -4,19 +4,19 @@ ghost use Rattle.std.specs.FinSet as set;
 ghost use Rattle.ghc_term.specs.declared.fault.Fault.TheVariants.{Memory as memory};
 ghost use Rattle.ghc_hooks.specs.Status.{ready};
 ghost use Rattle.ghc_pool.specs.inner.Told.{IsInScope, IsSpiedGoal, IsRefusedGoal, IsStarvedGoal, IsUnspiedStep, TellsStatus};
-ghost use Rattle.ghc_pool.specs.inner.Plans.{IsPlan, IsSubmitStop, IsSettlingStop, IsNoteStop, step_in, made_if_stepped, GoesOnWithout, IsDecidedAs, AreWokenOf};
+ghost use Rattle.ghc_pool.specs.inner.Plans.{IsPlan, IsSubmitStop, IsSettlingStop, IsNoteStop, step_in, made_if_stepped, GoesOnWithout, IsDecidedAs, AreWokenOf, IsExcerptOf, IsAttempt};
 
 use crate::answer::{Answer, RoundStop};
 use crate::craft::{Craft, Decided};
 use crate::gate::Gate;
 use crate::scope::Scope;
-use ghc_core::{Core, Reply};
+use ghc_core::{Core, Excerpt, Reply};
 use ghc_fire::{Meter, Proposal};
 use ghc_hooks::Verdict;
 use ghc_shared::{Naming, Pass, Receipt, Shared};
 use ghc_term::{Fault, GoalName};
 use ghc_trace::SpySet;
-use std::alloc::Global;
+use std::alloc::{AllocError, Global};
 use std::sync::Wait;
 
 // What the workers of a round over a shared core have in common.
@@ -29,8 +29,18 @@ pub struct Deciding<'a, N: Naming, R: Wait, G: Gate> {
     pub spies: &'a SpySet,
     pub gate: &'a G,
     pub steps: bool,
-    // Whether steps are light, so that one is taken at once where nothing is spied.
-    pub at_once: bool,
+    pub manner: Manner,
+}
+
+// How a step of a goal is taken, where nothing is spied.
+#[derive(Clone, Copy, Drop)]
+pub enum Manner {
+    // It is proposed and submitted under one holding of the lock.
+    AtOnce,
+    // It is proposed apart from what workers share and then submitted, where there is an excerpt of it; else it is taken at once.
+    Apart,
+    // It is proposed, and then submitted.
+    Proposed,
 }
 
 // What is to be done with a goal where steps are taken.
@@ -256,12 +266,12 @@ impl<N: Naming, R: Wait, G: Gate> Deciding<'_, N, R, G> {
         }
     }
 
-    // Whether a step of the goal is taken at once: steps are light, nothing is spied, and the round may step the goal.
-    fn is_light(&self, goal: GoalName) -> bool
+    // Whether the round may step the goal, and nothing is spied.
+    fn is_plain(&self, goal: GoalName) -> bool
         ensures unspied { IsTrue result → (self.now.spies.now ≡ set.empty) }
         ensures inside { IsTrue result → IsInScope self.now.scope.now goal }
     {
-        self.at_once && self.spies.is_empty() && self.scope.has(goal)
+        self.spies.is_empty() && self.scope.has(goal)
     }
 
     // Takes a step of the goal at once, or notes it, where none could be proposed; or it is ready by now, and nothing comes of that.
@@ -302,7 +312,7 @@ impl<N: Naming, R: Wait, G: Gate> Deciding<'_, N, R, G> {
         requires { self.now.steps ≡ true }
         ensures { MatchOption result (GoesOnWithout N.opened self.now.scope.now self.now.spies.now self.now.steps pass.old pass.new) (IsDecidedAs N.opened self.now.scope.now self.now.spies.now self.now.steps goal pass.old pass.new) }
     {
-        if self.is_light(goal) {
+        if !matches!(self.manner, Manner::Proposed) && self.is_plain(goal) {
             return self.take_at_once(pass, goal);
         }
         match self.plan(goal) {
@@ -328,6 +338,31 @@ impl<N: Naming, R: Wait, G: Gate> Deciding<'_, N, R, G> {
         }
         unreachable!()
     }
+
+    // Submits the step of the goal that was proposed apart, or notes the goal, where none could be proposed.
+    fn take_attempt(
+        &self,
+        worker: usize,
+        pass: &mut Pass<Core, N>,
+        goal: GoalName,
+        attempt: Result<Proposal, Fault>,
+    ) -> Decided
+        requires { IsAttempt N.opened self.now.scope.now self.now.spies.now self.now.steps goal attempt }
+        ensures { IsDecidedAs N.opened self.now.scope.now self.now.spies.now self.now.steps goal pass.old pass.new result }
+    {
+        match attempt {
+            Ok(proposal) => self.submit(worker, pass, goal, proposal, Vec::new(self.alloc)),
+            Err(fault) => {
+                if is_memory(&fault) {
+                    return self.starve(pass, goal);
+                }
+                if let Some(decided) = self.note_refused(pass, goal) {
+                    return decided;
+                }
+                self.take_step(worker, pass, goal)
+            }
+        }
+    }
 }
 
 impl<N: Naming, R: Wait, G: Gate> Craft<Pass<Core, N>> for Deciding<'_, N, R, G> {
@@ -341,6 +376,14 @@ impl<N: Naming, R: Wait, G: Gate> Craft<Pass<Core, N>> for Deciding<'_, N, R, G>
 
     ghost asks = { λ d. Asks N.opened d.spies.now d.steps };
 
+    ghost excerpts = { λ d. IsExcerptOf N.opened d.scope.now d.spies.now d.steps };
+
+    ghost attempts = { λ d. IsAttempt N.opened d.scope.now d.spies.now d.steps };
+
+    fn takes_turns(&self) -> bool {
+        !self.gate.holds_up()
+    }
+
     fn takes_steps(&self) -> bool {
         self.steps
     }
@@ -349,7 +392,30 @@ impl<N: Naming, R: Wait, G: Gate> Craft<Pass<Core, N>> for Deciding<'_, N, R, G>
         let _ = pass;
     }
 
-    fn decide(&self, worker: usize, pass: &mut Pass<Core, N>, name: GoalName) -> Decided {
+    fn excerpt(&self, name: GoalName) -> Option<Excerpt> {
+        if !self.steps || !matches!(self.manner, Manner::Apart) || !self.is_plain(name) {
+            return None;
+        }
+        match self.shared.excerpt(self.rt, self.alloc, name) {
+            Ok(found) => found,
+            Err(AllocError) => None,
+        }
+    }
+
+    fn attempt(&self, excerpt: &Excerpt) -> Result<Proposal, Fault> {
+        excerpt.attempt(self.alloc)
+    }
+
+    fn decide(
+        &self,
+        worker: usize,
+        pass: &mut Pass<Core, N>,
+        name: GoalName,
+        attempt: Option<Result<Proposal, Fault>>,
+    ) -> Decided {
+        if let Some(attempt) = attempt {
+            return self.take_attempt(worker, pass, name, attempt);
+        }
         if self.steps {
             return self.take_step(worker, pass, name);
         }

@@ -10,9 +10,10 @@ ghost use Rattle.std.specs.Vec.{vec_len};
 use crate::answer::{Answer, RoundStop};
 use crate::craft::{Craft, Decided};
 use crate::rounds::threads::{Ended, work_together};
-use ghc_core::Reply;
+use ghc_core::{Excerpt, Reply};
+use ghc_fire::Proposal;
 use ghc_shared::Receipt;
-use ghc_term::GoalName;
+use ghc_term::{Fault, GoalName};
 use std::alloc::Global;
 use std::marker::Brand;
 use std::sync::Wait;
@@ -37,6 +38,14 @@ impl Craft<u64> for Trial {
 
     ghost asks = { λ _ _ _. Unit {0} };
 
+    ghost excerpts = { λ _ _ _. Unit {0} };
+
+    ghost attempts = { λ _ _ _. Unit {0} };
+
+    fn takes_turns(&self) -> bool {
+        true
+    }
+
     fn takes_steps(&self) -> bool {
         true
     }
@@ -45,8 +54,24 @@ impl Craft<u64> for Trial {
         let _ = pass;
     }
 
-    fn decide(&self, worker: usize, pass: &mut u64, name: GoalName) -> Decided {
+    fn excerpt(&self, name: GoalName) -> Option<Excerpt> {
+        let _ = name;
+        None
+    }
+
+    fn attempt(&self, excerpt: &Excerpt) -> Result<Proposal, Fault> {
+        excerpt.attempt(self.alloc)
+    }
+
+    fn decide(
+        &self,
+        worker: usize,
+        pass: &mut u64,
+        name: GoalName,
+        attempt: Option<Result<Proposal, Fault>>,
+    ) -> Decided {
         let _ = worker;
+        let _ = attempt;
         if name.place % 2 == 0 {
             return Decided {
                 answer: Answer::Noted(receipt(0)),

@@ -89,12 +89,16 @@ module _ {P L : Type 0} (fed : List Taken → Type 0) (asks : List Taken → Rou
   Works j = IsAble j.worker × IsWell fed asks (work_of j.worker) × IsCounted j
 
   module _ (tells : P → List Taken → P → Type 0) where
-    -- The worker worked, and no name is in its hand.
-    pub record HasWorked (old new : Job P L) : Type 0 where
-      pub keeps : Keeps [] [] old.worker new.worker
+    -- The worker worked, and went from names in hand to names in hand.
+    pub record HasGone (before after : List GoalName) (old new : Job P L) : Type 0 where
+      pub keeps : Keeps before after old.worker new.worker
       pub room : KeepsRoom old.worker new.worker
       pub works : Works new
       pub told : (start : P) → tells start old.worker.taken.items old.pass → tells start new.worker.taken.items new.pass
+
+    -- The worker worked, and no name is in its hand, before or after.
+    abbrev pub HasWorked : Job P L → Job P L → Type 0
+    HasWorked = HasGone [] []
 
     -- A worker with no name in hand, which has so many parts of its deque and a pass of each of these deques; its pass was so at the start.
     pub record IsJob (k : ℕ) (ds : List (RowsId × Global)) (start : P) (j : Job P L) : Type 0 where

@@ -1,5 +1,6 @@
 -- What is to be done with a goal, and what comes of it.
-use Rattle.std.specs.Prelude.{◌≡◌, ℕ, ◌≤◌, ◌++◌, List, [], ◌∷◌, length, Bool, true, Option, Some, None, Ok}
+use Rattle.std.specs.Prelude.{◌≡◌, ℕ, ◌≤◌, ◌++◌, List, [], ◌∷◌, length, Bool, true, Option, Some, None, Result, Ok}
+use Rattle.std.specs.FinSet as set
 use base.Stored.{Gv}
 use Rattle.ghc_term.specs.declared.goal_name.GoalName.{GoalName}
 use Rattle.ghc_term.specs.declared.fault.Fault.{Fault}
@@ -7,12 +8,13 @@ use Rattle.ghc_term.specs.Lists.{In}
 use Rattle.ghc_records.specs.Journal.{Item}
 use Rattle.ghc_hooks.specs.Status.{ready, failed}
 use Rattle.ghc_core.specs.World.{World, Proposal}
+use Rattle.ghc_core.specs.Excerpt.{Excerpt}
 use Rattle.ghc_core.specs.Events as events
 use Rattle.ghc_core.specs.EventCode.{reply_of}
 use Rattle.ghc_core.specs.declared.reply.Reply.{Reply}
 use Rattle.ghc_core.specs.declared.reply.Reply.TheVariants.{Held, Stepped, Noted, Undone, Arranged, Refused}
 use Rattle.ghc_shared.specs.Passes.{Known}
-use Rattle.ghc_shared.specs.inner.Calls.{IsProposal, LooksWhereBound}
+use Rattle.ghc_shared.specs.inner.Calls.{IsProposal, LooksWhereBound, code_of}
 use Rattle.ghc_trace.specs.Spies.{Spies}
 use Rattle.ghc_pool.specs.declared.answer.Answer.{Answer}
 use Rattle.ghc_pool.specs.declared.answer.RoundStop.{RoundStop}
@@ -35,6 +37,18 @@ IsPlan opened scope spies g Outside = ¬ IsInScope scope g
 IsPlan opened scope spies g Pass = IsSpiedGoal opened spies g
 IsPlan opened scope spies g Refuse = IsRefusedGoal opened g
 IsPlan opened scope spies g Starve = IsStarvedGoal opened g
+
+-- Steps are taken, the round may step the goal named g, and nothing is spied. So a step of it may be taken with no look at its predicate.
+abbrev pub IsPlain : Scope → Spies → Bool → GoalName → Type 0
+IsPlain scope spies steps g = (steps ≡ true) × IsInScope scope g × (spies ≡ set.empty)
+
+-- The excerpt is one of the goal named g, of a world of the opening, and the goal is plain.
+abbrev pub IsExcerptOf : Gv → Scope → Spies → Bool → GoalName → Excerpt → Type 0
+IsExcerptOf opened scope spies steps g e = IsPlain scope spies steps g × (code_of e.world.opening ≡ opened) × (e.goal ≡ g)
+
+-- This is what an attempt at the goal named g answers, in some world of the opening, and the goal is plain.
+abbrev pub IsAttempt : Gv → Scope → Spies → Bool → GoalName → Result Proposal Fault → Type 0
+IsAttempt opened scope spies steps g answer = IsPlain scope spies steps g × ((w : World) × IsProposal opened w g None answer)
 
 -- The reply says that memory was refused.
 abbrev pub SaysMemory : Reply → Type 0

@@ -79,7 +79,7 @@ impl Worker {
             self.leave(name);
             return Some(RoundStop::Limit);
         }
-        self.handle(craft, number, pass, &mut permits.spare, name);
+        self.handle(craft, number, pass, &mut permits.spare, name, None);
         self.stop
     }
 

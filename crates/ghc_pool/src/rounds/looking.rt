@@ -1,7 +1,4 @@
-// How a worker finds a name, and when it looks for none any more.
-ghost use Rattle.ghc_pool.specs.inner.Workers.{IsAble, IsFound, DidNothing};
-
-use crate::rounds::worker::{Found, Worker};
+// When a worker rests, and when it looks for no name any more.
 use std::sync::Wait;
 use std::sync::atomic::{AtomicU64, Ordering};
 use std::time::Duration;
@@ -22,7 +19,7 @@ pub fn end_work(at_work: &AtomicU64) {
 
 // Rests, where others are at work, and says whether they are. Who rests is not counted among those at work, and has no name in hand
 // and none in its deque: so where nobody is counted, no name is left.
-fn rest<R: Wait>(rt: &R, at_work: &AtomicU64) -> bool {
+pub fn rest<R: Wait>(rt: &R, at_work: &AtomicU64) -> bool {
     let others = at_work.fetch_sub(1, Ordering::SeqCst).wrapping_sub(1);
     if others > 0 {
         let longest = Duration::from_micros(MICROSECONDS);
@@ -31,22 +28,4 @@ fn rest<R: Wait>(rt: &R, at_work: &AtomicU64) -> bool {
     let others = at_work.load(Ordering::SeqCst);
     at_work.fetch_add(1, Ordering::SeqCst);
     others > 0
-}
-
-// Takes a name, or rests where others are at work, who may offer some; there is none where nobody is.
-pub fn look<R: Wait>(rt: &R, at_work: &AtomicU64, worker: &mut Worker) -> Found
-    requires able { IsAble worker.old }
-    ensures found { IsFound result worker.old worker.new }
-    ensures same { DidNothing worker.old worker.new }
-{
-    match worker.take() {
-        Found::Name(name) => Found::Name(name),
-        Found::Again => Found::Again,
-        Found::Nothing => {
-            if rest(rt, at_work) {
-                return Found::Again;
-            }
-            Found::Nothing
-        }
-    }
 }

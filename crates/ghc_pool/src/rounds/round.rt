@@ -8,7 +8,7 @@ ghost use Rattle.ghc_pool.specs.inner.Told.{IsPassAfter, AreFedAnswers, Asks, su
 ghost use Rattle.ghc_pool.specs.Modes.{takes_steps, limit_of};
 
 use crate::answer::{RoundStop, Work};
-use crate::deciding::Deciding;
+use crate::deciding::{Deciding, Manner};
 use crate::gate::Gate;
 use crate::mode::Mode;
 use crate::rounds::threads::{Ended, work_together};
@@ -55,21 +55,23 @@ fn take_apart(workers: Vec<Worker>, done: &mut Vec<Work>)
     }
 }
 
-// Whether steps are taken that are light: no worker is held up between a proposal and its submit, and the program has few clauses.
-fn are_light<N: Naming, R: Wait, G: Gate>(
-    rt: &R,
-    shared: &Shared<Core, N>,
-    gate: &G,
-    steps: bool,
-) -> bool {
-    steps && !gate.holds_up() && shared.has_few_clauses(rt)
+// How steps are taken: at once where the program has few clauses, and apart where it has many; but where a worker may be held up between
+// a proposal and its submit, one after the other.
+fn manner<N: Naming, R: Wait, G: Gate>(rt: &R, shared: &Shared<Core, N>, gate: &G) -> Manner {
+    if gate.holds_up() {
+        return Manner::Proposed;
+    }
+    if shared.has_few_clauses(rt) {
+        return Manner::AtOnce;
+    }
+    Manner::Apart
 }
 
 /// A round over a shared core. As many workers as there are passes, from 1 to 64, each in a thread of its own, work off the names,
 /// and the goals that their steps make or wake. The first offers first what is handed in. Where steps are taken, a worker proposes and
-/// submits a step of each name in the scope, unless the goal is a call of a spied predicate. Where the program has at most 32 clauses,
-/// nothing is spied, and the gate holds nobody up, it does both at once: under one holding of the lock, with one attempt. No such
-/// step is stale. It notes a name that is not in the scope or is spied, or of which no step could be proposed. Where no steps are
+/// submits a step of each name in the scope, unless the goal is a call of a spied predicate. Where nothing is spied, and the gate holds
+/// nobody up, it does both at once: under one holding of the lock, with one attempt. No such step is stale. But the attempt at a call
+/// for which the program has more than 32 clauses is made of an excerpt, with no lock held. It notes a name that is not in the scope or is spied, or of which no step could be proposed. Where no steps are
 /// taken it notes each name. However names are weighed, what was offered is what was taken and what was left. Each that was taken
 /// has an answer that is a receipt in what its worker's pass has seen. Each step that a pass has made is one of these answers, and
 /// stands at the place of its receipt. Each submit, accepted or not, has its answer, and all workers together make at most as many
@@ -101,7 +103,7 @@ pub fn round<'a, N: Naming + Send + Sync, R: Threads + Wait + Sync, G: Gate + Sy
         return Err(passes);
     };
     let steps = mode.takes_steps();
-    let at_once = are_light(rt, shared, gate, steps);
+    let manner = manner(rt, shared, gate);
     let craft = Deciding {
         rt,
         alloc,
@@ -110,7 +112,7 @@ pub fn round<'a, N: Naming + Send + Sync, R: Threads + Wait + Sync, G: Gate + Sy
         spies,
         gate,
         steps,
-        at_once,
+        manner,
     };
     let limit = mode.limit();
     let blank = Blank::new(passes.len() as u64 + 1);

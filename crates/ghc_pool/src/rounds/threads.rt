@@ -181,12 +181,14 @@ fn work_in_threads<P: Send, C: Craft<P> + Sync, L: Limited + Send + Sync, R: Thr
     let budget = Mutex::new(budget);
     let halted = AtomicBool::new(false);
     let at_work = AtomicU64::new(0);
+    let door = Mutex::new(());
     let crew = Crew {
         rt,
         craft,
         budget: &budget,
         halted: &halted,
         at_work: &at_work,
+        door: &door,
     };
     let threads = jobs.len();
     tend_all(rt, &crew, jobs.as_mut_slice(), threads);

@@ -1,21 +1,25 @@
 // What a worker does in a round.
-ghost use Rattle.std.specs.Prelude.{◌≡◌, ◌≤◌, ◌+◌, ◌<◌, [], ◌∷◌, true, None};
+ghost use Rattle.std.specs.Prelude.{◌≡◌, ◌≤◌, ◌+◌, ◌<◌, [], ◌∷◌, true, false, None, IfSome};
 ghost use Rattle.std.specs.Vec.{vec_len};
 ghost use Rattle.crossbeam_deque.specs.Handles.{worker_view};
 ghost use Rattle.ghc_pool.specs.inner.Fair.{most_permits};
 ghost use Rattle.ghc_pool.specs.inner.Workers.{work_of, IsAble, HasRoomToAnswer, Keeps, KeepsRoom, IsOfferedOrStopped, submits};
 ghost use Rattle.ghc_pool.specs.inner.Stops.{IsWell};
 ghost use Rattle.ghc_pool.specs.inner.Opened.{Works, HasWorked};
+ghost use Rattle.ghc_pool.specs.inner.Turns.{CanDecide, IsNext, in_hand};
 
 use crate::craft::{Craft, Decided};
 use crate::rounds::budget::{Budget, Limited};
-use crate::rounds::looking::{begin_work, end_work, look};
+use crate::rounds::looking::{begin_work, end_work, rest};
 use crate::rounds::worker::{Found, Worker};
+use ghc_core::Excerpt;
+use ghc_fire::Proposal;
 use ghc_shared::Tender;
-use ghc_term::GoalName;
+use ghc_term::{Fault, GoalName};
+use std::hint::spin_loop;
 use std::sync::atomic::{AtomicBool, AtomicU64, Ordering};
 use std::sync::ledger::Share;
-use std::sync::{Mutex, Wait};
+use std::sync::{Mutex, MutexGuard, Wait};
 
 // A worker, with its number, its pass, its share of the budget, and how many of its permits it has not used.
 #[derive(Drop)]
@@ -78,7 +82,8 @@ impl Worker {
         self.offer_woken(woken);
     }
 
-    // The name that is in hand is decided, and the goals that its step makes are offered, and those that it wakes.
+    // The name that is in hand, for which an attempt was made or none, is decided, and the goals that its step makes are offered, and
+    // those that it wakes.
     pub fn handle<P, C: Craft<P>>(
         &mut self,
         craft: &C,
@@ -86,9 +91,11 @@ impl Worker {
         pass: &mut P,
         spare: &mut u64,
         name: GoalName,
+        attempt: Option<Result<Proposal, Fault>>,
     )
         requires able { IsAble self.old }
         requires room { HasRoomToAnswer self.old }
+        requires attempt { IfSome attempt (λ a. C.attempts craft.now name a) }
         requires permit { C.takes craft.now ≡ true → 0 < spare.old }
         requires none { self.old.stop ≡ None }
         requires well { IsWell (C.fed craft.now) (C.asks craft.now) (work_of self.old) }
@@ -106,7 +113,7 @@ impl Worker {
             step,
             made,
             woken,
-        } = craft.decide(number, pass, name);
+        } = craft.decide(number, pass, name, attempt);
         *spare -= answer.submits();
         self.answer(name, answer, stop);
         if stop.is_some() {
@@ -141,19 +148,54 @@ fn is_permitted<P, C: Craft<P>, L: Limited, R: Wait>(
     true
 }
 
-// Works until the worker stops, finds that another has stopped, finds no name while nobody is at work who could offer one, or gets no
-// permit where steps are taken. A worker that stops sets `halted`, and each looks at it before it takes a name: so what they have in
-// hand is all that they still do.
-fn work<P, C: Craft<P>, L: Limited, R: Wait>(
-    rt: &R,
-    craft: &C,
-    budget: &Mutex<Budget<L>>,
-    halted: &AtomicBool,
-    at_work: &AtomicU64,
+// What the workers share. A worker that has a reason to stop sets `halted`, and each looks at it before it takes a name; `at_work`
+// counts those that have a name or look for one; who has the door takes names, and decides them.
+#[derive(Drop)]
+pub struct Crew<'a, C, L: Limited, R: Wait> {
+    pub rt: &'a R,
+    pub craft: &'a C,
+    pub budget: &'a Mutex<Budget<L>>,
+    pub halted: &'a AtomicBool,
+    pub at_work: &'a AtomicU64,
+    pub door: &'a Mutex<()>,
+}
+
+// What a worker does after its turn.
+#[derive(Drop)]
+pub enum Next {
+    // It makes an attempt at the name that it has in hand, of this excerpt.
+    Attempt(GoalName, Excerpt),
+    // It takes names again.
+    Again,
+    // It rests, since it found no name.
+    Rest,
+    // It ends.
+    End,
+}
+
+// A name in hand, for which an attempt was made.
+pub type Attempted = (GoalName, Result<Proposal, Fault>);
+
+// Whether the worker has stopped, which it tells the others, or finds that another has.
+fn has_ended(halted: &AtomicBool, worker: &Worker) -> bool
+    ensures { result ≡ false → worker.now.stop ≡ None }
+{
+    if worker.stop.is_some() {
+        halted.store(true, Ordering::SeqCst);
+        return true;
+    }
+    halted.load(Ordering::SeqCst)
+}
+
+// Takes so many names at most, and decides each, up to one at which an attempt is to be made apart. It ends where the worker stops,
+// finds that another has stopped, or gets no permit where steps are taken.
+fn take_names<P, C: Craft<P>, L: Limited, R: Wait>(
+    crew: &Crew<'_, C, L, R>,
     job: &mut Job<P, L>,
-)
-    requires { Works (C.fed craft.now) (C.asks craft.now) job.old }
-    ensures { HasWorked (C.fed craft.now) (C.asks craft.now) (C.tells craft.now) job.old job.new }
+    most: u32,
+) -> Next
+    requires { Works (C.fed crew.now.craft.now) (C.asks crew.now.craft.now) job.old }
+    ensures { IsNext (C.fed crew.now.craft.now) (C.asks crew.now.craft.now) (C.tells crew.now.craft.now) (C.takes crew.now.craft.now) (C.excerpts crew.now.craft.now) [] result job.old job.new }
 {
     let Job {
         number,
@@ -162,34 +204,116 @@ fn work<P, C: Craft<P>, L: Limited, R: Wait>(
         share,
         spare,
     } = job;
-    for _ in rt.forever() {
-        if worker.stop.is_some() {
-            halted.store(true, Ordering::SeqCst);
-            return;
+    for _ in 0..most {
+        if has_ended(crew.halted, worker) {
+            return Next::End;
         }
-        if halted.load(Ordering::SeqCst) {
-            return;
+        if !is_permitted(crew.rt, crew.craft, crew.budget, share, spare) {
+            return Next::End;
         }
-        if !is_permitted(rt, craft, budget, share, spare) {
-            return;
-        }
-        match look(rt, at_work, worker) {
-            Found::Name(name) => worker.handle(craft, *number, pass, spare, name),
-            Found::Again => {}
-            Found::Nothing => return,
+        match worker.take() {
+            Found::Name(name) => match crew.craft.excerpt(name) {
+                Some(excerpt) => return Next::Attempt(name, excerpt),
+                None => worker.handle(crew.craft, *number, pass, spare, name, None),
+            },
+            Found::Again => return Next::Again,
+            Found::Nothing => return Next::Rest,
         }
     }
+    Next::Again
 }
 
-// What the workers share. A worker that has a reason to stop sets `halted`, and each looks at it before it takes a name; `at_work`
-// counts those that have a name or look for one.
-#[derive(Drop)]
-pub struct Crew<'a, C, L: Limited, R: Wait> {
-    pub rt: &'a R,
-    pub craft: &'a C,
-    pub budget: &'a Mutex<Budget<L>>,
-    pub halted: &'a AtomicBool,
-    pub at_work: &'a AtomicU64,
+// Decides the name in hand, if there is one, and then takes names.
+fn take_turn<P, C: Craft<P>, L: Limited, R: Wait>(
+    crew: &Crew<'_, C, L, R>,
+    job: &mut Job<P, L>,
+    hand: Option<Attempted>,
+    most: u32,
+) -> Next
+    requires works { Works (C.fed crew.now.craft.now) (C.asks crew.now.craft.now) job.old }
+    requires hand { IfSome hand (λ h. CanDecide (C.takes crew.now.craft.now) job.old × C.attempts crew.now.craft.now h.0 h.1) }
+    ensures { IsNext (C.fed crew.now.craft.now) (C.asks crew.now.craft.now) (C.tells crew.now.craft.now) (C.takes crew.now.craft.now) (C.excerpts crew.now.craft.now) (in_hand hand) result job.old job.new }
+{
+    if let Some((name, attempt)) = hand {
+        let Job {
+            number,
+            worker,
+            pass,
+            share: _,
+            spare,
+        } = job;
+        worker.handle(crew.craft, *number, pass, spare, name, Some(attempt));
+    }
+    take_names(crew, job, most)
+}
+
+// How often a worker looks at the door before it sleeps there: for about as long as it takes to be woken.
+const LOOKS: u32 = 500;
+
+// Waits for its turn.
+fn wait_for_turn<'a, R: Wait>(rt: &R, door: &'a Mutex<()>) -> MutexGuard<'a, ()> {
+    for _ in 0..LOOKS {
+        if let Some(turn) = door.try_lock() {
+            return turn;
+        }
+        spin_loop();
+    }
+    door.lock(rt)
+}
+
+// Takes a turn, for which it waits at the door where workers take names in turns.
+fn take_turn_at_door<P, C: Craft<P>, L: Limited, R: Wait>(
+    crew: &Crew<'_, C, L, R>,
+    job: &mut Job<P, L>,
+    hand: Option<Attempted>,
+    most: u32,
+) -> Next
+    requires works { Works (C.fed crew.now.craft.now) (C.asks crew.now.craft.now) job.old }
+    requires hand { IfSome hand (λ h. CanDecide (C.takes crew.now.craft.now) job.old × C.attempts crew.now.craft.now h.0 h.1) }
+    ensures { IsNext (C.fed crew.now.craft.now) (C.asks crew.now.craft.now) (C.tells crew.now.craft.now) (C.takes crew.now.craft.now) (C.excerpts crew.now.craft.now) (in_hand hand) result job.old job.new }
+{
+    if !crew.craft.takes_turns() {
+        return take_turn(crew, job, hand, 1);
+    }
+    let _turn = wait_for_turn(crew.rt, crew.door);
+    take_turn(crew, job, hand, most)
+}
+
+// As many names as are taken in a turn at most.
+const MOST: u32 = 32;
+
+// How many names are taken at most in the turn after one of so many. The first turns are short, so that a small program is shown in
+// other orders, too; with long ones, workers seldom meet at the door.
+fn longer(most: u32) -> u32 {
+    if most < MOST {
+        return most * 2;
+    }
+    MOST
+}
+
+// Works, turn after turn, until one is the last, or there is no name while nobody is at work who could offer one. An attempt is made
+// between two turns, while others have theirs.
+fn work<P, C: Craft<P>, L: Limited, R: Wait>(crew: &Crew<'_, C, L, R>, job: &mut Job<P, L>)
+    requires { Works (C.fed crew.now.craft.now) (C.asks crew.now.craft.now) job.old }
+    ensures { HasWorked (C.fed crew.now.craft.now) (C.asks crew.now.craft.now) (C.tells crew.now.craft.now) job.old job.new }
+{
+    let mut hand = None;
+    let mut most = 1;
+    for _ in crew.rt.forever() {
+        match take_turn_at_door(crew, job, hand, most) {
+            Next::Attempt(name, excerpt) => hand = Some((name, crew.craft.attempt(&excerpt))),
+            Next::Again => hand = None,
+            Next::Rest => {
+                if !rest(crew.rt, crew.at_work) {
+                    return;
+                }
+                hand = None;
+            }
+            Next::End => return,
+        }
+        most = longer(most);
+    }
+    unreachable!()
 }
 
 impl<P, C: Craft<P>, L: Limited, R: Wait> Tender<Job<P, L>> for Crew<'_, C, L, R> {
@@ -201,14 +325,7 @@ impl<P, C: Craft<P>, L: Limited, R: Wait> Tender<Job<P, L>> for Crew<'_, C, L, R
 
     fn tend(&self, job: &mut Job<P, L>) {
         begin_work(self.at_work);
-        work(
-            self.rt,
-            self.craft,
-            self.budget,
-            self.halted,
-            self.at_work,
-            job,
-        );
+        work(self, job);
         end_work(self.at_work);
     }
 }

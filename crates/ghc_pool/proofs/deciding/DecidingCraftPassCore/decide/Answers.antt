@@ -1,6 +1,9 @@
 use Rattle.ghc_pool.proofs.Telling.{reason_after}
 use Rattle.ghc_pool.proofs.deciding.DecidingCraftPassCore.decide.Goals as goal
 
+pub returns-in-Some-clause-reason : goal.returns-in-Some-clause-reason
+returns-in-Some-clause-reason g c = reason_after g.N.Naming.opened c.args.self.now.spies.now c.args.self.now.steps (c.args.name, c.take_attempt.result.answer) c.take_attempt.result.stop c.take_attempt.ensures.reason
+
 pub returns-then-self-clause-reason : goal.returns-then-self-clause-reason
 returns-then-self-clause-reason g c = reason_after g.N.Naming.opened c.args.self.now.spies.now c.args.self.now.steps (c.args.name, c.take_step.result.answer) c.take_step.result.stop c.take_step.ensures.reason
 

@@ -1,47 +1,36 @@
-use Rattle.ghc_pool.proofs.Words.{[], ◌∷◌, ap, sym, subst, arith, submits}
-use Rattle.ghc_pool.proofs.Stealing.{keeps_after}
-use Rattle.ghc_pool.proofs.Wells.{room_same, room_after, well_same}
+use Rattle.ghc_pool.proofs.Words.{[], ◌∷◌, sym, subst, HasGone}
+use Rattle.std.specs.Prelude.{IfSome}
+use Rattle.ghc_pool.specs.inner.Turns.{CanDecide, in_hand}
+use Rattle.ghc_pool.proofs.Turns.{gone_on}
 use Rattle.ghc_pool.proofs.rounds.working.work.Goals as goal
+use Rattle.ghc_pool.proofs.rounds.working.work.Goals.{in-Attempt, in-Again, in-Rest+else-not-rest}
 
-pub loop-preserved-in-Name : goal.loop-preserved-in-Name
-loop-preserved-in-Name g c =
-    let was = c.loop.invariant in
-    let permit = c.if-not-is_permitted.ensures in
-    let take = c.in-Name.ensures in
-    let handle = c.handle.ensures in
-    let met = keeps_after [] (c.in-Name.name ∷ []) [] c.loop.worker c.look.new.worker c.handle.new.self take.found.0 handle.keeps in (
-      keeps_after [] [] [] _ _ _ was.0 met,
-      room_after c.args.job.now.worker c.loop.worker c.handle.new.self was.1 (room_after c.loop.worker c.look.new.worker c.handle.new.self (room_same c.loop.worker c.look.new.worker take.same) handle.room),
-      handle.well,
-      permit.part,
-      omega (arith, permit.counted, was.4, handle.spent, ap (λ l. submits l) take.same.taken),
-      (let few = permit.few was.5 in omega (arith, few, handle.fewer)),
-      (λ start told. handle.tells start (subst (λ l. g.C.Craft.tells c.args.craft.now start l c.loop.pass) (sym take.same.taken) (was.6 start told))),
-    )
+pub returns-then-not-rest : goal.returns-then-not-rest
+returns-then-not-rest g c = gone_on _ _ _ [] (in_hand c.loop.hand) [] c.args.job.now c.loop.job c.take_turn_at_door.new.job c.loop.invariant.0 c.in-Rest.ensures
+
+pub returns-in-End : goal.returns-in-End
+returns-in-End g c = gone_on _ _ _ [] (in_hand c.loop.hand) [] c.args.job.now c.loop.job c.take_turn_at_door.new.job c.loop.invariant.0 c.in-End.ensures
 
 pub loop-preserved : goal.loop-preserved
 loop-preserved g c =
-    let was = c.loop.invariant in
-    let permit = c.if-not-is_permitted.ensures in
-    let take = c.in-Again.ensures in (
-      keeps_after [] [] [] _ _ _ was.0 take.found,
-      room_after c.args.job.now.worker c.loop.worker c.look.new.worker was.1 (room_same c.loop.worker c.look.new.worker take.same),
-      well_same (g.C.Craft.fed c.args.craft.now) (g.C.Craft.asks c.args.craft.now) c.loop.worker c.look.new.worker take.same was.2,
-      permit.part,
-      omega (arith, permit.counted, was.4, ap (λ l. submits l) take.same.taken),
-      permit.few was.5,
-      (λ start told. subst (λ l. g.C.Craft.tells c.args.craft.now start l c.loop.pass) (sym take.same.taken) (was.6 start told)),
-    )
-
-pub returns-in-Nothing : goal.returns-in-Nothing
-returns-in-Nothing g c =
-    let was = c.loop.invariant in
-    let permit = c.if-not-is_permitted.ensures in
-    let take = c.in-Nothing.ensures in
-    let keeps = keeps_after [] [] [] _ _ _ was.0 take.found in
-    record {
-      keeps = keeps;
-      room = room_after c.args.job.now.worker c.loop.worker c.look.new.worker was.1 (room_same c.loop.worker c.look.new.worker take.same);
-      works = (keeps.able, well_same (g.C.Craft.fed c.args.craft.now) (g.C.Craft.asks c.args.craft.now) c.loop.worker c.look.new.worker take.same was.2, record { part = permit.part; counted = omega (arith, permit.counted, was.4, ap (λ l. submits l) take.same.taken); few = permit.few was.5 });
-      told = λ start told. subst (λ l. g.C.Craft.tells c.args.craft.now start l c.loop.pass) (sym take.same.taken) (was.6 start told);
-    }
+    let fed = g.C.Craft.fed c.args.crew.now.craft.now in
+    let asks = g.C.Craft.asks c.args.crew.now.craft.now in
+    let tells = g.C.Craft.tells c.args.crew.now.craft.now in
+    let takes = g.C.Craft.takes c.args.crew.now.craft.now in
+    let attempts = g.C.Craft.attempts c.args.crew.now.craft.now in
+    let job = c.args.job.now in
+    let old = in_hand c.loop.hand in
+    let new = c.take_turn_at_door.new.job in
+    elim c.match-take_turn_at_door.branch [
+      | in-Attempt w ↦
+          let next = w.in-Attempt.ensures in
+          let name = w.in-Attempt.name in
+          subst (λ hand. HasGone fed asks tells [] (in_hand hand) job new × IfSome hand (λ h. CanDecide takes new × attempts h.0 h.1)) (sym w.hand-is)
+          (gone_on fed asks tells [] old (name ∷ []) job c.loop.job new c.loop.invariant.0 next.0, (next.1, w.attempt.ensures name next.2))
+      | in-Again w ↦
+          subst (λ hand. HasGone fed asks tells [] (in_hand hand) job new × IfSome hand (λ h. CanDecide takes new × attempts h.0 h.1)) (sym w.hand-is)
+          (gone_on fed asks tells [] old [] job c.loop.job new c.loop.invariant.0 w.in-Again.ensures, tt)
+      | in-Rest+else-not-rest w ↦
+          subst (λ hand. HasGone fed asks tells [] (in_hand hand) job new × IfSome hand (λ h. CanDecide takes new × attempts h.0 h.1)) (sym w.hand-is)
+          (gone_on fed asks tells [] old [] job c.loop.job new c.loop.invariant.0 w.in-Rest.ensures, tt)
+    ]

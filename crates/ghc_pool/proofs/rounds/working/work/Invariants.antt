@@ -1,8 +1,9 @@
-use Rattle.ghc_pool.proofs.Words.{◌≡◌, ◌≤◌, ◌+◌, [], work_of, submits, Keeps, KeepsRoom, IsWell, most_permits}
+use Rattle.ghc_pool.proofs.Words.{HasGone}
+use Rattle.std.specs.Prelude.{IfSome, []}
+use Rattle.ghc_pool.specs.inner.Turns.{CanDecide, in_hand}
 use Rattle.ghc_pool.proofs.rounds.working.work.Given as goal
 
 abbrev pub invariant-loop : goal.invariant-loop
 invariant-loop g l =
-    Keeps [] [] l.initial.worker l.worker × KeepsRoom l.initial.worker l.worker × IsWell (g.C.Craft.fed l.craft) (g.C.Craft.asks l.craft) (work_of l.worker) × (l.share.parts ≡ 1)
-    × (l.share.amount ≡ submits l.worker.taken.items + l.spare) × (l.spare ≤ most_permits)
-    × ((start : g.row.P.Denot) → g.C.Craft.tells l.craft start l.initial.worker.taken.items l.initial.pass → g.C.Craft.tells l.craft start l.worker.taken.items l.pass)
+    HasGone (g.C.Craft.fed l.crew.craft.now) (g.C.Craft.asks l.crew.craft.now) (g.C.Craft.tells l.crew.craft.now) [] (in_hand l.hand) l.initial.job l.job
+    × IfSome l.hand (λ h. CanDecide (g.C.Craft.takes l.crew.craft.now) l.job × g.C.Craft.attempts l.crew.craft.now h.0 h.1)
