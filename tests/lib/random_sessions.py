@@ -1,9 +1,10 @@
 """Makes small programs, queries and sessions by chance, for tests/workers.py. What is made depends on the name of a case alone.
 
-In the sessions each run stands behind `goals` and `records`, and before `records` and `goals`. There are three kinds of case:
+In the sessions each run stands behind `goals` and `records`, and before `records` and `goals`. There are four kinds of case:
 
   - a flow: predicates over lists and numbers, whose goals give and take each other's values, with forks and streams. Of a goal no two
     clauses ever say yes, so whatever order the runs take, they leave the same;
+  - a table: a flow with a predicate of so many clauses that workers try them apart from each other;
   - equations, of which some clash or make a cycle: here, too, all orders leave the same where one of them leaves nothing failed;
   - a race: clauses made by chance, of which several may say yes, and which may go on without end. Its runs have limits.
 """
@@ -28,6 +29,11 @@ sort([P|X],Y,T) :- true | part(X,P,S,G), sort(S,Y,[P|M]), sort(G,M,T).
 fork(N,R) :- N > 0 | M := N - 1, fork(M,A), fork(M,B), R := A + B.
 fork(N,R) :- N =< 0 | R = 1.
 """
+TABLE = "".join(f"look({at},R) :- true | R = {at * 7 % 40}.\n" for at in range(40)) + """look(N,R) :- N < 0 | M := 0 - N, look(M,R).
+look(N,R) :- N > 39 | M := N - 40, look(M,R).
+look_all([],Y) :- true | Y = [].
+look_all([A|X],Y) :- true | look(A,B), Y = [B|Y1], look_all(X,Y1).
+"""
 FLOW_PREDICATES = ["append/3", "reverse/2", "down/2", "sum/3", "double/2", "part/4", "sort/3", "fork/2"]
 RACE_PREDICATES = {"p": 1, "q": 2, "r": 2, "s": 3}
 RACE_TESTS = ["true", "true", "integer({})", "atom({})", "list({})", "wait({})", "{} > 0", "{} =< 1"]
@@ -46,7 +52,7 @@ class Case(NamedTuple):
 
 
 def case_of(name):
-    """The case of that name: one of the three kinds, a hyphen, and a number."""
+    """The case of that name: one of the four kinds, a hyphen, and a number."""
     return KINDS[name.partition("-")[0]](name, random.Random(name))
 
 
@@ -116,17 +122,34 @@ class Flow:
         return f"{self.new(self.lists)} = {left}"
 
 
-def flow(name, chance):
+class Table(Flow):
+    """The same, and goals that look up numbers in the table."""
+
+    def goal(self):
+        """A goal of a flow, or one that looks up a number or those of a list."""
+        if self.chance.random() < 0.6:
+            return super().goal()
+        if self.chance.random() < 0.3:
+            return f"look({self.chance.choice([*self.numbers, '7', '-3', '95'])},{self.new(self.numbers)})"
+        return f"look_all({self.some_list()},{self.new(self.lists)})"
+
+
+def flow(name, chance, kind=Flow, program=FLOW, predicates=FLOW_PREDICATES):
     """A flow, with a stream in every third."""
-    goals, has_stream = Flow(chance), chance.random() < 0.3
+    goals, has_stream = kind(chance), chance.random() < 0.3
     query = [f"instream({goals.new(goals.lists)})"] if has_stream else []
     query += [goals.goal() for _ in range(chance.randint(1, 5))]
     chance.shuffle(query)
     inputs = [f"in 1 {chance.choice((-1, 2, 5, 7, 'a'))}" for _ in range(chance.randint(0, 4))] + ["end 1"] * chance.randint(0, 1)
-    whole, spied = ["leap", f"skip 0.{chance.randint(1, len(query))}"], met_later(FLOW_PREDICATES, ", ".join(query))
+    whole, spied = ["leap", f"skip 0.{chance.randint(1, len(query))}"], met_later(predicates, ", ".join(query))
     lines = runs(chance, whole, spied, [[it] for it in inputs] if has_stream else taking_back(chance))
     lines += [*(inputs if has_stream else []), "goals", "records", "leap", "records", "goals"]
-    return Case(name, FLOW, ", ".join(query), goals.given, lines, True)
+    return Case(name, program, ", ".join(query), goals.given, lines, True)
+
+
+def table(name, chance):
+    """A flow with a table."""
+    return flow(name, chance, Table, FLOW + TABLE, [*FLOW_PREDICATES, "look/2", "look_all/2"])
 
 
 def some_term(chance, variables, depth=2):
@@ -192,4 +215,4 @@ def race(name, chance):
     return Case(name, "".join(f"{it}\n" for it in clauses), query, variables, lines, False)
 
 
-KINDS = {"flow": flow, "equations": equations, "race": race}
+KINDS = {"flow": flow, "table": table, "equations": equations, "race": race}

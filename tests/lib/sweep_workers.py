@@ -17,6 +17,7 @@ MOST = 600
 WORKERS = "4"
 
 FORK = "fork(N,R) :- N > 0 | M := N - 1, fork(M,A), fork(M,B), R := A + B.\nfork(0,R) :- true | R = 1.\n"
+LOOK = "".join(f"look({at},R) :- true | R = {at + 1}.\n" for at in range(33))
 RUN = "goals;records;leap;records;goals"
 
 
@@ -50,6 +51,12 @@ SHARED = {
         "fork(2,R), fork(1,Q)",
         f"spy fork/2;{RUN};nospy fork/2;{RUN};{RUN};show R;show Q",
         ("stopped quiet\n", "", "none\n", "R = 4\n", "Q = 2\n"),
+    ),
+    "workers_look": Shared(
+        LOOK,
+        "look(3,A), look(A,B), look(B,C), look(20,D), look(D,E)",
+        f"{RUN};{RUN};{RUN};show C;show E",
+        ("stopped quiet\n", "", "none\n", "C = 6\n", "E = 22\n"),
     ),
 }
 
