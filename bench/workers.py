@@ -1,16 +1,16 @@
 #!/usr/bin/env python3
 """Times runs by several workers, and prints a table: bench/workers.py [--runs N] [--only WORD] [--workers N,N,..] [--instructions] [PROGRAM]
 
-PROGRAM is the built program, ../crates/ghcdb/out/ghcdb where none is named. Each row is one `leap`: of a program whose matching is
-heavy, and of some whose steps are light. Columns are numbers of workers (1, 2 and 4): the time by the clock, the processor time of
-all threads, and how many times faster by the clock it is than the first. The first line is about what this machine can give: runs of
-the first row by one worker each, as many side by side as the column has workers, so that they share nothing but the processors. Read
-medians of many runs: on a shared machine best times differ from them by a half. What the program takes to start is taken off; the lines of
-the steps are made and thrown away. The figure is the median of N runs (5). --only takes the rows whose name has WORD. Where there is
-`strace`, a last column tells in how many rounds the most workers made the run: each round starts one thread fewer than there are
-workers. Where there is `valgrind`, --instructions tells in place of the times how many instructions all threads took together, in
-millions; there threads take turns, so those that rest look for goals more often. Nothing here passes or fails: times depend on the
-machine, and on what else it does, so compare only what one run has measured.
+PROGRAM is the built program, ../crates/ghcdb/out/ghcdb where none is named. Each row is one `leap`: of a program whose matching is heavy,
+and of some whose steps are light. Columns are numbers of workers (1, 2 and 4): the time by the clock, the processor time of all threads,
+and how many times faster by the clock it is than the first. The first line is about what this machine can give: runs of the first row by
+one worker each, as many side by side as the column has workers, so that they share nothing but the processors. Read medians of many runs:
+on a shared machine best times differ from them by a half. What the program takes to start is taken off; the lines of the steps are made and
+thrown away. The figure is the median of N runs (5), without those during which the hypervisor gave a processor to others; the last line
+tells how many those were. --only takes the rows whose name has WORD. Where there is `strace`, a last column tells in how many rounds the
+most workers made the run: each round starts one thread fewer than there are workers. Where there is `valgrind`, --instructions tells in
+place of the times how many instructions all threads took together, in millions; there threads take turns, so those that rest look for goals
+more often. Nothing here passes or fails: times depend on the machine, and on what else it does, so compare only what one run has measured.
 """
 
 import argparse
@@ -25,6 +25,7 @@ import time
 
 HERE = os.path.dirname(os.path.abspath(__file__))
 BUILT = os.path.join(HERE, "..", "crates", "ghcdb", "out", "ghcdb")
+COUNTED = {"runs": 0, "left out": 0}
 ROWS = {
     "60 clauses of 25 places": ("looks", "looks(250), looks(250), looks(250), looks(250)"),
     "forks": ("forks", "fork(12,R)"),
@@ -39,6 +40,27 @@ def words_of(program, name, query, workers):
     return [program, os.path.join(HERE, "programs", f"{name}.ghc"), "--query", query, *options]
 
 
+def stolen():
+    """How long the hypervisor gave processors to others so far, in hundredths of a second; 0 where the system does not tell."""
+    try:
+        with open("/proc/stat", encoding="ascii") as told:
+            return int(told.readline().split()[8])
+    except (OSError, IndexError):
+        return 0
+
+
+def undisturbed(play, runs):
+    """What so many plays give, without those during which more was stolen than a hundredth of a second; all, where that leaves none."""
+    played = []
+    for _ in range(runs):
+        before = stolen()
+        played.append((play(), stolen() - before))
+    kept = [given for given, lost in played if lost <= 1] or [given for given, _ in played]
+    COUNTED["runs"] += runs
+    COUNTED["left out"] += runs - len(kept)
+    return kept
+
+
 def play(words, lines):
     """The seconds by the clock and of processor time of a session."""
     before, started = os.times(), time.monotonic()
@@ -50,8 +72,8 @@ def play(words, lines):
 
 def timed(words, runs):
     """The medians of the seconds by the clock and of processor time that a leap takes, without the start."""
-    starts = [play(words, b"") for _ in range(runs)]
-    leaps = [play(words, b"leap\n") for _ in range(runs)]
+    starts = undisturbed(lambda: play(words, b""), runs)
+    leaps = undisturbed(lambda: play(words, b"leap\n"), runs)
     return [max(0.0, statistics.median(them) - statistics.median(those)) for them, those in zip(zip(*leaps), zip(*starts))]
 
 
@@ -71,7 +93,7 @@ def most_of_machine(program, given):
     """The columns of the machine itself: how much more sessions side by side do than one does in its time."""
     words, first, line = words_of(program, *ROWS["60 clauses of 25 places"], 1), None, ""
     for copies in given.workers:
-        clock = statistics.median(side_by_side(words, copies, b"leap\n") for _ in range(given.runs))
+        clock = statistics.median(undisturbed(lambda: side_by_side(words, copies, b"leap\n"), given.runs))
         first = first or clock / copies
         line += f"{clock * 1000:>11.1f} ms{'':11}{first * copies / clock:>7.2f}"
     return line
@@ -138,6 +160,8 @@ def main():
         steps, ended = steps_of(words[0])
         rounds = rounds_of(words[-1], given.workers[-1])
         print(f"{name:28}{steps:>9,}{line}{rounds:>14}" + ("" if ended == "stopped quiet" else f"  {ended}"), flush=True)
+    if COUNTED["left out"]:
+        print(f"left out: {COUNTED['left out']} of {COUNTED['runs']} runs, during which the hypervisor took a processor")
 
 
 if __name__ == "__main__":
