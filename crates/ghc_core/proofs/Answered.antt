@@ -1,5 +1,5 @@
 -- Acts on streams have an answer.
-use Rattle.ghc_core.proofs.Words.{◌≡◌, ℕ, ◌⊎◌, List, [], ◌∷◌, map, length, refl, sym, ap, ◌∙◌, subst, inl, inr, arith, Some, Option, cases_eq, VarName, GoalName, Tree, variable, cons, nil, Goal, stream, Leads, value_at, chain, left_end, Fault, made, Act, Given as given, Closed as closed, Effect, HasEffect, IsClosed, number_limit, kept_limit, Record, World, IsFull, HasRoom, effect_once, Decided, some_decided, cases_lt, Goals, goal_cmp, In, is_some, contains_in, Contains-from_any, same_goal}
+use Rattle.ghc_core.proofs.Words.{◌≡◌, ℕ, ◌⊎◌, List, [], ◌∷◌, map, length, refl, sym, ap, ◌∙◌, subst, inl, inr, arith, Some, Option, cases_eq, VarName, GoalName, Tree, variable, cons, nil, Goal, stream, Leads, value_at, chain, left_end, Fault, made, Act, Given as given, Closed as closed, Effect, HasEffect, IsClosed, number_limit, kept_limit, Record, World, IsFull, HasRoom, effect_once, Decided, some_decided, cases_lt, Goals, In, is_some, contains_in, Contains-from_any, same_goal}
 use Rattle.std.specs.FinMap as finite
 use Rattle.std.specs.FinSet as set
 use Rattle.ghc_core.specs.Streams as streams

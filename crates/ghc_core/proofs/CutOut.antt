@@ -1,5 +1,5 @@
 -- A part of a store is cut out: what terms reach in it is there.
-use Rattle.ghc_core.proofs.Words.{ℕ, ◌≡◌, ◌⊎◌, ◌++◌, List, [], ◌∷◌, inl, inr, refl, sym, ap, ◌∙◌, subst, Option, Some, None, VarName, Tree, In, in_left, in_last, in_more, in_right}
+use Rattle.ghc_core.proofs.Words.{ℕ, ◌≡◌, ◌⊎◌, ◌++◌, List, [], ◌∷◌, inl, inr, refl, sym, ap, ◌∙◌, subst, Option, Some, None, VarName, Tree, In, in_left, in_more, in_right, Picks, picks_has}
 use Rattle.std.specs.Prelude.{◌≢◌, true, false, cond, is_some, option_copied}
 use Rattle.std.specs.Borrow.{Bor}
 use Rattle.std.specs.Ordering.{eq_by_cmp}
@@ -10,7 +10,7 @@ use Rattle.ghc_term.specs.declared.view.TermView.{TermView}
 use Rattle.ghc_term.specs.declared.view.TermView.TheVariants.{Var, Struct}
 use Rattle.ghc_term.specs.inner.Shown.{shown}
 use Rattle.ghc_term.specs.Bindings.{Reaches, here, through, with_binding, name_cmp}
-use Rattle.ghc_core.specs.inner.CutOut.{IsCutOut, IsToldOrWaits, IsCuttingOut, TakesOver, has_it, is_unbound, takes}
+use Rattle.ghc_core.specs.inner.CutOut.{IsCutOut, IsToldOrWaits, IsCuttingOut, OpenOnesWait, TakesOver, has_it, is_unbound, takes}
 
 -- what M tells as S does, M' tells so too, which has what M has and nothing that S has not
 told_on : {s m m' : Option Tree} → s ≡ m → ((u : Tree) → m ≡ Some u → m' ≡ Some u) → ((u : Tree) → m' ≡ Some u → s ≡ Some u) → s ≡ m'
@@ -46,12 +46,16 @@ pub not_bound : {m : Option Tree} (o : Option (Bor Tree)) → option_copied o �
 not_bound (Some b) e t = absurd (let clash : true ≡ false = t in cc)
 not_bound None e t = sym e
 
+-- a term in which a variable stands is among the open ones
+stands_open : (ts us : List Tree) (t : Tree) (x : VarName) → Picks (λ v. ¬ IsClosed v) ts us → In t ts → Occurs x t → In t us
+stands_open ts us t x open_ones i o = elim (picks_has ts us t open_ones i) [ inl j ↦ j | inr shut ↦ absurd (shut (λ c. c x o)) ]
+
 module _ {S M : VarName → Option Tree} {ts : List Tree} where
-  -- at the beginning the terms wait, and nothing is taken over
-  pub cut_begins : ((x : VarName) → M x ≡ None) → IsCuttingOut S M ts ts
-  cut_begins none = record {
+  -- at the beginning the open ones of the terms wait, and nothing is taken over
+  pub cut_begins : (us : List Tree) → Picks (λ t. ¬ IsClosed t) ts us → ((x : VarName) → M x ≡ None) → IsCuttingOut S M ts us
+  cut_begins us open_ones none = record {
     within = λ x u e. absurd (let clash : None ≡ Some u = sym (none x) ∙ e in cc);
-    terms = λ t x i o. inr (t, i, o);
+    terms = λ t x i o. inr (t, stands_open ts us t x open_ones i o, o);
     values = λ y u x e o. absurd (let clash : None ≡ Some u = sym (none y) ∙ e in cc);
   }
 
@@ -67,7 +71,7 @@ module _ {S M : VarName → Option Tree} {ts : List Tree} where
 -- The last term that waits is gone through: what stands in it is told now, or waits.
 module _ (S M M' : VarName → Option Tree) (ts rest after : List Tree) (w : Tree) (c : IsCuttingOut S M ts (rest ++ w ∷ []))
     (more : (x : VarName) (u : Tree) → M x ≡ Some u → M' x ≡ Some u)
-    (from : (x : VarName) (u : Tree) → M' x ≡ Some u → (M x ≡ Some u) ⊎ ((S x ≡ Some u) × In u after))
+    (from : (x : VarName) (u : Tree) → M' x ≡ Some u → (M x ≡ Some u) ⊎ ((S x ≡ Some u) × ((y : VarName) → Occurs y u → In u after)))
     (keeps : (v : Tree) → In v rest → In v after)
     (done : (x : VarName) → Occurs x w → IsToldOrWaits S M' after x) where
   within_on : (x : VarName) (u : Tree) → M' x ≡ Some u → S x ≡ Some u
@@ -81,7 +85,7 @@ module _ (S M M' : VarName → Option Tree) (ts rest after : List Tree) (w : Tre
   cut_goes_on = record {
     within = within_on;
     terms = λ t x i o. still (c.terms t x i o);
-    values = λ y u x e o. elim (from y u e) [ inl d ↦ still (c.values y u x d o) | inr d ↦ inr (u, d.1, o) ];
+    values = λ y u x e o. elim (from y u e) [ inl d ↦ still (c.values y u x d o) | inr d ↦ inr (u, d.1 x o, o) ];
   }
 
 -- A variable that is free in M gets its value from S.
@@ -93,10 +97,10 @@ module _ (S M : VarName → Option Tree) (x : VarName) (u : Tree) (free : M x �
         | false ↦ λ p. e
       ] refl
 
-  bound_from : (rest : List Tree) (y : VarName) (v : Tree) → with_binding M x u y ≡ Some v → (M y ≡ Some v) ⊎ ((S y ≡ Some v) × In v (rest ++ u ∷ []))
-  bound_from rest y v e =
-      elim (eq_by_cmp name_cmp y x) as (λ b. eq_by_cmp name_cmp y x ≡ b → cond b (Some u) (M y) ≡ Some v → (M y ≡ Some v) ⊎ ((S y ≡ Some v) × In v (rest ++ u ∷ []))) [
-        | true ↦ λ p q. let same : u ≡ v = cc in inr (ap S (same_name y x p) ∙ found ∙ q, subst (λ z. In z (rest ++ u ∷ [])) same (in_last rest u))
+  bound_from : (rest us : List Tree) → Picks (λ t. ¬ IsClosed t) (u ∷ []) us → (y : VarName) (v : Tree) → with_binding M x u y ≡ Some v → (M y ≡ Some v) ⊎ ((S y ≡ Some v) × ((z : VarName) → Occurs z v → In v (rest ++ us)))
+  bound_from rest us open_ones y v e =
+      elim (eq_by_cmp name_cmp y x) as (λ b. eq_by_cmp name_cmp y x ≡ b → cond b (Some u) (M y) ≡ Some v → (M y ≡ Some v) ⊎ ((S y ≡ Some v) × ((z : VarName) → Occurs z v → In v (rest ++ us)))) [
+        | true ↦ λ p q. let same : u ≡ v = cc in inr (ap S (same_name y x p) ∙ found ∙ q, λ z o. in_right rest us v (stands_open (u ∷ []) us v z open_ones (inl (sym same)) o))
         | false ↦ λ p q. inl q
       ] refl e
 
@@ -109,15 +113,17 @@ module _ (S : VarName → Option Tree) (ts rest : List Tree) where
   pub passed : (M : VarName → Option Tree) (w : Tree) → IsCuttingOut S M ts (rest ++ w ∷ []) → ((x : VarName) → Occurs x w → S x ≡ M x) → IsCuttingOut S M ts rest
   passed M w c told = cut_goes_on S M M ts rest rest w c (λ x u e. e) (λ x u e. inl e) (λ v i. i) (λ x o. inl (told x o))
 
-  -- the arguments wait in its place
-  pub opened : (M : VarName → Option Tree) (f : List ℕ) (us : List Tree) → IsCuttingOut S M ts (rest ++ node f (trees us) ∷ []) → IsCuttingOut S M ts (rest ++ us)
-  opened M f us c =
-      cut_goes_on S M M ts rest (rest ++ us) (node f (trees us)) c (λ x u e. e) (λ x u e. inl e) (λ v i. in_left rest us v i)
-      (λ x o. let p = occurs_among us x o in inr (p.0, in_right rest us p.0 p.1, p.2))
+  -- the arguments wait in its place, but for closed ones
+  pub opened : (M : VarName → Option Tree) (f : List ℕ) (us after : List Tree) → OpenOnesWait us rest after → IsCuttingOut S M ts (rest ++ node f (trees us) ∷ []) → IsCuttingOut S M ts after
+  opened M f us after (vs, open_ones, is) c =
+      subst (IsCuttingOut S M ts) (sym is)
+      (cut_goes_on S M M ts rest (rest ++ vs) (node f (trees us)) c (λ x u e. e) (λ x u e. inl e) (λ v i. in_left rest vs v i)
+      (λ x o. let p = occurs_among us x o in inr (p.0, in_right rest vs p.0 (stands_open us vs p.0 x open_ones p.1 p.2), p.2)))
 
   pub taken_over : (M : VarName → Option Tree) (x : VarName) (M' : VarName → Option Tree) (after : List Tree) → TakesOver S x M M' rest after → IsCuttingOut S M ts (rest ++ variable x ∷ []) → IsCuttingOut S M' ts after
   taken_over M x M' after (has_it {u = u} e) c = passed M (variable x) c (λ y o. subst (λ z. S z ≡ M z) (sym o) (c.within x u e ∙ sym e))
   taken_over M x M' after (is_unbound e d) c = passed M (variable x) c (λ y o. subst (λ z. S z ≡ M z) (sym o) (d ∙ sym e))
-  taken_over M x M' after (takes {u = u} e d) c =
-      cut_goes_on S M (with_binding M x u) ts rest (rest ++ u ∷ []) (variable x) c (bound_on S M x u e d) (bound_from S M x u e d rest) (λ v i. in_left rest (u ∷ []) v i)
-      (λ y o. inl (told_there S M x u e d y o))
+  taken_over M x M' after (takes {u = u} e d (us, open_ones, is)) c =
+      subst (IsCuttingOut S (with_binding M x u) ts) (sym is)
+      (cut_goes_on S M (with_binding M x u) ts rest (rest ++ us) (variable x) c (bound_on S M x u e d) (bound_from S M x u e d rest us open_ones) (λ v i. in_left rest us v i)
+      (λ y o. inl (told_there S M x u e d y o)))

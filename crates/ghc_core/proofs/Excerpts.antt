@@ -1,5 +1,5 @@
 -- What is answered of an excerpt is answered in its world.
-use Rattle.ghc_core.proofs.Words.{ℕ, ◌≡◌, List, inl, inr, sym, ap, ◌∙◌, subst, Option, Some, None, VarName, Tree, GoalName, Goal, Goals, StoreValue, value_at, World}
+use Rattle.ghc_core.proofs.Words.{ℕ, ◌≡◌, List, inl, inr, sym, ◌∙◌, subst, Option, Some, None, VarName, Tree, GoalName, Goal, Goals, StoreValue, value_at, World}
 use Rattle.std.specs.FinMap as finite
 use Rattle.std.specs.declared.result.Result.{Result}
 use Rattle.std.specs.declared.result.Result.TheVariants.{Ok, Err}
@@ -8,7 +8,7 @@ use Rattle.ghc_term.specs.Answered.{Answered}
 use Rattle.ghc_term.specs.Goal.{call}
 use Rattle.ghc_flat.specs.Clause.{Program}
 use Rattle.ghc_match.specs.Looked.{GoalLooksAt}
-use Rattle.ghc_fire.specs.Attempt.{Answer, proposes, refused, Attempts, CallAnswers}
+use Rattle.ghc_fire.specs.Attempt.{Answer, proposes, refused, Attempts}
 use Rattle.ghc_fire.specs.Attempted.{AttemptsAt, IsProposed}
 use Rattle.ghc_fire.specs.Proposal.{Proposal}
 use Rattle.ghc_fire.proofs.Tries.{attempt_there}
@@ -21,23 +21,7 @@ use Rattle.ghc_match.proofs.LooksAtArguments.{call_looks}
 pub cut_tells : (P : Program) (S M : VarName → Option Tree) (f : List ℕ) (ts : List Tree) → IsCutOut S M ts → (x : VarName) → GoalLooksAt P M (call f ts) x → S x ≡ M x
 cut_tells P S M f ts cut x l = let r = call_looks P f ts x l in cut r.0 x r.1 r.2
 
--- a call is never refused as no goal, or as one without such a clause
-never_no_goal : {n : ℕ} {P : Program} {f : List ℕ} {ts : List Tree} {S : VarName → Option Tree} → CallAnswers n P f ts S (refused Fault.NoGoal) → ⊥
-never_no_goal a = elim a [ ]
-
-never_no_clause : {n : ℕ} {P : Program} {f : List ℕ} {ts : List Tree} {S : VarName → Option Tree} → CallAnswers n P f ts S (refused Fault.NoClause) → ⊥
-never_no_clause a = elim a [ ]
-
 module _ (w : World) (g : GoalName) (P : Program) (b : Goal) (M : VarName → Option Tree) (e : IsExcerpt w g P b M) where
-  as_call : (a : Answer) → AttemptAnswers w g None a → Attempts w.opening.program (value_at w.state.store) (Some (call e.called.0 e.called.1)) None a
-  as_call a h = subst (λ o. Attempts w.opening.program (value_at w.state.store) o None a) (e.there ∙ ap Some e.called.2) h
-
-  pub is_goal : AttemptAnswers w g None (refused Fault.NoGoal) → ⊥
-  is_goal h = never_no_goal (as_call (refused Fault.NoGoal) h)
-
-  pub has_no_choice : AttemptAnswers w g None (refused Fault.NoClause) → ⊥
-  has_no_choice h = never_no_clause (as_call (refused Fault.NoClause) h)
-
   module _ (G : Goals) (m : StoreValue) (here : finite.get G g ≡ Some b) (same : value_at m ≡ M) where
     there : (a : Answer) → AttemptsAt P G m g None a → AttemptAnswers w g None a
     there a h =

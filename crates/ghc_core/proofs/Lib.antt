@@ -47,5 +47,7 @@ pub mod ResumedOnce
 pub mod ResumeSteps
 pub mod ToldResumed
 pub mod CutOut
+pub mod GoingThrough
+pub mod Worth
 pub mod Excerpts
 mod Words

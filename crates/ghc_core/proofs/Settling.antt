@@ -1,5 +1,5 @@
 -- Goals are tried and noted one after another.
-use Rattle.ghc_core.proofs.Words.{◌≡◌, ℕ, zero, suc, ◌+◌, ◌-◌, ◌<◌, ◌≤◌, List, false, cond, refl, ap, ◌∙◌, arith, Some, None, IsTrue, GoalName, Goal, StoreValue, value_at, Program, is_stream, goal_cmp, Goals, tried, Meter, goal_total, goal_antisymmetric, GoalNames, Note, NotesByGoal, IsExact, AreExact, goal_itself, goal_cases, goal_taken, put_here, put_elsewhere, World, IsConsistent, AreExactIn, tells, IsNoteOf, AreKept, IsNoted, AreNoted, tried_often, by_option}
+use Rattle.ghc_core.proofs.Words.{◌≡◌, ℕ, zero, suc, ◌+◌, ◌-◌, ◌<◌, List, false, cond, refl, ap, ◌∙◌, arith, Some, None, IsTrue, GoalName, Goal, StoreValue, value_at, Program, is_stream, goal_cmp, Goals, tried, Meter, goal_total, goal_antisymmetric, GoalNames, Note, NotesByGoal, IsExact, AreExact, goal_itself, goal_cases, goal_taken, put_here, put_elsewhere, World, IsConsistent, AreExactIn, tells, IsNoteOf, AreKept, IsNoted, AreNoted, tried_often, by_option}
 use Rattle.std.specs.FinMap as finite
 use Rattle.std.specs.FinSet as set
 use Rattle.ghc_term.proofs.ListsLemmas.{not_both}

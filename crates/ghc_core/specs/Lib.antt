@@ -25,6 +25,7 @@ pub mod EventCode
 pub mod Playing
 pub mod Anyway
 pub mod Counting
+pub mod GoneThrough
 pub mod Excerpt
 pub mod Meets
 pub mod Resume

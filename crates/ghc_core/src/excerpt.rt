@@ -1,11 +1,13 @@
 // What an attempt at a call reads of a core, so that it is made apart from the core.
-ghost use Rattle.std.specs.Prelude.{◌≡◌, ◌++◌, map, None, Err, IfOk, IfSome, OnOk};
+ghost use Rattle.std.specs.Prelude.{◌≡◌, map, None, Err, IfOk, MatchOption, OnOk};
 ghost use Rattle.ghc_term.specs.Answered.{Answered};
 ghost use Rattle.ghc_term.specs.Store.{value_at};
 ghost use Rattle.ghc_fire.specs.Attempt.{refused};
 ghost use Rattle.ghc_core.specs.Core.{IsStanding};
+ghost use Rattle.ghc_core.specs.Excerpt.{GivesExcerpt};
 ghost use Rattle.ghc_core.specs.Proposes.{AttemptAnswers, IsProposedIn};
-ghost use Rattle.ghc_core.specs.inner.CutOut.{IsCutOut, TakesOver};
+ghost use Rattle.ghc_core.specs.GoneThrough.{ReachFew};
+ghost use Rattle.ghc_core.specs.inner.CutOut.{IsCutOut, OpenOnesWait, TakesOver};
 
 use crate::core_state::Core;
 use ghc_fire::{Goals, MadeGoal, Meter, Proposal, attempt};
@@ -13,6 +15,7 @@ use ghc_flat::Program;
 use ghc_term::{Fault, GoalName, GoalView, Store, Term, TermView, VarName};
 use std::alloc::{AllocError, Global};
 use std::marker::Model;
+use std::slice;
 use std::snapshot::Snapshot;
 use std::sync::Arc;
 
@@ -58,17 +61,19 @@ impl Model for Excerpt {
     ghost invariant = { λ e. IsExcerpt e.about.value.world e.name e.program.value e.goal (value_at e.store.held) };
 }
 
-// Adds the terms to those that wait.
+// Adds the terms to those that wait, but for closed ones.
 fn push_all<'a>(terms: &'a [Term], waiting: &mut Vec<&'a Term>) -> Result<(), AllocError>
-    ensures { OnOk result (map (λ t. t.now) waiting.new.items ≡ map (λ t. t.now) waiting.old.items ++ terms.now) }
+    ensures { OnOk result (OpenOnesWait terms.now (map (λ t. t.now) waiting.old.items) (map (λ t. t.now) waiting.new.items)) }
 {
     for term in terms {
-        waiting.push(term)?;
+        if !term.is_closed() {
+            waiting.push(term)?;
+        }
     }
     Ok(())
 }
 
-// Takes over what the variable is bound to, if it is bound and was not taken over before; then its value waits.
+// Takes over what the variable is bound to, if it is bound and was not taken over before; then its value waits, if it is not closed.
 fn take_over<'a>(
     store: &'a Store,
     x: VarName,
@@ -86,14 +91,14 @@ fn take_over<'a>(
     let Ok(()) = cut.bind(x, value.share()?) else {
         return Err(AllocError);
     };
-    waiting.push(value)?;
+    push_all(slice::from_ref(value), waiting)?;
     Ok(())
 }
 
-// The part of the store that the terms reach; nothing where more terms than may be are to be gone through. It goes by a loop, past what
-// is closed as written, and costs a look-up or two for each variable.
+// The part of the store that the terms reach; nothing where more than 64 terms are to be gone through. It goes by a loop, past what is
+// closed as written, and costs a look-up or two for each variable.
 fn cut_out(alloc: Global, store: &Store, terms: &[Term]) -> Result<Option<Store>, AllocError>
-    ensures { IfOk result (λ found. IfSome found (λ cut. IsCutOut (value_at store.now.held) (value_at cut.held) terms.now)) }
+    ensures { IfOk result (λ found. MatchOption found (¬ ReachFew (value_at store.now.held) terms.now) (λ cut. IsCutOut (value_at store.now.held) (value_at cut.held) terms.now)) }
 {
     let mut cut = Store::new(alloc);
     let mut waiting = Vec::new(alloc);
@@ -102,24 +107,26 @@ fn cut_out(alloc: Global, store: &Store, terms: &[Term]) -> Result<Option<Store>
         let Some(term) = waiting.pop() else {
             return Ok(Some(cut));
         };
-        if term.is_closed() {
-            continue;
-        }
         match term.view() {
             TermView::Var(x) => take_over(store, x, &mut cut, &mut waiting)?,
             TermView::Struct(_, arguments) => push_all(arguments, &mut waiting)?,
             _ => {}
         }
     }
+    if waiting.is_empty() {
+        return Ok(Some(cut));
+    }
     Ok(None)
 }
 
 impl Core {
     /// What an attempt at the goal of this name reads, where that is a call for which the program has more than 32 clauses, and which
-    /// reaches few terms; nothing else. It fails only where memory is refused. It costs some look-ups, and one or two for each
-    /// variable that the call reaches.
+    /// reaches few terms. It gives nothing only where there is no such goal; where it is no call; where the program has 32 clauses for it
+    /// at most; or where more than 64 terms are gone through for it. These are its arguments and theirs, and the values of variables, each
+    /// as often as it stands there; none is closed as written, since nothing is looked up at such a term. It fails only where memory is
+    /// refused. It costs some look-ups, one or two for each of 64 variables at most, and no memory for arguments that are closed.
     pub fn excerpt(&self, alloc: Global, name: GoalName) -> Result<Option<Excerpt>, AllocError>
-        ensures { IfOk result (λ found. IfSome found (λ e. (e.world ≡ self.now.world) × (e.goal ≡ name))) }
+        ensures { IfOk result (GivesExcerpt self.now.world name) }
     {
         self.stands();
         let Some(goal) = self.state.goals().handle(name) else {

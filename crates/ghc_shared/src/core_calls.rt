@@ -1,5 +1,5 @@
 // The calls of a shared core.
-ghost use Rattle.std.specs.Prelude.{◌≡◌, ◌≤◌, ◌↔◌, List, length, IsTrue, IfOk, IfErr, IfSome, OnOk, OnErr, None, Err};
+ghost use Rattle.std.specs.Prelude.{◌≡◌, ◌≤◌, ◌↔◌, List, length, IsTrue, IfOk, IfErr, OnOk, OnErr, None, Err};
 ghost use mathlib.Core.List.{IsPrefix};
 ghost use Rattle.ghc_fire.specs.Meter.{fired, one_more};
 ghost use Rattle.ghc_records.specs.Journal.{Item, Opening};
@@ -7,6 +7,7 @@ ghost use Rattle.ghc_core.specs.World.{World, no_hands};
 ghost use Rattle.ghc_core.specs.Events.{commit as committed, note as noted, command as commanded};
 ghost use Rattle.ghc_core.specs.Legal.{IsLegal, IsAnswered, Shows};
 ghost use Rattle.ghc_core.specs.CommandCode.{command_of};
+ghost use Rattle.ghc_core.specs.Excerpt.{GivesExcerpt};
 ghost use Rattle.ghc_shared.specs.declared.calls.Call.TheVariants.{Submit as submitted, Note as asked_note, Command as asked};
 ghost use Rattle.ghc_shared.specs.Passes.{submits_after};
 ghost use Rattle.ghc_shared.specs.Receipts.{IsDecided};
@@ -115,15 +116,16 @@ impl<N: Naming> Shared<Core, N> {
     }
 
     /// What an attempt at the goal reads, where that is a call for which the program has more than 32 clauses and which reaches few
-    /// terms; nothing else. An attempt at it is made apart, while others hold the lock. It takes one holding of the read side, and
-    /// costs what the excerpt of a core costs. It fails only where memory is refused.
+    /// terms. It gives nothing only where a core gives none: where there is no such goal, it is no call, the program has 32 clauses for it
+    /// at most, or more than 64 terms are gone through for it. An attempt at it is made apart, while others hold the lock. It takes one
+    /// holding of the read side, and costs what the excerpt of a core costs. It fails only where memory is refused.
     pub fn excerpt<R: Wait>(
         &self,
         rt: &R,
         alloc: Global,
         goal: GoalName,
     ) -> Result<Option<Excerpt>, AllocError>
-        ensures { IfOk result (λ found. IfSome found (λ e. (code_of e.world.opening ≡ N.opened) × (e.goal ≡ goal))) }
+        ensures { (w : World) × (code_of w.opening ≡ N.opened) × IfOk result (GivesExcerpt w goal) }
     {
         let held = self.lock.read(rt);
         held.value.excerpt(alloc, goal)

@@ -4,9 +4,8 @@ use Rattle.std.specs.FinMap as finite
 use Rattle.std.specs.Prelude.{option_copied}
 use Rattle.ghc_term.proofs.Names.{name_total}
 use Rattle.ghc_term.proofs.Merged.{by_answers}
-use Rattle.ghc_term.proofs.Searching.{popped}
 use Rattle.ghc_term.specs.Bindings.{with_binding}
-use Rattle.ghc_core.specs.inner.CutOut.{TakesOver, is_unbound, takes}
+use Rattle.ghc_core.specs.inner.CutOut.{OpenOnesWait, TakesOver, is_unbound, takes}
 use Rattle.ghc_core.proofs.CutOut.{is_bound, not_bound}
 use Rattle.ghc_core.proofs.excerpt.take_over.Goals as goal
 
@@ -25,10 +24,9 @@ returns c =
     let u = c.in-Some.value.now in
     let same : finite.insert m x c.in_ok-share.field-0 ≡ finite.insert m x u = ap (finite.insert m x) c.in_ok-share.ensures in
     let bound : value_at c.bind.new.self.held ≡ with_binding (value_at m) x u = ap value_at (c.in-Ok.ensures.ok ∙ same) ∙ by_answers (λ y. finite.get-insert name_total m x u y) in
-    let waits = popped _ _ c.in-Some.value c.in_ok-push.ensures.items in
     let free = not_bound c.get.result c.get.ensures (sym c.is_some.ensures ∙ c.if-is_some.false) in
     let found : S x ≡ Some u = sym c.get-2.ensures ∙ ap option_copied c.in-Some.is in
     let now = map (λ (b : Bor Tree). b.now) in
     let old = now c.args.waiting.now.items in
-    let new = now c.push.new.self.items in
-    subst (λ M'. TakesOver S x (value_at m) M' old new) (sym bound) (subst (λ l. TakesOver S x (value_at m) (with_binding (value_at m) x u) old l) (sym waits) (takes free found))
+    let new = now c.push_all.new.waiting.items in
+    subst (λ M'. TakesOver S x (value_at m) M' old new) (sym bound) (takes free found (subst (λ l. OpenOnesWait l old new) c.from_ref.ensures.value c.in_ok-push_all.ensures))

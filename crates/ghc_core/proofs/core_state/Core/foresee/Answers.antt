@@ -1,4 +1,4 @@
-use Rattle.ghc_core.proofs.Words.{◌≡◌, ◌∙◌, ap, sym, refl, Err}
+use Rattle.ghc_core.proofs.Words.{refl}
 use Rattle.ghc_core.proofs.AskedGoals.{ask_told}
 use Rattle.ghc_core.proofs.core_state.Core.foresee.Goals as goal
 

@@ -6,7 +6,7 @@ use Rattle.ghc_fire.specs.Attempted.{AttemptsAt, IsProposed}
 use Rattle.ghc_core.specs.Proposes.{AttemptAnswers, IsProposedIn}
 use Rattle.std.specs.FinMap as finite
 use Rattle.ghc_core.specs.Excerpt.{Excerpt}
-use Rattle.ghc_core.proofs.Excerpts.{is_goal, has_no_choice, answered_there}
+use Rattle.ghc_core.proofs.Excerpts.{answered_there}
 use Rattle.ghc_core.proofs.excerpt.Excerpt.attempt.Goals as goal
 
 pub returns-in_err-reserve-clause-standing : goal.returns-in_err-reserve-clause-standing
