@@ -41,7 +41,7 @@ keeps_after a b c u v w p q = record {
 }
 
 pub nothing_after : {u v w : Worker} → DidNothing u v → DidNothing v w → DidNothing u w
-nothing_after p q = record { offered = q.offered ∙ p.offered; taken = q.taken ∙ p.taken; left = q.left ∙ p.left; stop = q.stop ∙ p.stop; put = q.put ∙ p.put }
+nothing_after p q = record { offered = q.offered ∙ p.offered; taken = q.taken ∙ p.taken; more = omega (arith, p.more, q.more); left = q.left ∙ p.left; stop = q.stop ∙ p.stop; put = q.put ∙ p.put }
 
 -- the worker, with another victim at the place
 abbrev pub with_victim : Worker → ℕ → Victim → Worker

@@ -1,4 +1,6 @@
 // Answers to names that a round took, and why a round stops.
+ghost use Rattle.std.specs.Prelude.{◌≡◌};
+ghost use Rattle.ghc_pool.specs.inner.Stops.{joined};
 
 use ghc_core::Reply;
 use ghc_shared::Receipt;
@@ -54,4 +56,17 @@ pub struct Work {
     pub taken: Vec<(GoalName, Answer)>,
     pub left: Vec<GoalName>,
     pub stop: Option<RoundStop>,
+}
+
+// The stop for memory, if it is one of the two; else the first, if there is one, and else the second.
+pub(crate) fn joined(first: Option<RoundStop>, second: Option<RoundStop>) -> Option<RoundStop>
+    ensures { result ≡ joined first second }
+{
+    match first {
+        None => second,
+        Some(_) => match second {
+            Some(RoundStop::Memory) => second,
+            _ => first,
+        },
+    }
 }

@@ -75,5 +75,6 @@ pub trait Craft<P> {
         requires { IfSome attempt (λ a. attempts self.now name a) }
         ensures tells { (start : P) (taken : List Taken) → tells self.now start taken pass.old → tells self.now start (taken ++ (name, result.answer) ∷ []) pass.new }
         ensures submits { submits_in result.answer ≤ one_if (takes self.now) }
+        ensures still { (taken : List Taken) (stop : round_stop) → asks self.now taken stop → asks self.now (taken ++ (name, result.answer) ∷ []) stop }
         ensures reason { (taken : List Taken) → fed self.now taken → IsReason (fed self.now) (asks self.now) result.stop (taken ++ (name, result.answer) ∷ []) };
 }

@@ -2,6 +2,7 @@
 pub(crate) mod budget;
 pub(crate) mod draining;
 pub(crate) mod gathering;
+pub(crate) mod hand;
 pub(crate) mod looking;
 pub(crate) mod opening;
 pub(crate) mod permits;

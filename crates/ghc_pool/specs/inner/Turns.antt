@@ -1,31 +1,42 @@
--- What a worker does in a turn, and what it has in hand after it.
-use Rattle.std.specs.Prelude.{◌≡◌, ◌<◌, Bool, true, List, [], ◌∷◌, Option, Some, None, Result}
+-- What a worker has in hand between its turns.
+use Rattle.std.specs.Prelude.{◌≡◌, ◌≤◌, ◌++◌, Bool, true, List, [], ◌∷◌, length, Option, None, Some, Result}
 use Rattle.ghc_term.specs.declared.goal_name.GoalName.{GoalName}
 use Rattle.ghc_term.specs.declared.fault.Fault.{Fault}
 use Rattle.ghc_core.specs.World.{Proposal}
-use Rattle.ghc_core.specs.Excerpt.{Excerpt}
-use Rattle.ghc_pool.specs.declared.answer.RoundStop.{RoundStop}
+use Rattle.ghc_core.specs.Excerpt as core
+use Rattle.ghc_pool.specs.declared.rounds.hand.Apart.{Apart}
+use Rattle.ghc_pool.specs.declared.rounds.hand.Apart.TheVariants.{Excerpt, Attempt}
+use Rattle.ghc_pool.specs.declared.rounds.hand.InHand.{InHand}
 use Rattle.ghc_pool.specs.declared.rounds.working.Job.{Job}
-use Rattle.ghc_pool.specs.declared.rounds.working.Next.{Next}
-use Rattle.ghc_pool.specs.declared.rounds.working.Next.TheVariants.{Attempt, Again, Rest, End}
-use Rattle.ghc_pool.specs.inner.Answers.{Taken}
-use Rattle.ghc_pool.specs.inner.Opened.{HasGone}
 use Rattle.ghc_pool.specs.inner.Workers.{HasRoomToAnswer}
 
--- The worker can decide a name: where steps are taken it has a permit, there is room for the answer, and nothing stopped it.
-pub record CanDecide {P L : Type 0} (takes : Bool) (j : Job P L) : Type 0 where
-  pub permit : takes ≡ true → 0 < j.spare
-  pub room : HasRoomToAnswer j.worker
-  pub none : j.worker.stop ≡ None
+-- the names in hand
+abbrev pub names_in : List InHand → List GoalName
+names_in [] = []
+names_in (x ∷ xs) = x.name ∷ names_in xs
 
--- the name in hand, if there is one
-abbrev pub in_hand : Option (GoalName × Result Proposal Fault) → List GoalName
-in_hand None = []
-in_hand (Some h) = h.0 ∷ []
+-- what the attempt answered, if it was made
+abbrev pub attempted : Apart → Option (Result Proposal Fault)
+attempted (Excerpt e) = None
+attempted (Attempt a) = Some a
 
--- The worker went on from the names in hand. It has none now; or it has the one for which an attempt is to be made of this excerpt, and can decide it then.
-abbrev pub IsNext : {P L : Type 0} → (List Taken → Type 0) → (List Taken → RoundStop → Type 0) → (P → List Taken → P → Type 0) → Bool → (GoalName → Excerpt → Type 0) → List GoalName → Next → Job P L → Job P L → Type 0
-IsNext fed asks tells takes excerpts hand (Attempt g e) old new = HasGone fed asks tells hand (g ∷ []) old new × CanDecide takes new × excerpts g e
-IsNext fed asks tells takes excerpts hand Again old new = HasGone fed asks tells hand [] old new
-IsNext fed asks tells takes excerpts hand Rest old new = HasGone fed asks tells hand [] old new
-IsNext fed asks tells takes excerpts hand End old new = HasGone fed asks tells hand [] old new
+module _ (excerpts : GoalName → core.Excerpt → Type 0) (attempts : GoalName → Result Proposal Fault → Type 0) where
+  -- What of the name is made apart is an excerpt of its goal, or what an attempt at it answered.
+  abbrev pub IsApart : GoalName → Apart → Type 0
+  IsApart g (Excerpt e) = excerpts g e
+  IsApart g (Attempt a) = attempts g a
+
+  -- Each is so.
+  abbrev pub AreApart : List InHand → Type 0
+  AreApart [] = Unit {0}
+  AreApart (x ∷ xs) = IsApart x.name x.apart × AreApart xs
+
+  -- The name came into the hand, with what of it is made apart.
+  abbrev pub HasAdded : GoalName → List InHand → List InHand → Type 0
+  HasAdded g old new = (x : InHand) × (new ≡ old ++ x ∷ []) × (x.name ≡ g) × IsApart x.name x.apart
+
+  -- The worker can decide each name that it has in hand: where steps are taken it has a permit for each, and there is room for the answers.
+  pub record CanDecide {P L : Type 0} (takes : Bool) (hand : List InHand) (j : Job P L) : Type 0 where
+    pub permit : takes ≡ true → length hand ≤ j.spare
+    pub room : HasRoomToAnswer (length hand) j.worker
+    pub apart : AreApart hand

@@ -80,9 +80,9 @@ pub record IsAble (w : Worker) : Type 0 where
 abbrev pub HasRoom : ℕ → Worker → Type 0
 HasRoom but w = vec_len w.left + (length (worker_view w.owner).put + 1) ≤ vec_capacity w.left + but
 
--- There is room for an answer.
-abbrev pub HasRoomToAnswer : Worker → Type 0
-HasRoomToAnswer w = vec_len w.taken < vec_capacity w.taken
+-- There is room for so many answers.
+abbrev pub HasRoomToAnswer : ℕ → Worker → Type 0
+HasRoomToAnswer n w = vec_len w.taken + n ≤ vec_capacity w.taken
 
 -- There is room to offer so many names, and to leave them.
 abbrev pub HasRoomToOffer : ℕ → Worker → Type 0
@@ -111,10 +111,11 @@ pub record Keeps (before after : List GoalName) (old new : Worker) : Type 0 wher
   pub others : deques new.victims.items ≡ deques old.victims.items
   pub begins : IsPrefix old.offered.items new.offered.items
 
--- The worker answered nothing, left nothing, and offered nothing.
+-- The worker answered nothing, left nothing, and offered nothing; it may have more room for answers.
 pub record DidNothing (old new : Worker) : Type 0 where
   pub offered : new.offered ≡ old.offered
   pub taken : new.taken.items ≡ old.taken.items
+  pub more : vec_capacity old.taken ≤ vec_capacity new.taken
   pub left : new.left ≡ old.left
   pub stop : new.stop ≡ old.stop
   pub put : (worker_view new.owner).put ≡ (worker_view old.owner).put
@@ -125,7 +126,7 @@ IsOfferedOrStopped old new = ((new.left.items ≡ old.left.items) × (new.stop �
 
 -- what a look for a name leaves
 abbrev pub IsFound : Found → Worker → Worker → Type 0
-IsFound (name x) old new = Keeps [] (x ∷ []) old new × HasRoomToAnswer new
+IsFound (name x) old new = Keeps [] (x ∷ []) old new
 IsFound again old new = Keeps [] [] old new
 IsFound nothing old new = Keeps [] [] old new
 

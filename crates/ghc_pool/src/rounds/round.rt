@@ -71,13 +71,14 @@ fn manner<N: Naming, R: Wait, G: Gate>(rt: &R, shared: &Shared<Core, N>, gate: &
 /// and the goals that their steps make or wake. The first offers first what is handed in. Where steps are taken, a worker proposes and
 /// submits a step of each name in the scope, unless the goal is a call of a spied predicate. Where nothing is spied, and the gate holds
 /// nobody up, it does both at once: under one holding of the lock, with one attempt. No such step is stale. But the attempt at a call
-/// for which the program has more than 32 clauses is made of an excerpt, with no lock held. It notes a name that is not in the scope or is spied, or of which no step could be proposed. Where no steps are
-/// taken it notes each name. However names are weighed, what was offered is what was taken and what was left. Each that was taken
-/// has an answer that is a receipt in what its worker's pass has seen. Each step that a pass has made is one of these answers, and
-/// stands at the place of its receipt. Each submit, accepted or not, has its answer, and all workers together make at most as many
-/// as the limit allows. Where there is no reason to stop, nothing is left. Where a worker has one, the others end with what they have
-/// in hand. Where memory is refused for the room that the round needs, nothing is offered, and the passes come back as they were.
-/// They always come back in their order.
+/// for which the program has more than 32 clauses, and which reaches few variables, is made of an excerpt, with no lock held; of eight
+/// such calls at most before the worker submits them. It notes a name that is not in the scope or is spied, or of which no step could
+/// be proposed. Where no steps are taken it notes each name. However names are weighed, what was offered is what was taken and what was
+/// left. Each that was taken has an answer that is a receipt in what its worker's pass has seen. Each step that a pass has made is one
+/// of these answers, and stands at the place of its receipt. Each submit, accepted or not, has its answer, and all workers together make
+/// at most as many as the limit allows. Where there is no reason to stop, nothing is left. Where a worker has one, it and the others
+/// end with what they have in hand. Where memory is refused for the room that the round needs, nothing is offered, and the passes come
+/// back as they were. They always come back in their order.
 pub fn round<'a, N: Naming + Send + Sync, R: Threads + Wait + Sync, G: Gate + Sync>(
     rt: &'a R,
     alloc: Global,

@@ -10,7 +10,7 @@ ghost use Rattle.ghc_pool.specs.inner.Stops.{joined, AreWell, AreJudged};
 ghost use Rattle.ghc_pool.specs.inner.Opened.{AreStarting, AreCounted, AreJobs, workers_in, passes_in};
 ghost use Rattle.ghc_pool.specs.inner.Gathered.{AreReady, HaveParts, HaveGivenBack, AreTold, FirstBegins, own_deques, all_victims};
 
-use crate::answer::RoundStop;
+use crate::answer::{RoundStop, joined};
 use crate::craft::Craft;
 use crate::rounds::budget::{Budget, Limited};
 use crate::rounds::draining::drain_all;
@@ -101,19 +101,6 @@ fn dismiss<P: Drop, L: Limited>(
     unused
 }
 
-// The stop for memory, if it is one of the two; else the first, if there is one, and else the second.
-fn joined(first: Option<RoundStop>, second: Option<RoundStop>) -> Option<RoundStop>
-    ensures { result ≡ joined first second }
-{
-    match first {
-        None => second,
-        Some(_) => match second {
-            Some(RoundStop::Memory) => second,
-            _ => first,
-        },
-    }
-}
-
 // The reason for which the first of the workers stopped, or that memory was refused to one of them; or that none stopped.
 fn first_stop<P, C: Craft<P>>(craft: &C, workers: &Vec<Worker>) -> Option<RoundStop>
     requires { AreWell (C.fed craft.now) (C.asks craft.now) (works workers.now.items) }
@@ -167,6 +154,7 @@ fn finish<P, C: Craft<P>, L: Limited, R: Wait>(
 // The workers work, each in a thread of its own.
 fn work_in_threads<P: Send, C: Craft<P> + Sync, L: Limited + Send + Sync, R: Threads + Wait + Sync>(
     rt: &R,
+    alloc: Global,
     craft: &C,
     budget: Budget<L>,
     jobs: &mut Vec<Job<P, L>>,
@@ -184,6 +172,7 @@ fn work_in_threads<P: Send, C: Craft<P> + Sync, L: Limited + Send + Sync, R: Thr
     let door = Mutex::new(());
     let crew = Crew {
         rt,
+        alloc,
         craft,
         budget: &budget,
         halted: &halted,
@@ -269,7 +258,7 @@ pub fn work_together<
     }
     let (made, mut share) = blank.open::<L>();
     hire(craft, hired, &mut passes, &mut share, &mut jobs);
-    let budget = work_in_threads(rt, craft, Budget::new(limit, made), &mut jobs);
+    let budget = work_in_threads(rt, alloc, craft, Budget::new(limit, made), &mut jobs);
     let stop = conclude(
         rt,
         alloc,

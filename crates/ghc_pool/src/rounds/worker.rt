@@ -2,9 +2,12 @@
 ghost use Rattle.std.specs.Prelude.{◌≡◌, ◌≤◌, ◌+◌, ◌<◌, ◌++◌, [], ◌∷◌, length};
 ghost use Rattle.std.specs.Vec.{vec_capacity, vec_len};
 ghost use Rattle.crossbeam_deque.specs.Handles.{worker_view};
+ghost use Rattle.ghc_term.specs.declared.goal_name.GoalName.{GoalName as goal_name};
+ghost use Rattle.ghc_pool.specs.declared.rounds.worker.Found.TheVariants.{Name as name_found};
+ghost use Rattle.ghc_pool.specs.inner.Stops.{joined};
 ghost use Rattle.ghc_pool.specs.inner.Workers.{IsAble, HasRoomToAnswer, HasRoomToOffer, IsFound, Keeps, KeepsRoom, DidNothing, IsOfferedOrStopped};
 
-use crate::answer::{Answer, RoundStop};
+use crate::answer::{Answer, RoundStop, joined};
 use crate::rounds::rule::{Offers, Owner, Takes};
 use crate::rounds::victim::Victim;
 use crossbeam_deque::Steal;
@@ -80,10 +83,8 @@ impl Worker {
     fn steal_from(&mut self, index: usize) -> Found
         requires able { IsAble self.old }
         requires index { index < vec_len self.old.victims }
-        requires room { HasRoomToAnswer self.old }
         ensures found { IsFound result self.old self.new }
         ensures same { DidNothing self.old self.new }
-        ensures room { HasRoomToAnswer self.new }
         ensures count { vec_len self.new.victims ≡ vec_len self.old.victims }
     {
         match self.victims[index].steal() {
@@ -96,7 +97,6 @@ impl Worker {
     // Steals a name from the first of the others that has one.
     fn steal(&mut self) -> Found
         requires able { IsAble self.old }
-        requires room { HasRoomToAnswer self.old }
         ensures found { IsFound result self.old self.new }
         ensures same { DidNothing self.old self.new }
     {
@@ -114,14 +114,16 @@ impl Worker {
         }
     }
 
-    // Takes a name of its own, or steals one. It makes room for the answer first; where memory is refused for that, nothing is
-    // found.
-    pub fn take(&mut self) -> Found
+    // Takes a name of its own, or steals one, while so many are in hand. It makes room for the answers to all of them first; where memory
+    // is refused for that, nothing is found.
+    pub fn take(&mut self, in_hand: usize) -> Found
         requires able { IsAble self.old }
+        requires few { in_hand < 64 }
         ensures found { IsFound result self.old self.new }
         ensures same { DidNothing self.old self.new }
+        ensures room { (name : goal_name) → result ≡ name_found name → HasRoomToAnswer (in_hand + 1) self.new }
     {
-        let Ok(()) = self.taken.reserve(1) else {
+        let Ok(()) = self.taken.reserve(in_hand + 1) else {
             return Found::Nothing;
         };
         match self.owner.pop_as::<Takes>() {
@@ -130,18 +132,19 @@ impl Worker {
         }
     }
 
-    // The name that is in hand is taken, with this answer, which may be a reason to stop.
+    // The name that is in hand is taken, with this answer, which may be a reason to stop; memory goes before another.
     pub fn answer(&mut self, name: GoalName, answer: Answer, stop: Option<RoundStop>)
         requires able { IsAble self.old }
-        requires room { HasRoomToAnswer self.old }
+        requires room { HasRoomToAnswer 1 self.old }
         ensures keeps { Keeps (name ∷ []) [] self.old self.new }
         ensures room { KeepsRoom self.old self.new }
         ensures got { (worker_view self.new.owner).got ≡ (worker_view self.old.owner).got }
         ensures taken { self.new.taken.items ≡ self.old.taken.items ++ (name, answer) ∷ [] }
+        ensures capacity { vec_capacity self.new.taken ≡ vec_capacity self.old.taken }
         ensures left { self.new.left.items ≡ self.old.left.items }
-        ensures stop { self.new.stop ≡ stop }
+        ensures stop { self.new.stop ≡ joined self.old.stop stop }
     {
         self.taken.push_reserved((name, answer));
-        self.stop = stop;
+        self.stop = joined(self.stop, stop);
     }
 }

@@ -1,21 +1,22 @@
 // What a worker does in a round.
-ghost use Rattle.std.specs.Prelude.{◌≡◌, ◌≤◌, ◌+◌, ◌<◌, [], ◌∷◌, true, false, None, IfSome};
+ghost use Rattle.std.specs.Prelude.{◌≡◌, ◌≤◌, ◌+◌, ◌<◌, ℕ, [], ◌∷◌, true, false, None, IfSome};
 ghost use Rattle.std.specs.Vec.{vec_len};
 ghost use Rattle.crossbeam_deque.specs.Handles.{worker_view};
 ghost use Rattle.ghc_pool.specs.inner.Fair.{most_permits};
 ghost use Rattle.ghc_pool.specs.inner.Workers.{work_of, IsAble, HasRoomToAnswer, Keeps, KeepsRoom, IsOfferedOrStopped, submits};
 ghost use Rattle.ghc_pool.specs.inner.Stops.{IsWell};
-ghost use Rattle.ghc_pool.specs.inner.Opened.{Works, HasWorked};
-ghost use Rattle.ghc_pool.specs.inner.Turns.{CanDecide, IsNext, in_hand};
+ghost use Rattle.ghc_pool.specs.inner.Opened.{Works, HasGone, HasWorked};
+ghost use Rattle.ghc_pool.specs.inner.Turns.{CanDecide, names_in};
 
 use crate::craft::{Craft, Decided};
 use crate::rounds::budget::{Budget, Limited};
+use crate::rounds::hand::{InHand, hold, is_full, make_attempts};
 use crate::rounds::looking::{begin_work, end_work, rest};
 use crate::rounds::worker::{Found, Worker};
-use ghc_core::Excerpt;
 use ghc_fire::Proposal;
 use ghc_shared::Tender;
 use ghc_term::{Fault, GoalName};
+use std::alloc::Global;
 use std::hint::spin_loop;
 use std::sync::atomic::{AtomicBool, AtomicU64, Ordering};
 use std::sync::ledger::Share;
@@ -94,17 +95,17 @@ impl Worker {
         attempt: Option<Result<Proposal, Fault>>,
     )
         requires able { IsAble self.old }
-        requires room { HasRoomToAnswer self.old }
+        requires room { HasRoomToAnswer 1 self.old }
         requires attempt { IfSome attempt (λ a. C.attempts craft.now name a) }
         requires permit { C.takes craft.now ≡ true → 0 < spare.old }
-        requires none { self.old.stop ≡ None }
         requires well { IsWell (C.fed craft.now) (C.asks craft.now) (work_of self.old) }
         ensures keeps { Keeps (name ∷ []) [] self.old self.new }
         ensures room { KeepsRoom self.old self.new }
+        ensures answered { (n : ℕ) → HasRoomToAnswer (n + 1) self.old → HasRoomToAnswer n self.new }
         ensures got { (worker_view self.new.owner).got ≡ (worker_view self.old.owner).got }
         ensures well { IsWell (C.fed craft.now) (C.asks craft.now) (work_of self.new) }
         ensures tells { (start : P) → C.tells craft.now start self.old.taken.items pass.old → C.tells craft.now start self.new.taken.items pass.new }
-        ensures fewer { spare.new ≤ spare.old }
+        ensures fewer { (spare.new ≤ spare.old) × (spare.old ≤ spare.new + 1) }
         ensures spent { spare.new + submits self.new.taken.items ≡ spare.old + submits self.old.taken.items }
     {
         let Decided {
@@ -116,7 +117,7 @@ impl Worker {
         } = craft.decide(number, pass, name, attempt);
         *spare -= answer.submits();
         self.answer(name, answer, stop);
-        if stop.is_some() {
+        if self.stop.is_some() {
             return;
         }
         self.offer_of_step(step, made, &woken);
@@ -135,6 +136,7 @@ fn is_permitted<P, C: Craft<P>, L: Limited, R: Wait>(
     requires { share.old.parts ≡ 1 }
     ensures part { share.new.parts ≡ 1 }
     ensures one { result ≡ true → C.takes craft.now ≡ true → 0 < spare.new }
+    ensures more { spare.old ≤ spare.new }
     ensures few { spare.old ≤ most_permits → spare.new ≤ most_permits }
     ensures counted { share.new.amount + spare.old ≡ share.old.amount + spare.new }
 {
@@ -153,6 +155,7 @@ fn is_permitted<P, C: Craft<P>, L: Limited, R: Wait>(
 #[derive(Drop)]
 pub struct Crew<'a, C, L: Limited, R: Wait> {
     pub rt: &'a R,
+    pub alloc: Global,
     pub craft: &'a C,
     pub budget: &'a Mutex<Budget<L>>,
     pub halted: &'a AtomicBool,
@@ -160,11 +163,9 @@ pub struct Crew<'a, C, L: Limited, R: Wait> {
     pub door: &'a Mutex<()>,
 }
 
-// What a worker does after its turn.
-#[derive(Drop)]
+// What a worker does after its turn, where it has no name in hand.
+#[derive(Clone, Copy, Drop)]
 pub enum Next {
-    // It makes an attempt at the name that it has in hand, of this excerpt.
-    Attempt(GoalName, Excerpt),
     // It takes names again.
     Again,
     // It rests, since it found no name.
@@ -172,9 +173,6 @@ pub enum Next {
     // It ends.
     End,
 }
-
-// A name in hand, for which an attempt was made.
-pub type Attempted = (GoalName, Result<Proposal, Fault>);
 
 // Whether the worker has stopped, which it tells the others, or finds that another has.
 fn has_ended(halted: &AtomicBool, worker: &Worker) -> bool
@@ -187,15 +185,18 @@ fn has_ended(halted: &AtomicBool, worker: &Worker) -> bool
     halted.load(Ordering::SeqCst)
 }
 
-// Takes so many names at most, and decides each, up to one at which an attempt is to be made apart. It ends where the worker stops,
-// finds that another has stopped, or gets no permit where steps are taken.
+// Takes so many names at most. Each is decided, or comes into the hand, where an attempt at it is to be made apart. It ends where the
+// worker stops, finds that another has stopped, or gets no permit where steps are taken.
 fn take_names<P, C: Craft<P>, L: Limited, R: Wait>(
     crew: &Crew<'_, C, L, R>,
     job: &mut Job<P, L>,
+    hand: &mut Vec<InHand>,
     most: u32,
 ) -> Next
-    requires { Works (C.fed crew.now.craft.now) (C.asks crew.now.craft.now) job.old }
-    ensures { IsNext (C.fed crew.now.craft.now) (C.asks crew.now.craft.now) (C.tells crew.now.craft.now) (C.takes crew.now.craft.now) (C.excerpts crew.now.craft.now) [] result job.old job.new }
+    requires works { Works (C.fed crew.now.craft.now) (C.asks crew.now.craft.now) job.old }
+    requires can { CanDecide (C.excerpts crew.now.craft.now) (C.attempts crew.now.craft.now) (C.takes crew.now.craft.now) hand.old.items job.old }
+    ensures gone { HasGone (C.fed crew.now.craft.now) (C.asks crew.now.craft.now) (C.tells crew.now.craft.now) (names_in hand.old.items) (names_in hand.new.items) job.old job.new }
+    ensures can { CanDecide (C.excerpts crew.now.craft.now) (C.attempts crew.now.craft.now) (C.takes crew.now.craft.now) hand.new.items job.new }
 {
     let Job {
         number,
@@ -211,11 +212,15 @@ fn take_names<P, C: Craft<P>, L: Limited, R: Wait>(
         if !is_permitted(crew.rt, crew.craft, crew.budget, share, spare) {
             return Next::End;
         }
-        match worker.take() {
-            Found::Name(name) => match crew.craft.excerpt(name) {
-                Some(excerpt) => return Next::Attempt(name, excerpt),
-                None => worker.handle(crew.craft, *number, pass, spare, name, None),
-            },
+        if is_full(crew.craft, hand, *spare) {
+            return Next::Again;
+        }
+        match worker.take(hand.len()) {
+            Found::Name(name) => {
+                if !hold(crew.craft, hand, name) {
+                    worker.handle(crew.craft, *number, pass, spare, name, None);
+                }
+            }
             Found::Again => return Next::Again,
             Found::Nothing => return Next::Rest,
         }
@@ -223,32 +228,49 @@ fn take_names<P, C: Craft<P>, L: Limited, R: Wait>(
     Next::Again
 }
 
-// Decides the name in hand, if there is one, and then takes names.
+// Decides the names in hand.
+fn decide_hand<P, C: Craft<P>, L: Limited, R: Wait>(
+    crew: &Crew<'_, C, L, R>,
+    job: &mut Job<P, L>,
+    hand: &mut Vec<InHand>,
+)
+    requires works { Works (C.fed crew.now.craft.now) (C.asks crew.now.craft.now) job.old }
+    requires can { CanDecide (C.excerpts crew.now.craft.now) (C.attempts crew.now.craft.now) (C.takes crew.now.craft.now) hand.old.items job.old }
+    ensures gone { HasGone (C.fed crew.now.craft.now) (C.asks crew.now.craft.now) (C.tells crew.now.craft.now) (names_in hand.old.items) (names_in hand.new.items) job.old job.new }
+    ensures can { CanDecide (C.excerpts crew.now.craft.now) (C.attempts crew.now.craft.now) (C.takes crew.now.craft.now) hand.new.items job.new }
+    ensures empty { hand.new.items ≡ [] }
+{
+    let Job {
+        number,
+        worker,
+        pass,
+        share: _,
+        spare,
+    } = job;
+    while let Some(held) = hand.pop() {
+        let name = held.name;
+        worker.handle(crew.craft, *number, pass, spare, name, held.attempted());
+    }
+}
+
+// Decides the names in hand, and then takes names.
 fn take_turn<P, C: Craft<P>, L: Limited, R: Wait>(
     crew: &Crew<'_, C, L, R>,
     job: &mut Job<P, L>,
-    hand: Option<Attempted>,
+    hand: &mut Vec<InHand>,
     most: u32,
 ) -> Next
     requires works { Works (C.fed crew.now.craft.now) (C.asks crew.now.craft.now) job.old }
-    requires hand { IfSome hand (λ h. CanDecide (C.takes crew.now.craft.now) job.old × C.attempts crew.now.craft.now h.0 h.1) }
-    ensures { IsNext (C.fed crew.now.craft.now) (C.asks crew.now.craft.now) (C.tells crew.now.craft.now) (C.takes crew.now.craft.now) (C.excerpts crew.now.craft.now) (in_hand hand) result job.old job.new }
+    requires can { CanDecide (C.excerpts crew.now.craft.now) (C.attempts crew.now.craft.now) (C.takes crew.now.craft.now) hand.old.items job.old }
+    ensures gone { HasGone (C.fed crew.now.craft.now) (C.asks crew.now.craft.now) (C.tells crew.now.craft.now) (names_in hand.old.items) (names_in hand.new.items) job.old job.new }
+    ensures can { CanDecide (C.excerpts crew.now.craft.now) (C.attempts crew.now.craft.now) (C.takes crew.now.craft.now) hand.new.items job.new }
 {
-    if let Some((name, attempt)) = hand {
-        let Job {
-            number,
-            worker,
-            pass,
-            share: _,
-            spare,
-        } = job;
-        worker.handle(crew.craft, *number, pass, spare, name, Some(attempt));
-    }
-    take_names(crew, job, most)
+    decide_hand(crew, job, hand);
+    take_names(crew, job, hand, most)
 }
 
-// How often a worker looks at the door before it sleeps there: for about as long as it takes to be woken.
-const LOOKS: u32 = 500;
+// How often a worker looks at the door before it sleeps there: for about as long as a turn takes.
+const LOOKS: u32 = 4000;
 
 // Waits for its turn.
 fn wait_for_turn<'a, R: Wait>(rt: &R, door: &'a Mutex<()>) -> MutexGuard<'a, ()> {
@@ -265,12 +287,13 @@ fn wait_for_turn<'a, R: Wait>(rt: &R, door: &'a Mutex<()>) -> MutexGuard<'a, ()>
 fn take_turn_at_door<P, C: Craft<P>, L: Limited, R: Wait>(
     crew: &Crew<'_, C, L, R>,
     job: &mut Job<P, L>,
-    hand: Option<Attempted>,
+    hand: &mut Vec<InHand>,
     most: u32,
 ) -> Next
     requires works { Works (C.fed crew.now.craft.now) (C.asks crew.now.craft.now) job.old }
-    requires hand { IfSome hand (λ h. CanDecide (C.takes crew.now.craft.now) job.old × C.attempts crew.now.craft.now h.0 h.1) }
-    ensures { IsNext (C.fed crew.now.craft.now) (C.asks crew.now.craft.now) (C.tells crew.now.craft.now) (C.takes crew.now.craft.now) (C.excerpts crew.now.craft.now) (in_hand hand) result job.old job.new }
+    requires can { CanDecide (C.excerpts crew.now.craft.now) (C.attempts crew.now.craft.now) (C.takes crew.now.craft.now) hand.old.items job.old }
+    ensures gone { HasGone (C.fed crew.now.craft.now) (C.asks crew.now.craft.now) (C.tells crew.now.craft.now) (names_in hand.old.items) (names_in hand.new.items) job.old job.new }
+    ensures can { CanDecide (C.excerpts crew.now.craft.now) (C.attempts crew.now.craft.now) (C.takes crew.now.craft.now) hand.new.items job.new }
 {
     if !crew.craft.takes_turns() {
         return take_turn(crew, job, hand, 1);
@@ -291,25 +314,27 @@ fn longer(most: u32) -> u32 {
     MOST
 }
 
-// Works, turn after turn, until one is the last, or there is no name while nobody is at work who could offer one. An attempt is made
+// Works, turn after turn, until one is the last, or there is no name while nobody is at work who could offer one. Attempts are made
 // between two turns, while others have theirs.
 fn work<P, C: Craft<P>, L: Limited, R: Wait>(crew: &Crew<'_, C, L, R>, job: &mut Job<P, L>)
     requires { Works (C.fed crew.now.craft.now) (C.asks crew.now.craft.now) job.old }
     ensures { HasWorked (C.fed crew.now.craft.now) (C.asks crew.now.craft.now) (C.tells crew.now.craft.now) job.old job.new }
 {
-    let mut hand = None;
+    let mut hand = Vec::new(crew.alloc);
     let mut most = 1;
     for _ in crew.rt.forever() {
-        match take_turn_at_door(crew, job, hand, most) {
-            Next::Attempt(name, excerpt) => hand = Some((name, crew.craft.attempt(&excerpt))),
-            Next::Again => hand = None,
-            Next::Rest => {
-                if !rest(crew.rt, crew.at_work) {
-                    return;
+        let next = take_turn_at_door(crew, job, &mut hand, most);
+        make_attempts(crew.craft, &mut hand);
+        if hand.is_empty() {
+            match next {
+                Next::Again => {}
+                Next::Rest => {
+                    if !rest(crew.rt, crew.at_work) {
+                        return;
+                    }
                 }
-                hand = None;
+                Next::End => return,
             }
-            Next::End => return,
         }
         most = longer(most);
     }

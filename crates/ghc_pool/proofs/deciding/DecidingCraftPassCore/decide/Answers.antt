@@ -1,4 +1,4 @@
-use Rattle.ghc_pool.proofs.Telling.{reason_after}
+use Rattle.ghc_pool.proofs.Telling.{asks_still, reason_after}
 use Rattle.ghc_pool.proofs.deciding.DecidingCraftPassCore.decide.Goals as goal
 
 pub returns-in-Some-clause-reason : goal.returns-in-Some-clause-reason
@@ -9,3 +9,12 @@ returns-then-self-clause-reason g c = reason_after g.N.Naming.opened c.args.self
 
 pub returns-clause-reason : goal.returns-clause-reason
 returns-clause-reason g c = reason_after g.N.Naming.opened c.args.self.now.spies.now c.args.self.now.steps (c.args.name, c.settle.result.answer) c.settle.result.stop c.settle.ensures.reason
+
+pub returns-in-Some-clause-still : goal.returns-in-Some-clause-still
+returns-in-Some-clause-still g c = λ taken. asks_still g.N.Naming.opened c.args.self.now.spies.now c.args.self.now.steps taken (c.args.name, c.take_attempt.result.answer)
+
+pub returns-then-self-clause-still : goal.returns-then-self-clause-still
+returns-then-self-clause-still g c = λ taken. asks_still g.N.Naming.opened c.args.self.now.spies.now c.args.self.now.steps taken (c.args.name, c.take_step.result.answer)
+
+pub returns-clause-still : goal.returns-clause-still
+returns-clause-still g c = λ taken. asks_still g.N.Naming.opened c.args.self.now.spies.now c.args.self.now.steps taken (c.args.name, c.settle.result.answer)

@@ -1,36 +1,43 @@
-use Rattle.ghc_pool.proofs.Words.{[], ◌∷◌, sym, subst, HasGone}
-use Rattle.std.specs.Prelude.{IfSome}
-use Rattle.ghc_pool.specs.inner.Turns.{CanDecide, in_hand}
+use Rattle.ghc_pool.proofs.Words.{◌≡◌, [], length, sym, ap, subst, arith, HasGone}
+use Rattle.std.proofs.lemmas.List.{nil_from_length}
+use Rattle.ghc_pool.specs.inner.Turns.{names_in}
 use Rattle.ghc_pool.proofs.Turns.{gone_on}
 use Rattle.ghc_pool.proofs.rounds.working.work.Goals as goal
-use Rattle.ghc_pool.proofs.rounds.working.work.Goals.{in-Attempt, in-Again, in-Rest+else-not-rest}
 
 pub returns-then-not-rest : goal.returns-then-not-rest
-returns-then-not-rest g c = gone_on _ _ _ [] (in_hand c.loop.hand) [] c.args.job.now c.loop.job c.take_turn_at_door.new.job c.loop.invariant.0 c.in-Rest.ensures
+returns-then-not-rest g c =
+    let turn = c.take_turn_at_door-next in
+    let few : length turn.new.hand.items ≡ 0 = grind (arith, c.is_empty.ensures, c.if-is_empty.true, c.make_attempts.ensures.count, turn.new.hand.ok.0) in
+    let none : names_in turn.new.hand.items ≡ [] = ap (λ l. names_in l) (nil_from_length turn.new.hand.items few) in
+    let fed = g.C.Craft.fed c.args.crew.now.craft.now in
+    let asks = g.C.Craft.asks c.args.crew.now.craft.now in
+    let tells = g.C.Craft.tells c.args.crew.now.craft.now in
+    subst (λ l. HasGone fed asks tells [] l c.args.job.now turn.new.job) none
+    (gone_on fed asks tells [] (names_in c.loop.hand.items) (names_in turn.new.hand.items) c.args.job.now c.loop.job turn.new.job c.loop.invariant.0 turn.ensures.gone)
 
 pub returns-in-End : goal.returns-in-End
-returns-in-End g c = gone_on _ _ _ [] (in_hand c.loop.hand) [] c.args.job.now c.loop.job c.take_turn_at_door.new.job c.loop.invariant.0 c.in-End.ensures
+returns-in-End g c =
+    let turn = c.take_turn_at_door-next in
+    let few : length turn.new.hand.items ≡ 0 = grind (arith, c.is_empty.ensures, c.if-is_empty.true, c.make_attempts.ensures.count, turn.new.hand.ok.0) in
+    let none : names_in turn.new.hand.items ≡ [] = ap (λ l. names_in l) (nil_from_length turn.new.hand.items few) in
+    let fed = g.C.Craft.fed c.args.crew.now.craft.now in
+    let asks = g.C.Craft.asks c.args.crew.now.craft.now in
+    let tells = g.C.Craft.tells c.args.crew.now.craft.now in
+    subst (λ l. HasGone fed asks tells [] l c.args.job.now turn.new.job) none
+    (gone_on fed asks tells [] (names_in c.loop.hand.items) (names_in turn.new.hand.items) c.args.job.now c.loop.job turn.new.job c.loop.invariant.0 turn.ensures.gone)
 
 pub loop-preserved : goal.loop-preserved
 loop-preserved g c =
     let fed = g.C.Craft.fed c.args.crew.now.craft.now in
     let asks = g.C.Craft.asks c.args.crew.now.craft.now in
     let tells = g.C.Craft.tells c.args.crew.now.craft.now in
-    let takes = g.C.Craft.takes c.args.crew.now.craft.now in
-    let attempts = g.C.Craft.attempts c.args.crew.now.craft.now in
-    let job = c.args.job.now in
-    let old = in_hand c.loop.hand in
-    let new = c.take_turn_at_door.new.job in
-    elim c.match-take_turn_at_door.branch [
-      | in-Attempt w ↦
-          let next = w.in-Attempt.ensures in
-          let name = w.in-Attempt.name in
-          subst (λ hand. HasGone fed asks tells [] (in_hand hand) job new × IfSome hand (λ h. CanDecide takes new × attempts h.0 h.1)) (sym w.hand-is)
-          (gone_on fed asks tells [] old (name ∷ []) job c.loop.job new c.loop.invariant.0 next.0, (next.1, w.attempt.ensures name next.2))
-      | in-Again w ↦
-          subst (λ hand. HasGone fed asks tells [] (in_hand hand) job new × IfSome hand (λ h. CanDecide takes new × attempts h.0 h.1)) (sym w.hand-is)
-          (gone_on fed asks tells [] old [] job c.loop.job new c.loop.invariant.0 w.in-Again.ensures, tt)
-      | in-Rest+else-not-rest w ↦
-          subst (λ hand. HasGone fed asks tells [] (in_hand hand) job new × IfSome hand (λ h. CanDecide takes new × attempts h.0 h.1)) (sym w.hand-is)
-          (gone_on fed asks tells [] old [] job c.loop.job new c.loop.invariant.0 w.in-Rest.ensures, tt)
-    ]
+    let turn = c.take_turn_at_door-next in
+    let made = c.make_attempts in (
+      subst (λ l. HasGone fed asks tells [] l c.args.job.now turn.new.job) (sym made.ensures.names)
+          (gone_on fed asks tells [] (names_in c.loop.hand.items) (names_in turn.new.hand.items) c.args.job.now c.loop.job turn.new.job c.loop.invariant.0 turn.ensures.gone),
+      record {
+        permit = λ t. omega (arith, turn.ensures.can.permit t, made.ensures.count, turn.new.hand.ok.0, made.new.hand.ok.0);
+        room = omega (arith, turn.ensures.can.room, made.ensures.count, turn.new.hand.ok.0, made.new.hand.ok.0);
+        apart = made.ensures.apart;
+      },
+    )

@@ -13,7 +13,7 @@ returns-in-Success-clause-found c =
     let v = c.index_mut.result.now in
     let is = c.index_mut.ensures.value in
     let t = c.in-Success.ensures in
-    (stole c.args.self.now c.args.index v c.steal.new.self (c.in-Success.name ∷ []) c.requires.index c.requires.able t.0 (t.1 ∙ ap (λ (u : Victim). stealer_deque u.thief) is) (t.2 ∙ ap (λ (u : Victim). (view u.pass).got ++ c.in-Success.name ∷ []) is), c.requires.room)
+    stole c.args.self.now c.args.index v c.steal.new.self (c.in-Success.name ∷ []) c.requires.index c.requires.able t.0 (t.1 ∙ ap (λ (u : Victim). stealer_deque u.thief) is) (t.2 ∙ ap (λ (u : Victim). (view u.pass).got ++ c.in-Success.name ∷ []) is)
 
 pub returns-in-Retry-clause-found : goal.returns-in-Retry-clause-found
 returns-in-Retry-clause-found c =
