@@ -1,5 +1,5 @@
 -- The words of other crates and of the definitions that the proofs cite, from one place.
-pub use Rattle.clap.proofs.CallerLemmas.{added_plain, entry_by_id, required_in_chain, same_rules_by_id, some_of_text}
+pub use Rattle.clap.proofs.CallerLemmas.{added_plain, entry_by_id, required_in_chain, same_rules_by_id}
 pub use Rattle.clap.specs.Built.{AddsArg, FitsChain, HasDistinctIds, IsAuto, IsPlain}
 pub use Rattle.clap.specs.Facts.{Entry, EntryPasses, HasReading, PassesArg, args_of, groups_of, parser_of, parser_of_value}
 pub use Rattle.clap.specs.Matches.{ReadsOne, matched_of, one_text}
@@ -28,7 +28,8 @@ pub use Rattle.ghc_core.specs.ResumeLaws.{CarriedOutIsLegal, WhatIsToldIsCarried
 pub use Rattle.ghc_core.specs.World.{Opens, World, no_hands}
 pub use Rattle.ghc_flat.proofs.Faults.{accepted_no_fault, fault_once, first_fault_no, program_once}
 pub use Rattle.ghc_flat.specs.Checked.{AreMadeOf, HasClause, IsFault, IsProgramFault}
-pub use Rattle.ghc_flat.specs.Clause.{Program, Query}
+pub use Rattle.ghc_flat.specs.Clause.{Clause, Program, Query}
+pub use Rattle.ghc_flat.specs.Numbers.{AreNumbersFor}
 pub use Rattle.ghc_flat.specs.inner.Refused.{IsRefusedAs}
 pub use Rattle.ghc_flat.specs.declared.refused.Refused.{Refused}
 pub use Rattle.ghc_reader.proofs.ExactReading.{no_program_refused, no_query_refused, one_program_refusal, one_query_refusal}
@@ -54,7 +55,8 @@ pub use Rattle.ghc_trace.proofs.Spied.{predicate_antisymmetric, predicate_total}
 pub use Rattle.ghc_trace.specs.Spies.{HasPredicate, Spies, predicate, predicate_cmp, spied_of, spies_in_order}
 pub use Rattle.ghc_trace.specs.SpyLaws.{ListedSpiesComeBack}
 pub use Rattle.ghc_trace.specs.declared.spies.Predicate.{Predicate}
-pub use Rattle.ghcdb.specs.inner.CommandLine.{IsGhcdb, IsOptionalValue, IsRequiredValue, IsWorkersValue, SaysWorkers}
+pub use Rattle.ghcdb.specs.inner.CommandLine.{HasOptions, IsGhcdb, IsOptionalValue, IsRequiredValue, IsWorkersValue, SaysNumber}
+pub use Rattle.ghcdb.specs.inner.Workers.{HasManyClauses}
 pub use Rattle.ghcdb.specs.HistoryFront.{IsHeadingLine, IsReadOf, WhatIsReadTells, heading_bytes}
 pub use Rattle.ghcdb.specs.Opening.{GivesBack, IsDebuggerOf, IsHistoryFault, IsHistoryRefused, IsOpenRefusal, IsWithoutMemory, OpensOn, at_start, for_history, loads, of_chronicle, of_entry, of_history, of_start, of_step, of_text, resumes}
 pub use Rattle.ghcdb.specs.inner.Outputs.{HasBeginning, HasReplies}

@@ -1,5 +1,5 @@
 -- A parse of the program's command finds FILE and the query.
-use Rattle.ghcdb.proofs.CitedWords.{zero, suc, ◌≡◌, ◌∙◌, ◌<◌, ℕ, true, false, List, [], ◌∷◌, slice_index, is_some, codes, refl, sym, inl, inr, arith, All, slice_index_or, bytes_eq, bytes_eq-Decides, IsParsedFrom, IsPlainArg, first_value, found_of, FitsChain, HasDistinctIds, Arg, Command, ArgMatches, required_in_chain, IsGhcdb, IsOptionalValue, IsRequiredValue, IsWorkersValue}
+use Rattle.ghcdb.proofs.CitedWords.{zero, suc, ◌≡◌, ◌∙◌, ◌<◌, ℕ, true, false, List, [], ◌∷◌, slice_index, is_some, codes, refl, sym, inl, inr, arith, All, slice_index_or, bytes_eq, bytes_eq-Decides, IsParsedFrom, IsPlainArg, first_value, found_of, FitsChain, HasDistinctIds, Arg, Command, ValueParser, ArgMatches, required_in_chain, HasOptions, IsGhcdb, IsOptionalValue, IsRequiredValue, IsWorkersValue}
 
 -- the id of an argument begins with the first byte of its name
 first_byte : (id : List ℕ) (a : Arg) → a.id.now ≡ id → (other : List ℕ) → a.id.now ≡ other → slice_index other 0 ≡ slice_index id 0
@@ -29,8 +29,8 @@ load_fits a h = fits (codes "load") a h.id_is h.plain h.local (λ e. absurd (ome
 schedule_fits : (a : Arg) → IsOptionalValue (codes "schedule") a → FitsChain a
 schedule_fits a h = fits (codes "schedule") a h.id_is h.plain h.local (λ e. absurd (omega arith)) (λ e. absurd (omega arith)) (λ e. absurd (omega arith))
 
-workers_fits : (a : Arg) → IsWorkersValue a → FitsChain a
-workers_fits a h = fits (codes "workers") a h.optional.id_is h.optional.plain h.optional.local (λ e. absurd (omega arith)) (λ e. absurd (omega arith)) (λ e. absurd (omega arith))
+workers_fits : (by : ValueParser) (a : Arg) → IsWorkersValue by a → FitsChain a
+workers_fits by a h = fits (codes "workers") a h.optional.id_is h.optional.plain h.optional.local (λ e. absurd (omega arith)) (λ e. absurd (omega arith)) (λ e. absurd (omega arith))
 
 all_fit : (file query load schedule workers : Arg) → FitsChain file → FitsChain query → FitsChain load → FitsChain schedule → FitsChain workers → All FitsChain (file ∷ query ∷ load ∷ schedule ∷ workers ∷ [])
 all_fit file query load schedule workers f q l s w zero d lt = f
@@ -79,19 +79,17 @@ module _ (file query load schedule workers : Arg) (f : IsRequiredValue (codes "F
   distinct (suc (suc (suc (suc (suc j))))) k d e lt lt2 same = absurd (omega arith)
 
 -- what the parse found at a place of the chain
-found_at : (command : Command) (matches : ArgMatches) (h : IsGhcdb command) → IsParsedFrom command matches → (k : ℕ) → k < 5
+found_at : (by : ValueParser) (command : Command) (matches : ArgMatches) (h : IsGhcdb by command) → IsParsedFrom command matches → (k : ℕ) → k < 5
     → (id : List ℕ) → IsRequiredValue id (slice_index_or (h.file ∷ h.query ∷ h.load ∷ h.schedule ∷ h.workers ∷ []) k h.file) → is_some (first_value (found_of matches) id) ≡ true
-found_at command matches h parsed k lt id is =
+found_at by command matches h parsed k lt id is =
     let there = required_in_chain h.start command (h.file ∷ h.query ∷ h.load ∷ h.schedule ∷ h.workers ∷ []) k h.file matches h.chain
     h.empty.arguments h.empty.groups h.empty.local h.empty.negates
-    (all_fit h.file h.query h.load h.schedule h.workers (file_fits h.file h.file_is) (query_fits h.query h.query_is) (load_fits h.load h.load_is) (schedule_fits h.schedule h.schedule_is) (workers_fits h.workers h.workers_is))
+    (all_fit h.file h.query h.load h.schedule h.workers (file_fits h.file h.file_is) (query_fits h.query h.query_is) (load_fits h.load h.load_is) (schedule_fits h.schedule h.schedule_is) (workers_fits by h.workers h.workers_is))
     (distinct h.file h.query h.load h.schedule h.workers h.file_is h.query_is h.load_is h.schedule_is h.workers_is.optional) lt is.value parsed in
     rw is.id_is at there
 
-pub file_found : (command : Command) (matches : ArgMatches) → IsGhcdb command → IsParsedFrom command matches
-    → is_some (first_value (found_of matches) (codes "FILE")) ≡ true
-file_found command matches h parsed = found_at command matches h parsed 0 (omega arith) (codes "FILE") h.file_is
-
-pub query_found : (command : Command) (matches : ArgMatches) → IsGhcdb command → IsParsedFrom command matches
-    → is_some (first_value (found_of matches) (codes "query")) ≡ true
-query_found command matches h parsed = found_at command matches h parsed 1 (omega arith) (codes "query") h.query_is
+pub has_options : (by : ValueParser) (command : Command) (matches : ArgMatches) → IsGhcdb by command → IsParsedFrom command matches → HasOptions (found_of matches)
+has_options by command matches h parsed = record {
+  file = found_at by command matches h parsed 0 (omega arith) (codes "FILE") h.file_is;
+  query = found_at by command matches h parsed 1 (omega arith) (codes "query") h.query_is;
+}

@@ -1,6 +1,8 @@
 -- Lemmas of this crate.
 mod CommandLine
 mod NumberOfWorkers
+mod ManyClauses
+mod WordsOfAuto
 mod FrontTells
 mod HistoryFronts
 mod IsStarted

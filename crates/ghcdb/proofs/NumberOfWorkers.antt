@@ -1,5 +1,5 @@
--- A parse of the program's command finds a number of workers within its bounds, or none.
-use Rattle.ghcdb.proofs.CitedWords.{zero, suc, ◌≡◌, ◌∙◌, ◌<◌, ◌≤◌, ◌++◌, ◌||◌, ℕ, true, false, List, [], ◌∷◌, length, slice_index, codes, refl, sym, ap, subst, inl, inr, arith, IfNone, IfSome, Option, Some, None, Result, Ok, Err, option_map, slice_get, unwrap_or, IsSome, Bor, All, slice_index_or, bytes_eq, ParsesUnsigned, All-get_or, All-nil, bytes_eq-Decides, AddsArg, IsAuto, IsPlain, args_of, groups_of, Entry, EntryPasses, HasReading, PassesArg, parser_of, parser_of_value, ReadsOne, matched_of, one_text, Accepts, IsUnsignedIn, read_as, reading_of, Arg, Command, out-Command, ValueParser, ArgMatches, Found, MatchedArg, added_plain, entry_by_id, same_rules_by_id, IsGhcdb, SaysWorkers}
+-- A parse of the program's command by numbers finds a number of workers within its bounds, or none.
+use Rattle.ghcdb.proofs.CitedWords.{zero, suc, ◌≡◌, ◌∙◌, ◌<◌, ◌≤◌, ◌++◌, ◌||◌, ℕ, true, false, List, [], ◌∷◌, length, slice_index, codes, refl, sym, ap, subst, inl, inr, arith, IfNone, IfSome, Option, Some, None, Result, Ok, Err, option_map, slice_get, unwrap_or, IsSome, Bor, All, slice_index_or, bytes_eq, ParsesUnsigned, All-get_or, All-nil, bytes_eq-Decides, AddsArg, IsAuto, IsPlain, args_of, groups_of, Entry, EntryPasses, HasReading, PassesArg, parser_of, parser_of_value, ReadsOne, matched_of, one_text, Accepts, IsUnsignedIn, read_as, reading_of, Arg, Command, out-Command, ValueParser, ArgMatches, Found, MatchedArg, added_plain, entry_by_id, same_rules_by_id, IsGhcdb, SaysNumber}
 use Rattle.clap.specs.Built.{IsParsedFrom, IsPlainArg}
 use Rattle.clap.specs.Matches.{first_value, found_of}
 use Rattle.clap.specs.declared.builder.value_parser.Reading.TheVariants as reading
@@ -60,7 +60,7 @@ is_made (Some w) n none low high = refl
 pub made_is : (o : Option ℕ) (v n : ℕ) → o ≡ Some v → IfSome o (λ w. w ≡ n) → n ≡ v
 made_is o v n e h = sym (subst (λ (q : Option ℕ). IfSome q (λ w. w ≡ n)) e h)
 
-module _ (command : Command) (matches : ArgMatches) (h : IsGhcdb command) (p : IsParsedFrom command matches) where
+module _ (command : Command) (matches : ArgMatches) (h : IsGhcdb bounds command) (p : IsParsedFrom command matches) where
   -- the arguments of the command
   abbrev file : Arg
   file = h.chain.1.arg
@@ -100,7 +100,7 @@ module _ (command : Command) (matches : ArgMatches) (h : IsGhcdb command) (p : I
   mine_named = ap (λ (a : Arg). a.id.now) mine_is ∙ named
 
   mine_bounds : mine.value_parser ≡ Some bounds
-  mine_bounds = ap (λ (a : Arg). a.value_parser) mine_is ∙ h.chain.2.2.2.2.1.rules.parser bounds h.workers_is.bounds
+  mine_bounds = ap (λ (a : Arg). a.value_parser) mine_is ∙ h.chain.2.2.2.2.1.rules.parser bounds h.workers_is.parser
 
   place : 4 < length (args_of command)
   place = subst (λ (l : List Arg). 4 < length l) (sym list_is) (omega arith)
@@ -183,10 +183,10 @@ module _ (command : Command) (matches : ArgMatches) (h : IsGhcdb command) (p : I
   -- the number that is read of it is the one that it says,
   pub says : (E : Type 0) (G : List ℕ → Result ℕ E → Type 0) → ((u : List ℕ) (x : Result ℕ E) → G u x → ParsesUnsigned 32 10 u x)
       → (r : Option ℕ) → (one_text (found_of matches) (codes "workers") ≡ None → r ≡ None) → ((t : List ℕ) → one_text (found_of matches) (codes "workers") ≡ Some t → ReadsOne G t r)
-      → (n : ℕ) → r ≡ Some n → SaysWorkers (first_value (found_of matches) (codes "workers")) n × (1 ≤ n) × (n ≤ 64)
+      → (n : ℕ) → r ≡ Some n → SaysNumber (first_value (found_of matches) (codes "workers")) n × (1 ≤ n) × (n ≤ 64)
   says E G parses r none value n is = go (first_value (found_of matches) (codes "workers")) refl
     where
-      go : (o : Option (List ℕ)) → first_value (found_of matches) (codes "workers") ≡ o → SaysWorkers (first_value (found_of matches) (codes "workers")) n × (1 ≤ n) × (n ≤ 64)
+      go : (o : Option (List ℕ)) → first_value (found_of matches) (codes "workers") ≡ o → SaysNumber (first_value (found_of matches) (codes "workers")) n × (1 ≤ n) × (n ≤ 64)
       go None e = (let bad : None ≡ Some n = sym (none (none_read (found_of matches) (codes "workers") e)) ∙ is in cc)
       go (Some t) e =
           let f = found_is t e in
@@ -194,16 +194,16 @@ module _ (command : Command) (matches : ArgMatches) (h : IsGhcdb command) (p : I
           let parsed = parses t (Ok n) read in
           let low : 1 ≤ n = subst (λ (k : ℕ). 1 ≤ k) (sym parsed.1) f.1.2 in
           let high : n ≤ 64 = subst (λ (k : ℕ). k ≤ 64) (sym parsed.1) f.1.3 in
-          (subst (λ (o : Option (List ℕ)). SaysWorkers o n) (sym e) (f.1.0, parsed.1, low, high), low, high)
+          (subst (λ (o : Option (List ℕ)). SaysNumber o n) (sym e) (f.1.0, parsed.1, low, high), low, high)
 
   -- and where none is read there is no value.
   pub says_one : (E : Type 0) (G : List ℕ → Result ℕ E → Type 0) → ((u : List ℕ) (x : Result ℕ E) → G u x → ParsesUnsigned 32 10 u x)
       → (r : Option ℕ) → ((t : List ℕ) → one_text (found_of matches) (codes "workers") ≡ Some t → ReadsOne G t r)
-      → r ≡ None → SaysWorkers (first_value (found_of matches) (codes "workers")) 1
+      → r ≡ None → SaysNumber (first_value (found_of matches) (codes "workers")) 1
   says_one E G parses r value is = go (first_value (found_of matches) (codes "workers")) refl
     where
-      go : (o : Option (List ℕ)) → first_value (found_of matches) (codes "workers") ≡ o → SaysWorkers (first_value (found_of matches) (codes "workers")) 1
-      go None e = subst (λ (o : Option (List ℕ)). SaysWorkers o 1) (sym e) refl
+      go : (o : Option (List ℕ)) → first_value (found_of matches) (codes "workers") ≡ o → SaysNumber (first_value (found_of matches) (codes "workers")) 1
+      go None e = subst (λ (o : Option (List ℕ)). SaysNumber o 1) (sym e) refl
       go (Some t) e =
           let f = found_is t e in
           let read : (x : E) × G t (Err x) = subst (λ (o : Option ℕ). ReadsOne G t o) is (value t f.0) in

@@ -6,3 +6,4 @@ pub mod Refusal
 pub mod RefusedPart
 pub mod Status
 pub mod Texts
+pub mod Workers

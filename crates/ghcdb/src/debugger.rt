@@ -8,17 +8,18 @@ ghost use Rattle.ghcdb.specs.inner.Ending.{DoOpen, EndsWith, IsEnd, IsRefusalOf}
 ghost use Rattle.ghcdb.specs.Opening.{IsDebuggerOf, IsOpenRefusal, IsWithoutMemory};
 ghost use Rattle.ghcdb.specs.inner.Texts.{history_in, schedule_in};
 ghost use Rattle.ghcdb.specs.inner.Status.{spare_fault, status_of, status_of_print};
+ghost use Rattle.ghcdb.specs.inner.Workers.{AreWorkersOf};
 
 use crate::command_line::options;
 use crate::files::{Texts, read_texts};
 use crate::opening::open;
 use crate::refusal::{Refusal, push_line};
 use crate::run_or_play::run_or_play;
-use crate::settings::{Given, Options};
+use crate::settings::{Given, Options, WorkersOption};
 use crate::status::Status;
+use crate::workers::{processors_for, workers_of};
 use clap::Error;
 use ghc_console::Debugger;
-use ghc_pool::Workers;
 use ghc_term::Fault;
 use std::alloc::Global;
 use std::rt::Files;
@@ -84,19 +85,23 @@ fn open_with(alloc: Global, texts: &Texts, options: Options<'_>) -> Result<Debug
     }
 }
 
-// The same, of which so many workers make a run.
+// The same, of which as many workers make a run as are asked for, on a machine of so many processors.
 fn open_for_workers(
     alloc: Global,
     texts: &Texts,
     options: Options<'_>,
-    workers: Workers,
+    asked: WorkersOption,
+    processors: usize,
 ) -> Result<Debugger, Refusal>
     ensures answer { AnsweredUnless (IsWithoutMemory texts.now.program.items options.entry.query.now (history_in texts.now)) (IsDebuggerOf texts.now.program.items options.entry.query.now (history_in texts.now))
         (IsOpenRefusal texts.now.program.items options.entry.query.now (history_in texts.now)) result }
-    ensures workers { IfOk result (λ debugger. debugger.workers ≡ workers) }
+    ensures workers { IfOk result (λ debugger. AreWorkersOf asked debugger.core.world.opening.program processors debugger.workers) }
 {
     match open_with(alloc, texts, options) {
-        Ok(debugger) => Ok(debugger.with_workers(workers)),
+        Ok(debugger) => {
+            let workers = workers_of(asked, debugger.core.program(), processors);
+            Ok(debugger.with_workers(workers))
+        }
         Err(refusal) => Err(refusal),
     }
 }
@@ -106,12 +111,13 @@ fn carry_out<R: Threads + Wait + Sync + Input + Print + AllocGlobal>(
     rt: &R,
     texts: &Texts,
     options: Options<'_>,
-    workers: Workers,
+    workers: WorkersOption,
 ) -> Result<(), Refusal>
     ensures done { IfOk result (λ _. DoOpen texts.now.program.items options.entry.query.now (history_in texts.now)) }
     ensures refused { IfErr result (IsRefusalOf texts.now.program.items options.entry.query.now (history_in texts.now) (schedule_in texts.now)) }
 {
-    let debugger = match open_for_workers(rt.alloc(), texts, options, workers) {
+    let processors = processors_for(rt, &workers);
+    let debugger = match open_for_workers(rt.alloc(), texts, options, workers, processors) {
         Ok(debugger) => debugger,
         Err(refusal) => return Err(refusal),
     };
@@ -126,7 +132,7 @@ fn debug_texts<R: Threads + Wait + Sync + Input + Print + Eprint + AllocGlobal>(
     rt: &R,
     texts: &Texts,
     options: Options<'_>,
-    workers: Workers,
+    workers: WorkersOption,
 ) -> Status
     ensures { EndsWith texts.now.program.items options.entry.query.now (history_in texts.now) (schedule_in texts.now) result }
 {
@@ -140,7 +146,7 @@ fn debug_texts<R: Threads + Wait + Sync + Input + Print + Eprint + AllocGlobal>(
 fn debug<R: Threads + Wait + Sync + Files + Input + Print + Eprint + AllocGlobal>(
     rt: &R,
     options: Options<'_>,
-    workers: Workers,
+    workers: WorkersOption,
 ) -> Status
     ensures { IsEnd result }
 {

@@ -17,6 +17,7 @@ mod settings;
 mod start;
 mod status;
 mod text_front;
+mod workers;
 
 use debugger::run;
 use status::Status;

@@ -14,9 +14,18 @@ pub struct Options<'a> {
     pub schedule: Option<&'a str>,
 }
 
-/// What the command line gives: the options, and how many workers make a run of the session, which is one if no number is given.
+/// How many workers the command line asks for.
+#[derive(Clone, Copy, Drop)]
+pub enum WorkersOption {
+    /// So many.
+    Number(Workers),
+    /// One, or as many as the machine has processors where a predicate of the program has many clauses.
+    Auto,
+}
+
+/// What the command line gives: the options, and how many workers make a run of the session, which is one if nothing is said of them.
 #[derive(Drop)]
 pub struct Given<'a> {
     pub options: Options<'a>,
-    pub workers: Workers,
+    pub workers: WorkersOption,
 }

@@ -1,0 +1,67 @@
+// How many workers make the runs of a session.
+ghost use Rattle.std.specs.Prelude.{◌≡◌, ◌↔◌, ◌≤◌, IsTrue};
+ghost use Rattle.ghcdb.specs.inner.Workers.{AreWorkersOf, HasManyClauses, one_each};
+
+use crate::settings::WorkersOption;
+use ghc_flat::Program;
+use ghc_pool::Workers;
+use std::thread::{Threads, available_parallelism};
+
+// A call of a predicate with more clauses is matched apart, while others work: there several workers save time.
+const FEW: usize = 32;
+
+// No run is made by more.
+const MOST: usize = 64;
+
+// Whether a predicate of the program has more than 32 clauses: one pass over the clauses, two look-ups for each.
+fn has_many_clauses(program: &Program) -> bool
+    ensures { IsTrue result ↔ HasManyClauses program.now }
+{
+    for clause in program.clauses() {
+        let numbers = program.clauses_for(clause.name(), clause.head().len());
+        if numbers.len() > FEW {
+            return true;
+        }
+    }
+    false
+}
+
+// A worker for each processor, but one at least and 64 at most.
+fn one_each(processors: usize) -> Workers
+    ensures { result ≡ one_each processors }
+{
+    let count = processors.clamp(1, MOST);
+    Workers::new(count as u32).unwrap()
+}
+
+/// How many workers make the runs of the program on a machine of so many processors: the number that is asked for. Under `auto` it is
+/// one, or one for each processor, 64 at most, where a predicate of the program has more than 32 clauses. That costs one pass over the
+/// clauses, two look-ups for each.
+pub fn workers_of(asked: WorkersOption, program: &Program, processors: usize) -> Workers
+    ensures { AreWorkersOf asked program.now processors result }
+{
+    match asked {
+        WorkersOption::Number(workers) => workers,
+        WorkersOption::Auto => {
+            if has_many_clauses(program) {
+                one_each(processors)
+            } else {
+                Workers::one()
+            }
+        }
+    }
+}
+
+/// How many processors the machine has, or one where it does not say, or where a number of workers is asked for. It costs some calls of
+/// the system under `auto`.
+pub fn processors_for<R: Threads>(rt: &R, asked: &WorkersOption) -> usize
+    ensures { 1 ≤ result }
+{
+    match asked {
+        WorkersOption::Number(_) => 1,
+        WorkersOption::Auto => match available_parallelism(rt) {
+            Ok(count) => count.get(),
+            Err(_) => 1,
+        },
+    }
+}
