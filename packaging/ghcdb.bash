@@ -8,7 +8,7 @@ _ghcdb() {
       return
       ;;
     --workers)
-      mapfile -t COMPREPLY < <(compgen -W '1 2 4 8 16 32 64' -- "$current")
+      mapfile -t COMPREPLY < <(compgen -W 'auto 1 2 4 8 16 32 64' -- "$current")
       return
       ;;
     --query)

@@ -6,6 +6,7 @@ Threads take the turns that they get, so no single run has to show it. Each of t
     the same steps each time, so a program that heeds no `--workers` fails here;
   - threads: where the system lists the threads of a process, as many are there at once as there are workers, in one of at most 20
     runs; in none are there more;
+  - auto: so are as many as there are processors for `auto`, where a predicate has more than 32 clauses, and one thread else;
   - halt: in one of at most 10 runs of goals without end, of which one leads to a spied goal, the run stops for that goal at most 2,000
     steps behind the one that made it: where a worker has met a reason to stop, the others do no more than they have in hand.
 
@@ -38,10 +39,11 @@ def show_orders(folder, workers):
     raise Wrong("each of 200 runs took the same steps in the same order, as one thread does")
 
 
-def most_threads(folder, workers, settings=None):
-    """How many threads there were at once, at the most, in a run of many goals without end. It makes no pauses."""
+def most_threads(folder, workers, settings=None, more="", goals=32):
+    """How many threads there were at once, at the most, in a run of many goals without end. It makes no pauses. The program may have
+    more clauses."""
     environment = os.environ | (settings or {})
-    case = Case("threads", ENDLESS, ", ".join(["from(0)"] * 2 * workers), [], [], False)
+    case = Case("threads", ENDLESS + more, ", ".join(["from(0)"] * goals), [], [], False)
     (folder / "lines").write_text("leap 100000\n")
     most, started, lines = 0, time.monotonic(), (folder / "lines").open()
     with lines, subprocess.Popen(words_of(folder, case, workers), stdin=lines, stdout=subprocess.DEVNULL, env=environment) as process:
@@ -56,13 +58,31 @@ def most_threads(folder, workers, settings=None):
 
 def show_threads(folder, workers):
     """As many threads are there at once as workers, in one of at most 20 runs, and more in none."""
+    need_threads(folder, workers, workers)
+
+
+def need_threads(folder, asked, wanted, more=""):
+    """So many threads are there at once, in one of at most 20 runs, and more in none."""
     if not Path("/proc/self/task").is_dir():
         return
     found = []
-    while len(found) < 20 and workers not in found and max(found, default=0) <= workers:
-        found.append(most_threads(folder, workers))
-    if found[-1] != workers:
+    while len(found) < 20 and wanted not in found and max(found, default=0) <= wanted:
+        found.append(most_threads(folder, asked, more=more, goals=2 * max(wanted, 4)))
+    if found[-1] != wanted:
         raise Wrong(f"at the most, so many threads were there at once in each of some runs: {found}")
+
+
+def processors():
+    """How many processors a process may use here, 64 at most: those of its mask, within the quota of its group."""
+    count, quota = len(os.sched_getaffinity(0)), Path("/sys/fs/cgroup/cpu.max")
+    limit, period = quota.read_text().split() if quota.exists() else ("max", "0")
+    return min(count, 64, *([] if limit == "max" else [max(1, int(limit) // int(period))]))
+
+
+def show_auto(folder, workers):
+    """With 33 clauses there are as many threads as processors; with 32 there is one."""
+    for clauses, wanted in ((33, processors()), (32, 1)):
+        need_threads(folder, "auto", wanted, "".join(f"next({k},X) :- true | X = {k}.\n" for k in range(clauses)))
 
 
 def steps_behind(folder, workers, name):
@@ -108,4 +128,4 @@ def show_refused(folder, workers):
             raise Wrong(f"with all threads refused there were {most}")
 
 
-SHOWN = {"orders": show_orders, "threads": show_threads, "halt": show_halt, "refused": show_refused}
+SHOWN = {"orders": show_orders, "threads": show_threads, "auto": show_auto, "halt": show_halt, "refused": show_refused}
