@@ -1,5 +1,6 @@
 // Places of a head beside the goal's, gone through from the last one to the first.
-ghost use Rattle.std.specs.Prelude.{◌≡◌, ◌++◌, [], OnOk};
+ghost use Rattle.std.specs.Prelude.{◌≡◌, ◌<◌, ◌++◌, [], ◌∷◌, OnOk};
+ghost use Rattle.std.specs.Vec.{vec_capacity, vec_len};
 ghost use Rattle.std.specs.List.{zip};
 ghost use Rattle.ghc_match.specs.inner.Places.{ahead_in, all_ahead, TakesLast};
 
@@ -69,6 +70,31 @@ pub fn next_pair<'a>(
     }
 }
 
+// For how many places room is made at first: 960 bytes. A list of that many elements takes memory once, and in a piece that allocators give
+// and take back without a lock.
+const FIRST: usize = 24;
+
+// Makes room for places that wait.
+#[inline(never)]
+fn make_room(pending: &mut Vec<Places<'_>>) -> Result<(), AllocError>
+    ensures items { OnOk result (pending.new.items ≡ pending.old.items) }
+    ensures room { OnOk result (vec_len pending.new < vec_capacity pending.new) }
+{
+    pending.reserve(FIRST)
+}
+
+// Lets the places wait.
+#[inline(always)]
+fn let_wait<'a>(here: Places<'a>, pending: &mut Vec<Places<'a>>) -> Result<(), AllocError>
+    ensures { OnOk result (pending.new.items ≡ pending.old.items ++ here.entry ∷ []) }
+{
+    if pending.len() == pending.capacity() {
+        make_room(pending)?;
+    }
+    pending.push_reserved(here);
+    Ok(())
+}
+
 // Goes to the places below; those here wait, if there are any. Nothing is kept of places that are all done.
 pub fn go_below<'a>(
     below: Places<'a>,
@@ -81,7 +107,7 @@ pub fn go_below<'a>(
         return Ok(());
     }
     if here.left > 0 {
-        pending.push(*here)?;
+        let_wait(*here, pending)?;
     }
     *here = below;
     Ok(())
