@@ -270,7 +270,17 @@ fn take_turn<P, C: Craft<P>, L: Limited, R: Wait>(
 }
 
 // How often a worker looks at the door before it sleeps there: for about as long as a turn takes.
-const LOOKS: u32 = 4000;
+const LOOKS: u32 = 500;
+
+// How many pauses it makes between two looks. Each look takes the door's line of memory from who has the turn.
+const PAUSES: u32 = 16;
+
+// Pauses between two looks.
+fn pause() {
+    for _ in 0..PAUSES {
+        spin_loop();
+    }
+}
 
 // Waits for its turn.
 fn wait_for_turn<'a, R: Wait>(rt: &R, door: &'a Mutex<()>) -> MutexGuard<'a, ()> {
@@ -278,7 +288,7 @@ fn wait_for_turn<'a, R: Wait>(rt: &R, door: &'a Mutex<()>) -> MutexGuard<'a, ()>
         if let Some(turn) = door.try_lock() {
             return turn;
         }
-        spin_loop();
+        pause();
     }
     door.lock(rt)
 }
