@@ -65,7 +65,8 @@ const isList = (of) => (value) => Array.isArray(value) && value.length > 0 && va
 const KNOWN_CATEGORIES = ["Debuggers", "Programming Languages"];
 const TYPES = ["string", "number", "boolean"];
 
-const isProperty = (value) => TYPES.includes(value.type) && isText(value.description) && (value.default === undefined || typeof value.default === value.type);
+const typesOf = (value) => [value.type].flat();
+const isProperty = (value) => typesOf(value).every((type) => TYPES.includes(type)) && isText(value.description) && (value.default === undefined || typesOf(value).includes(typeof value.default));
 const isAttributes = (value) => Object.keys(value).join() === "launch" && value.launch.required.every((name) => value.launch.properties[name]) && Object.values(value.launch.properties).every(isProperty);
 const has = (form) => (value) => Object.keys(value).every((key) => form[key.replace("?", "")] || form[`${key}?`]) && Object.entries(form).every(([key, isRight]) => (value[key.replace("?", "")] === undefined ? key.endsWith("?") : isRight(value[key.replace("?", "")])));
 
