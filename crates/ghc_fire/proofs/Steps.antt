@@ -1,5 +1,5 @@
 -- Effects: local, one at most, of what was unbound and bound.
-use Rattle.ghc_fire.proofs.Words.{◌≡◌, ℕ, ℤ, true, false, cond, List, [], ◌∷◌, length, refl, sym, ap, ◌∙◌, subst, inl, inr, ◌⊎◌, Option, Some, None, IsTrue, option_or, eq_by_cmp, VarName, Tree, variable, integer, nil, cons, Expression, call, unify, assign, stream, In, Reaches, here, through, IsAcyclic, name_cmp, with_binding, StoreValue, value_at, name_total, same_name, leads_once, leads_agree, in_either, Clause, Program, IsClause, leaf_variables, fresh_variables, Variables, EndsIn, Number, of_integer, of_variable, computed, HasOutcome, accepts, LooksAt, Accepts, in_set, set_in, one_set, set_of, number_there, number_once, ends_once, outcome_there, outcomes_exclude, Unifies, solved, with_bindings, IsCutDown, BindsAndReads, by_value, comes_agree, passed_on, comes_reaches, leads_bound, comes_leads, binding_acyclic, by_answers, comes_end, is_local, one_ending, keeps_acyclic, binds_and_reads, made, body_made, ByClause as by_clause, Unified as unified, Assigned as assigned, Given as given, Closed as closed, Effect, IsOnChainsOf, Reduces, ReadsTail, IsClosed, EffectIsLocal, EffectIsOne, EffectBindsAndReads, EffectUnderEachNumber, EffectKeepsAcyclic}
+use Rattle.ghc_fire.proofs.Words.{◌≡◌, ℕ, ℤ, true, false, cond, List, [], ◌∷◌, length, refl, sym, ap, ◌∙◌, subst, inl, inr, ◌⊎◌, Option, Some, None, IsTrue, option_or, eq_by_cmp, VarName, Tree, variable, integer, nil, cons, Expression, call, unify, assign, stream, In, Reaches, here, through, IsAcyclic, name_cmp, with_binding, StoreValue, value_at, name_total, same_name, leads_once, leads_agree, in_either, Clause, Program, IsClause, leaf_variables, fresh_variables, Variables, EndsIn, Number, of_integer, of_variable, computed, HasOutcome, accepts, LooksAt, Accepts, in_set, set_in, one_set, set_of, number_there, number_once, ends_once, outcome_there, outcomes_exclude, Unifies, solved, with_bindings, IsCutDown, BindsAndReads, by_value, comes_agree, passed_on, comes_reaches, leads_bound, comes_leads, binding_acyclic, by_answers, comes_end, is_local, one_ending, keeps_acyclic, binds_and_reads, made, body_made, ByClause as by_clause, Unified as unified, Assigned as assigned, Given as given, Closed as closed, Effect, IsOnChainsOf, Reduces, ReadsTail, IsClosed, EffectIsLocal, EffectIsOfWhatItRead, EffectIsOne, EffectBindsAndReads, EffectUnderEachNumber, EffectKeepsAcyclic}
 pub use Rattle.ghc_flat.proofs.Numbers.{clause_once}
 use Rattle.std.specs.FinMap as finite
 use Rattle.std.specs.FinSet as set
@@ -20,9 +20,15 @@ tail_local {x = x} {S' = S'} e r c = (
   r.3,
 )
 
+pub effect_of_reads : EffectIsOfWhatItRead
+effect_of_reads P (call f ts) k n S S' e d same =
+    let o = d.4 in (d.0, d.1, d.2, d.3, outcome_there d.0 ts S S' (accepts d.1 e.reads) o (λ x l. same x ((o.2 x).1 l)), d.5, d.6, d.7)
+effect_of_reads P (unify l r) k n S S' e d same = absurd d
+effect_of_reads P (assign t a) k n S S' e d same = absurd d
+effect_of_reads P (stream j s) k n S S' e d same = absurd d
+
 pub effect_local : EffectIsLocal
-effect_local P (call f ts) (by_clause k) n S S' e d c =
-    let o = d.4 in (d.0, d.1, d.2, d.3, outcome_there d.0 ts S S' (accepts d.1 e.reads) o (λ x l. c.kept x ((o.2 x).1 l)), d.5, d.6, d.7)
+effect_local P (call f ts) (by_clause k) n S S' e d c = effect_of_reads P (call f ts) k n S S' e d c.kept
 effect_local P (unify l r) unified n S S' e d c = (is_local S S' l r e.binds e.reads d.0 c, d.1, d.2)
 effect_local P (assign t a) assigned n S S' e d c =
     let reads = d.4 in

@@ -9,7 +9,7 @@ pub use Rattle.ghc_fire.specs.Firing.{Firing, IsReductionOf}
 pub use Rattle.ghc_fire.specs.Facts.{AppendRun, BoundTailTakesNothing, InputAndClose, InputReadsAlias, list_1, list_2, partial_list}
 pub use Rattle.ghc_fire.specs.Goals.{Goals, goal_cmp}
 pub use Rattle.ghc_fire.specs.Instance.{becomes, body_made, made, place_in, replace_in_expression, replace_in_goal}
-pub use Rattle.ghc_fire.specs.Laws.{AttemptHasOneAnswer, AttemptIsExact, AttemptIsOfWhatIsLookedAt, ComesFrom, EachActHasAnEffectOrNone, EachAttemptHasAnAnswer, EachEffectIsDecided, EffectBindsAndReads, EffectIsLocal, EffectIsOne, EffectKeepsAcyclic, EffectUnderANumber, EffectUnderEachNumber, EffectVariables, IsMadeBy, ProposalAsAStep, ProposalIsEffect}
+pub use Rattle.ghc_fire.specs.Laws.{AttemptHasOneAnswer, AttemptIsExact, AttemptIsOfWhatIsLookedAt, ComesFrom, EachActHasAnEffectOrNone, EachAttemptHasAnAnswer, EachEffectIsDecided, EffectBindsAndReads, EffectIsLocal, EffectIsOfWhatItRead, EffectIsOne, EffectKeepsAcyclic, EffectUnderANumber, EffectUnderEachNumber, EffectVariables, IsMadeBy, ProposalAsAStep, ProposalIsEffect}
 pub use Rattle.ghc_fire.specs.Proposal.{Proposal, numbered, under}
 pub use Rattle.ghc_fire.specs.inner.Renaming.{AreBehindHead, operated, plugged, renamed, replacement}
 pub use Rattle.ghc_fire.specs.inner.Tail.{IsTailBound}

@@ -18,6 +18,7 @@ use Rattle.ghc_unify.specs.Unify.{with_bindings}
 use Rattle.ghc_unify.specs.Laws.{IsCutDown, BindsAndReads}
 use Rattle.ghc_fire.specs.Instance.{made}
 use Rattle.ghc_fire.specs.declared.act.Act.{Act}
+use Rattle.ghc_fire.specs.declared.act.Act.TheVariants.{ByClause as by_clause}
 use Rattle.ghc_fire.specs.Effect.{Effect, HasEffect, no_step}
 use Rattle.ghc_fire.specs.Goals.{Goals}
 use Rattle.ghc_fire.specs.Attempt.{Answer, proposes, refused, AttemptsAs, Attempts}
@@ -29,6 +30,12 @@ abbrev pub EffectIsLocal : Type 0
 EffectIsLocal =
     (P : Program) (g : Goal) (a : Act) (n : ℕ) (S S' : VarName → Option Tree) (e : Effect) → HasEffect P g a n S e
     → IsCutDown (λ x. IsTrue (set.contains e.reads x)) S S' → HasEffect P g a n S' e
+
+-- Stores that agree on what a call's step read give its clause one effect.
+abbrev pub EffectIsOfWhatItRead : Type 0
+EffectIsOfWhatItRead =
+    (P : Program) (g : Goal) (k n : ℕ) (S S' : VarName → Option Tree) (e : Effect) → HasEffect P g (by_clause k) n S e
+    → ((x : VarName) → IsTrue (set.contains e.reads x) → S' x ≡ S x) → HasEffect P g (by_clause k) n S' e
 
 -- In an acyclic store an act has one effect at most.
 abbrev pub EffectIsOne : Type 0

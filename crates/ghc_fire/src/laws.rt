@@ -1,9 +1,14 @@
 // Laws of effects and of attempts, each as the contract of a function.
-ghost use Rattle.ghc_fire.specs.Laws.{EffectIsLocal, EffectIsOne, EffectBindsAndReads, EffectUnderEachNumber, EffectKeepsAcyclic, EffectVariables, AttemptHasOneAnswer, AttemptIsExact, EachAttemptHasAnAnswer, EachActHasAnEffectOrNone, EachEffectIsDecided, AttemptIsOfWhatIsLookedAt, EffectUnderANumber, ProposalIsEffect, ProposalAsAStep};
+ghost use Rattle.ghc_fire.specs.Laws.{EffectIsLocal, EffectIsOfWhatItRead, EffectIsOne, EffectBindsAndReads, EffectUnderEachNumber, EffectKeepsAcyclic, EffectVariables, AttemptHasOneAnswer, AttemptIsExact, EachAttemptHasAnAnswer, EachActHasAnEffectOrNone, EachEffectIsDecided, AttemptIsOfWhatIsLookedAt, EffectUnderANumber, ProposalIsEffect, ProposalAsAStep};
 
 /// Bindings of variables that a step did not read may be taken away.
 pub fn effect_is_local()
     ensures { EffectIsLocal }
+{}
+
+/// Stores that agree on what a call's step read give its clause one effect.
+pub fn effect_is_of_what_it_read()
+    ensures { EffectIsOfWhatItRead }
 {}
 
 /// In an acyclic store an act has one effect at most.

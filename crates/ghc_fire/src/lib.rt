@@ -33,9 +33,9 @@ pub use instances::instance;
 pub use laws::{
     attempt_has_one_answer, attempt_is_exact, attempt_is_of_what_is_looked_at,
     each_act_has_an_effect_or_none, each_attempt_has_an_answer, each_effect_is_decided,
-    effect_binds_and_reads, effect_is_local, effect_is_one, effect_keeps_acyclic,
-    effect_under_a_number, effect_under_each_number, effect_variables, proposal_as_a_step,
-    proposal_is_effect,
+    effect_binds_and_reads, effect_is_local, effect_is_of_what_it_read, effect_is_one,
+    effect_keeps_acyclic, effect_under_a_number, effect_under_each_number, effect_variables,
+    proposal_as_a_step, proposal_is_effect,
 };
 pub use made::{Made, MadeGoal};
 pub use meter::Meter;

@@ -1,9 +1,9 @@
 // Whether two terms, two expressions or two goals are the same. What is left to be compared stands in a list, so that
 // no depth takes stack.
-ghost use Rattle.std.specs.Prelude.{◌≡◌, ◌↔◌, suc, length, IfOk, OnOk, IsTrue};
+ghost use Rattle.std.specs.Prelude.{◌≡◌, ◌<◌, ◌≤◌, ◌↔◌, suc, length, IfOk, MatchOption, OnOk, IsTrue};
 ghost use Rattle.ghc_term.specs.Tree.{variable, integer, atom, trees};
 ghost use Rattle.ghc_term.specs.InputTerm.{nodes, nodes_of_all};
-ghost use Rattle.ghc_term.specs.inner.Equality.{AreAlike, IsAlike, Compared, Adds, left_nodes, expression_nodes, goal_nodes};
+ghost use Rattle.ghc_term.specs.inner.Equality.{AreAlike, IsAlike, Compared, Adds, left_nodes, all_left_nodes, expression_nodes, goal_nodes};
 
 use crate::expr::Expr;
 use crate::expr_view::ExprView;
@@ -148,6 +148,24 @@ pub(crate) fn are_alike<'a>(mut waiting: Vec<Pair<'a>>) -> Result<bool, AllocErr
     Ok(true)
 }
 
+// Whether each pair has two sides that are the same, or nothing where so many comparisons do not tell it.
+fn are_alike_within<'a>(mut waiting: Vec<Pair<'a>>, most: u32) -> Result<Option<bool>, AllocError>
+    ensures { IfOk result (λ found. MatchOption found (most ≤ all_left_nodes waiting.entry.items) (λ same. IsTrue same ↔ AreAlike waiting.entry.items)) }
+{
+    for _ in 0..most {
+        let Some(pair) = waiting.pop() else {
+            return Ok(Some(true));
+        };
+        if !compare(pair, &mut waiting)? {
+            return Ok(Some(false));
+        }
+    }
+    if waiting.is_empty() {
+        return Ok(Some(true));
+    }
+    Ok(None)
+}
+
 // Compares two goals at the top.
 fn compare_goals<'a>(
     left: &'a Goal,
@@ -214,5 +232,22 @@ impl Goal {
             return Ok(false);
         }
         are_alike(waiting)
+    }
+
+    /// Whether the other is the same goal, as `same` says it, or nothing where that takes more than so many comparisons: the goal has
+    /// more nodes then. It costs so many steps at most.
+    pub fn same_within(
+        &self,
+        alloc: Global,
+        other: &Goal,
+        most: u32,
+    ) -> Result<Option<bool>, AllocError>
+        ensures { IfOk result (λ found. MatchOption found (most < goal_nodes self.now) (λ same. IsTrue same ↔ (self.now ≡ other.now))) }
+    {
+        let mut waiting = Vec::new(alloc);
+        if !compare_goals(self, other, &mut waiting)? {
+            return Ok(Some(false));
+        }
+        are_alike_within(waiting, most)
     }
 }
