@@ -1,8 +1,11 @@
 -- Proposals that hold: what an attempt would propose, the step that they become, and the one answer of a commit.
 use Rattle.ghc_core.proofs.Words.{◌≡◌, false, ℕ, arith, refl, sym, ap, ◌∙◌, subst, inl, inr, Some, None, Option, VarName, GoalName, Fault, Tree, Goal, call, unify, assign, stream, IsAcyclic, value_at, exact, Program, is_stream, Act, ByClause as by_clause, Unified as unified, Assigned as assigned, Effect, HasEffect, no_step, under, Answer, proposes, CallAnswers, ChoiceAnswers, UnificationAnswers, AssignmentAnswers, Attempts, effect_once, attempt_once, effect_under, same_act, same_effect, same_fault, apart, Record, World, HasRoom, AttemptAnswers, IsReduction, StillHolds, IsCommitOf, IsStepOf, ProposesInFull, StepFails, IsStanding, choice_of, CommitIsExact, StepIsExact, StreamStepIsExact}
 use Rattle.std.specs.FinMap as finite
+use Rattle.std.specs.FinSet as set
 use Rattle.ghc_fire.specs.Proposal.{Proposal}
 use Rattle.ghc_fire.specs.Attempt.{refused}
+use Rattle.ghc_fire.specs.Laws.{EffectIsOfWhatItRead}
+use Rattle.ghc_core.specs.Proposes.{WasProposed}
 use Rattle.ghc_core.proofs.Refusing.{told_once, first_once, stream_fails_once, commit_fails_once, value_once}
 use Rattle.ghc_core.proofs.Naming.{known_of_act}
 use Rattle.ghc_core.proofs.Stepping as stepping
@@ -41,6 +44,16 @@ proposed_holds w g choice b a e there t =
 -- A proposal that an attempt at its goal answers now, with whatever choice, still holds.
 pub answered_holds : (w : World) (p : Proposal) (choice : Option ℕ) (b : Goal) → finite.get w.state.goals p.goal ≡ Some b → AttemptAnswers w p.goal choice (proposes p.act p.effect) → StillHolds w p
 answered_holds w p choice b there t = let h = proposed_holds w p.goal choice b p.act p.effect there t in (b, h.1, there, h.0)
+
+-- A step of a call that was proposed, and read nothing, still holds where the call is there as it was.
+pub holds_as_it_was : EffectIsOfWhatItRead → (w : World) (p : Proposal) (k : ℕ) → WasProposed w p → p.act ≡ by_clause k → set.len p.effect.reads ≡ 0 → finite.get w.state.goals p.goal ≡ Some p.consumed → StillHolds w p
+holds_as_it_was law w p k (v, choice, same, proposed) is none there =
+    let S = value_at w.state.store in
+    let then = proposed_holds v p.goal choice p.consumed p.act p.effect proposed.there proposed.proposed in
+    let reads_nothing : (x : VarName) → set.contains p.effect.reads x ≡ false = λ x. ap (λ s. set.contains s x) (set.empty_of_len p.effect.reads none) ∙ set.contains-empty _ x in
+    let by = rw is at then.0 in
+    let now = law v.opening.program p.consumed k no_step (value_at v.state.store) S p.effect by (λ x i. let clash = reads_nothing x in cc) in
+    (p.consumed, then.1, there, subst (λ o. HasEffect o.program p.consumed p.act no_step S p.effect) same (subst (λ a. HasEffect v.opening.program p.consumed a no_step S p.effect) (sym is) now))
 
 -- a goal that a reduction has an effect on is no stream goal
 pub no_stream : (P : Program) (b : Goal) (a : Act) (n : ℕ) (S : VarName → Option Tree) (e : Effect) → IsReduction a → HasEffect P b a n S e → is_stream b ≡ false

@@ -46,6 +46,10 @@ StillHolds w p =
     (b : Goal) × IsReduction p.act × (finite.get w.state.goals p.goal ≡ Some b)
     × HasEffect w.opening.program b p.act no_step (value_at w.state.store) p.effect
 
+-- In some world of the same opening, an attempt at its goal proposed this.
+abbrev pub WasProposed : World → Proposal → Type 0
+WasProposed w p = (v : World) × (choice : Option ℕ) × (v.opening ≡ w.opening) × IsProposedIn v p.goal choice p
+
 -- The proposal holds as the next step: its goal is there, and its effect under the next number is the one proposed, under that number.
 abbrev pub HoldsAsNext : World → Proposal → Type 0
 HoldsAsNext w p =

@@ -12,10 +12,10 @@ ghost use Rattle.ghc_core.specs.declared.changes.Change.TheVariants.{Comes as co
 ghost use Rattle.ghc_core.specs.Change.{HasRoomFor};
 ghost use Rattle.ghc_core.specs.Core.{IsCommitted, record_as, next_record, Stays};
 ghost use Rattle.ghc_depend.specs.Depend.{Binds};
-ghost use Rattle.ghc_core.specs.Proposes.{AttemptAnswers, IsProposedIn, IsFiredNext, IsCommitOf, CommitFails};
+ghost use Rattle.ghc_core.specs.Proposes.{AttemptAnswers, IsProposedIn, IsFiredNext, IsCommitOf, CommitFails, WasProposed};
 
 use crate::changes::carrying::carry_over;
-use crate::changes::recheck::recheck;
+use crate::changes::recheck::{holds_as_it_was, recheck};
 use crate::changes::{Change, Coming};
 use crate::core_state::Core;
 use ghc_fire::{Firing, Meter, Proposal, attempt, finish, fire_as};
@@ -103,6 +103,14 @@ impl Core {
         )
     }
 
+    // Counts a firing.
+    fn count_firing(&mut self)
+        ensures stays { Stays self.old self.new }
+        ensures counted { self.new.meter ≡ fired self.old.meter }
+    {
+        self.meter.count_firing();
+    }
+
     // Fires the step of the goal as the next one: what an attempt proposes, under the number of the next step.
     pub(crate) fn fire_next(
         &mut self,
@@ -182,6 +190,24 @@ impl Core {
         }
     }
 
+    /// Finds what it takes to take a step that an attempt proposed in a world of the core's opening, with the refusals of `prepare`, and
+    /// counts a firing. Where the step is a call's and read nothing, and the call is small and there as it was, no attempt is made, and it
+    /// costs a walk over the call and what the step makes; else it costs what `prepare` costs.
+    pub fn prepare_proposed(&mut self, alloc: Global, proposal: Proposal) -> Result<Addition, Fault>
+        requires { WasProposed self.old.world proposal }
+        ensures answer { Answered (IsCommitOf self.old.world proposal) (CommitFails self.old.world proposal) result }
+        ensures gone { finite.get self.old.world.state.goals proposal.goal ≡ None → result ≡ Err Fault.Stale }
+        ensures stays { Stays self.old self.new }
+        ensures counted { self.new.meter ≡ fired self.old.meter }
+    {
+        self.stands();
+        if !holds_as_it_was(alloc, self, &proposal) {
+            return self.prepare(alloc, &proposal);
+        }
+        self.count_firing();
+        self.as_next(alloc, proposal)
+    }
+
     // Takes a step that was found as the next one, and gives its number.
     pub(crate) fn take_next(&mut self, addition: Addition) -> Result<u32, AllocError>
         requires found { IsNextStep self.old.world addition }
@@ -251,6 +277,21 @@ impl Core {
         let addition = self.prepare(alloc, proposal)?;
         let number = self.take_next(addition)?;
         self.stands();
+        Ok(number)
+    }
+
+    /// Takes a step that an attempt proposed in a world of the core's opening, as `commit` does, with its refusals. It costs what
+    /// preparing it so and applying the step cost.
+    pub fn commit_proposed(&mut self, alloc: Global, proposal: Proposal) -> Result<u32, Fault>
+        requires { WasProposed self.old.world proposal }
+        ensures answer { Answered (IsCommitted self.old.world proposal self.new.world) (CommitFails self.old.world proposal) result }
+        ensures gone { finite.get self.old.world.state.goals proposal.goal ≡ None → result ≡ Err Fault.Stale }
+        ensures stays { OnErr result (Stays self.old self.new) }
+        ensures counted { self.new.meter ≡ fired self.old.meter }
+        ensures notes { OnOk result ((r : record_spec) × IsCommitOf self.old.world proposal r × (self.new.world ≡ with_step r self.old.world) × AreLeft self.new.world.state.goals (Binds r) self.old.notes self.new.notes) }
+    {
+        let addition = self.prepare_proposed(alloc, proposal)?;
+        let number = self.take_next(addition)?;
         Ok(number)
     }
 }

@@ -1,12 +1,12 @@
-// Proposals made again, to see whether they still hold.
-ghost use Rattle.std.specs.Prelude.{◌≡◌, ◌≢◌, ◌⊎◌, true, false, Some, None, Err, IfOk, IfErr};
+// Proposals that still hold: it is seen at once, or they are made again.
+ghost use Rattle.std.specs.Prelude.{◌≡◌, ◌≢◌, ◌⊎◌, true, false, Some, None, Err, IfOk, IfErr, IsTrue};
 ghost use Rattle.std.specs.FinMap as finite;
 ghost use Rattle.ghc_fire.specs.Meter.{fired};
 ghost use Rattle.ghc_core.specs.Core.{choice_of, Stays};
-ghost use Rattle.ghc_core.specs.Proposes.{StillHolds, IsReduction};
+ghost use Rattle.ghc_core.specs.Proposes.{StillHolds, WasProposed, IsReduction};
 
 use crate::core_state::Core;
-use ghc_fire::{Act, Proposal};
+use ghc_fire::{Act, Proposal, effect_is_of_what_it_read};
 use ghc_term::Fault;
 use std::alloc::{AllocError, Global};
 
@@ -76,4 +76,34 @@ pub fn recheck(alloc: Global, core: &mut Core, proposal: &Proposal) -> Result<Pr
         Ok(false) => Err(Fault::Stale),
         Err(_) => Err(Fault::Memory),
     }
+}
+
+// How many comparisons of nodes are made at most to see that a goal is as it was.
+const MOST: u32 = 64;
+
+// Whether it is seen at once that the step which was proposed still holds: it is a call's, which read nothing, and the call is there as
+// it was. A large call is not looked through.
+pub fn holds_as_it_was(alloc: Global, core: &Core, proposal: &Proposal) -> bool
+    requires { WasProposed core.now.world proposal.now }
+    ensures holds { IsTrue result → StillHolds core.now.world proposal.now }
+    ensures there { IsTrue result → finite.get core.now.world.state.goals proposal.now.goal ≡ Some proposal.now.consumed }
+{
+    core.stands();
+    effect_is_of_what_it_read();
+    let Act::ByClause(_) = proposal.act() else {
+        return false;
+    };
+    if proposal.effect().reads().len() > 0 {
+        return false;
+    }
+    let Some(goal) = core.state.goals().get(proposal.goal()) else {
+        return false;
+    };
+    let Ok(found) = goal.same_within(alloc, proposal.consumed(), MOST) else {
+        return false;
+    };
+    let Some(same) = found else {
+        return false;
+    };
+    same
 }
