@@ -1,6 +1,8 @@
 -- What a pass learns of its call, by the words of the core.
 use Rattle.ghc_shared.proofs.Words.{◌≡◌, ◌+◌, ◌++◌, ℕ, suc, List, [], ◌∷◌, length, map, refl, sym, ap, ◌∙◌, subst, arith, Bool, true, false, MatchBool, Entry, Item, entered, World, LegalIsReachable, LeavesIsOne, reply_of, Leaves, Begins, entry_count, Receipt, IsAccepted, IsTold, IsAnswered, Reply, Call, Known, IsAcceptedCall, IsRefusedCall, IsDecided, hands_of, event_of, receipt_behind, receipt_of, IsToldAnyway, IsAnswerTo, IsToldOnFront}
 use mathlib.Core.List.{IsPrefix}
+use Rattle.ghc_core.specs.World.{Proposal}
+use Rattle.ghc_shared.specs.declared.calls.Call.TheVariants.{Submit, SubmitProposed}
 use Rattle.ghc_shared.specs.declared.receipt.Receipt as given
 
 -- the entries of a history are all its items but the opening
@@ -52,3 +54,12 @@ told_anyway one call before receipt old new decided w off leaves =
     let d : IsRefusedCall IsAnswerTo before call receipt.reply old new = rw off at decided.decided in
     let same : d.answer.told.before ≡ w = one before d.answer.told.before w d.answer.told.legal (subst (λ (l : List Item). Leaves l w) d.front leaves) in
     subst (λ (u : World). IsToldAnyway u call receipt.reply) same d.answer.anyway
+
+-- a submit of what was proposed is decided as each submit is
+pub as_submitted : (before : List Item) (p : Proposal) (receipt : given.Receipt Reply) (old new : Known Item) → IsDecided IsAnswerTo before (SubmitProposed p) receipt old new → IsDecided IsAnswerTo before (Submit p) receipt old new
+as_submitted before p receipt old new d = record { seen = d.seen; place = d.place; decided = told receipt.accepted d.decided }
+  where
+    told : (b : Bool) → MatchBool b (IsAcceptedCall IsAnswerTo before (SubmitProposed p) receipt.reply receipt.place old new) (IsRefusedCall IsAnswerTo before (SubmitProposed p) receipt.reply old new)
+        → MatchBool b (IsAcceptedCall IsAnswerTo before (Submit p) receipt.reply receipt.place old new) (IsRefusedCall IsAnswerTo before (Submit p) receipt.reply old new)
+    told true a = record { item = a.item; front = a.front; answer = a.answer; places = a.places }
+    told false a = record { front = a.front; answer = record { told = a.answer.told; anyway = a.answer.anyway }; places = a.places }

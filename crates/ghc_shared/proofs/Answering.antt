@@ -1,6 +1,19 @@
 -- What a call does to the history of a core.
-use Rattle.ghc_shared.proofs.Words.{◌≡◌, ◌⊎◌, ◌++◌, ◌∙◌, ℕ, [], ◌∷◌, refl, sym, ap, subst, subst₂, inl, inr, Some, None, Result, Err, Bool, true, false, arith, MatchBool, nat_cmp_total, Fault, Entry, entered, history, Proposal, Hands, no_hands, IsHand, emptied, World, IsCommitted, command_of, commit, command, stepped, refused, CommitFails, Fails, hands_after, Counts, Meter, fired, Answers, fails, no_memory, IsNotCommittedAnyway, holds_no_goal, held_gone, hand_commits, hand_gives_up, Leaves, tells_change, AddsWhatItTells, AnswersAddWhatTheyTell, reply_of, Reply, Command, Call, AddsIfAccepted, holding, hands_of, event_of, IsToldAnyway, IsAnswerTo}
+use Rattle.ghc_shared.proofs.Words.{◌≡◌, ◌⊎◌, ◌++◌, ◌∙◌, ℕ, [], ◌∷◌, refl, sym, ap, subst, subst₂, inl, inr, Some, None, Result, Ok, Err, Bool, true, false, arith, MatchBool, nat_cmp_total, Fault, Entry, entered, history, Proposal, Hands, no_hands, IsHand, emptied, World, IsCommitted, command_of, commit, command, stepped, refused, CommitFails, Fails, hands_after, Counts, Meter, fired, Answers, fails, no_memory, IsNotCommittedAnyway, holds_no_goal, held_gone, hand_commits, hand_gives_up, Leaves, tells_change, AddsWhatItTells, AnswersAddWhatTheyTell, reply_of, Reply, Command, Call, AddsIfAccepted, holding, hands_of, event_of, IsToldAnyway, IsAnswerTo}
+use Rattle.std.specs.Prelude.{OnOk, OnErr}
 use Rattle.std.specs.FinMap as finite
+use Rattle.ghc_term.specs.Answered.{Answered}
+use Rattle.ghc_hooks.specs.Notes.{AreLeft}
+use Rattle.ghc_records.specs.Record.{Record}
+use Rattle.ghc_records.specs.inner.RecordCode.{opening_code}
+use Rattle.ghc_depend.specs.Depend.{Binds}
+use Rattle.ghc_core.specs.Core.{Core, Stays}
+use Rattle.ghc_core.specs.Proposes.{IsCommitOf, WasProposed}
+use Rattle.ghc_core.specs.World.{with_step}
+use Rattle.ghc_core.specs.declared.changes.Change.TheVariants.{Comes as comes}
+use Rattle.ghc_core.specs.declared.changes.Coming.{Coming}
+use Rattle.ghc_shared.specs.declared.calls.Call.TheVariants.{Submit, SubmitProposed}
+use Rattle.ghc_shared.specs.inner.Calls.{IsCallMade, TellsCommit, TellsNoCommit, WasProposedUnder, code_of}
 use Rattle.ghc_term.specs.Goal.{Goal}
 use Rattle.ghc_core.proofs.Histories.{history_push}
 
@@ -42,6 +55,55 @@ there_is_told w p b f there anyway = let none = (gone_alone w p f anyway).1 in c
 
 pub told_gone : {X : Type 0} (w : World) (p : Proposal) (result : Result X Fault) (f : Fault) → (finite.get w.state.goals p.goal ≡ None → result ≡ Err Fault.Stale) → IsNotCommittedAnyway w (holding p) 1 f → result ≡ Err f
 told_gone w p result f said anyway = let is = gone_alone w p f anyway in said is.1 ∙ ap (λ (x : Fault). Err x) (sym is.0)
+
+-- what a commit of the proposal answered in the core old, which is the core new after it
+pub record AnswersCommit (old : Core) (p : Proposal) (result : Result ℕ Fault) (new : Core) : Type 0 where
+  pub answer : Answered (IsCommitted old.world p new.world) (CommitFails old.world p) result
+  pub gone : finite.get old.world.state.goals p.goal ≡ None → result ≡ Err Fault.Stale
+  pub stays : OnErr result (Stays old new)
+  pub counted : new.meter ≡ fired old.meter
+  pub notes : OnOk result ((r : Record) × IsCommitOf old.world p r × (new.world ≡ with_step r old.world) × AreLeft new.world.state.goals (Binds r) old.notes new.notes)
+
+-- it is told as a submit
+pub commit_told : (old : Core) (p : Proposal) (answer : Result ℕ Fault) (reply : Reply) (new : Core) → TellsCommit answer reply → AnswersCommit old p answer new → IsCallMade old (Submit p) reply new
+commit_told old p (Ok n) reply new tells c =
+    let moved = c.notes in
+    record {
+      answer = (emptied 1 (holding p), rw tells (commits old.world new.world p n c.answer.0));
+      anyway = λ f fails. let said = told_gone old.world p (Ok n) f c.gone fails in cc;
+      does = record {
+        carries = inr (record { change = comes Coming.Next moved.0; possible = moved.1.1; changed = moved.2; notes = moved.3 });
+        stays = λ r. let clash = tells in let other = r.1 in cc;
+        counts = submit_counts old.world p _ _ c.counted;
+      };
+    }
+commit_told old p (Err f) reply new tells c = record {
+  answer = (emptied 1 (holding p), rw tells (gives_up old.world new.world p f c.answer.1 c.stays.world));
+  anyway = λ g fails. let said = told_gone old.world p (Err f) g c.gone fails in cc;
+  does = record { carries = inl (f, tells); stays = λ _. c.stays; counts = submit_counts old.world p _ _ c.counted };
+}
+
+-- where there is no room, a commit that was only prepared is told as a submit
+pub no_commit_told : {A : Type 0} (Gives : A → Type 0) (old : Core) (p : Proposal) (found : Result A Fault) (reply : Reply) (new : Core) → TellsNoCommit found reply → Answered Gives (CommitFails old.world p) found
+    → (finite.get old.world.state.goals p.goal ≡ None → found ≡ Err Fault.Stale) → Stays old new → new.meter ≡ fired old.meter → IsCallMade old (Submit p) reply new
+no_commit_told Gives old p (Ok a) reply new tells answer gone stays counted = record {
+  answer = (emptied 1 (holding p), rw tells (gives_up old.world new.world p Fault.Memory (inl refl) stays.world));
+  anyway = λ f fails. let said = told_gone old.world p (Ok a) f gone fails in cc;
+  does = record { carries = inl (Fault.Memory, tells); stays = λ _. stays; counts = submit_counts old.world p _ _ counted };
+}
+no_commit_told Gives old p (Err f) reply new tells answer gone stays counted = record {
+  answer = (emptied 1 (holding p), rw tells (gives_up old.world new.world p f answer.1 stays.world));
+  anyway = λ g fails. let said = told_gone old.world p (Err f) g gone fails in cc;
+  does = record { carries = inl (f, tells); stays = λ _. stays; counts = submit_counts old.world p _ _ counted };
+}
+
+-- what was proposed under the opening of a core was proposed in a world of that opening
+pub proposed_there : (w : World) (p : Proposal) → WasProposedUnder (code_of w.opening) p → WasProposed w p
+proposed_there w p (v, choice, same, proposed) = (v, choice, opening_code.inj v.opening w.opening same, proposed)
+
+-- a submit of what was proposed is made as each submit is
+pub made_as_proposed : (old : Core) (p : Proposal) (reply : Reply) (new : Core) → IsCallMade old (Submit p) reply new → IsCallMade old (SubmitProposed p) reply new
+made_as_proposed old p reply new m = record { answer = m.answer; anyway = m.anyway; does = record { carries = m.does.carries; stays = m.does.stays; counts = m.does.counts } }
 
 -- a call was accepted where its reply tells of a change, and adds its entry then
 pub called : AnswersAddWhatTheyTell → (w v : World) (call : Call) (reply : Reply) (left : Hands) (accepted : Bool) → accepted ≡ tells_change (reply_of reply) → Leaves (history w.opening w.journal) w

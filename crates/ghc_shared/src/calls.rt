@@ -9,6 +9,8 @@ use std::marker::Model;
 pub enum Call {
     /// The step that was proposed is to be taken.
     Submit(Proposal),
+    /// The same, and an attempt in a world of the core's opening proposed the step.
+    SubmitProposed(Proposal),
     /// The goal of this name is to be tried and noted.
     Note(GoalName),
     /// The core gets the command.

@@ -11,7 +11,7 @@ ghost use Rattle.ghc_core.specs.Excerpt.{GivesExcerpt};
 ghost use Rattle.ghc_shared.specs.declared.calls.Call.TheVariants.{Submit as submitted, Note as asked_note, Command as asked};
 ghost use Rattle.ghc_shared.specs.Passes.{submits_after};
 ghost use Rattle.ghc_shared.specs.Receipts.{IsDecided};
-ghost use Rattle.ghc_shared.specs.inner.Calls.{holding, hands_of, event_of, receipt_of, code_of, IsAnswerTo, IsToldOnFront, IsProposal, ListsWoken, is_submit};
+ghost use Rattle.ghc_shared.specs.inner.Calls.{holding, hands_of, event_of, receipt_of, code_of, IsAnswerTo, IsToldOnFront, IsProposal, ListsWoken, is_submit, WasProposedUnder, IsKnownCall};
 ghost use Rattle.ghc_shared.specs.inner.AtOnce.{IsStepAtOnce};
 
 use crate::calls::Call;
@@ -139,6 +139,7 @@ impl<N: Naming> Shared<Core, N> {
         me: &mut Pass<Core, N>,
         call: Call,
     ) -> Receipt<Reply>
+        requires { IsKnownCall N.opened call }
         ensures begins { IsPrefix me.old.front me.new.front }
         ensures number { me.new.number ≡ me.old.number }
         ensures legal { IsLegal me.new.front }
@@ -171,6 +172,27 @@ impl<N: Naming> Shared<Core, N> {
         ensures answered { IsAnswered (Unit {0}) me.old.front me.new.front (holding proposal) (committed 1) (receipt_of result) }
     {
         self.ask(rt, alloc, me, Call::Submit(proposal))
+    }
+
+    /// Takes the step that was proposed as `submit` does, where an attempt in a world of the opening proposed it: `propose` did, or an
+    /// attempt at an excerpt. Where the step is a small call's and read nothing, it costs no attempt under the lock.
+    pub fn submit_proposed<R: Wait>(
+        &self,
+        rt: &R,
+        alloc: Global,
+        me: &mut Pass<Core, N>,
+        proposal: Proposal,
+    ) -> Receipt<Reply>
+        requires { WasProposedUnder N.opened proposal }
+        ensures begins { IsPrefix me.old.front me.new.front }
+        ensures number { me.new.number ≡ me.old.number }
+        ensures legal { IsLegal me.new.front }
+        ensures submits { me.new.submits ≡ one_more me.old.submits }
+        ensures decided { (before : List Item) × IsDecided IsAnswerTo before (submitted proposal) result me.old me.new }
+        ensures anyway { IsToldOnFront me.new.front (submitted proposal) result }
+        ensures answered { IsAnswered (Unit {0}) me.old.front me.new.front (holding proposal) (committed 1) (receipt_of result) }
+    {
+        self.ask(rt, alloc, me, Call::SubmitProposed(proposal))
     }
 
     /// Tries the goal and notes what was found, as the core does. It adds no entry: the reply is the status of the goal after just the

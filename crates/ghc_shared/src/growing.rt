@@ -34,6 +34,9 @@ pub trait Growing {
     /// What a call with this reply may do to the value beside its history.
     ghost does: { Self → Self.Ask → Self.Reply → Self → Type 0 };
 
+    /// What a caller knows, who makes the call of a value that began so.
+    ghost knows: { Gv → Self.Ask → Type 0 };
+
     /// The reply to a call whose place there is no room for: it is not made, and the history stays.
     fn refuse(&mut self, alloc: Global, ask: &Self::Ask) -> Self::Reply
         ensures same { history self.new ≡ history self.old }
@@ -52,6 +55,7 @@ pub trait Growing {
 
     /// Makes a call, and says beside the reply whether it was accepted. Where memory is refused, so is the call.
     fn call(&mut self, alloc: Global, ask: Self::Ask) -> (Self::Reply, bool)
+        requires { knows (opened self.old) ask }
         ensures adds { AddsIfAccepted answers result.1 (history self.old) (history self.new) ask result.0 }
         ensures opened { opened self.new ≡ opened self.old }
         ensures does { does self.old ask result.0 self.new };

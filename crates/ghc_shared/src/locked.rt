@@ -77,7 +77,8 @@ impl<C: Growing, N: Naming> Locked<C, N> {
         me: &mut Pass<C, N>,
         ask: C::Ask,
     ) -> Receipt<C::Reply>
-        requires { (table.now.shared.table_id ≡ N.table) × (N.table.words ≡ 1) }
+        requires tables { (table.now.shared.table_id ≡ N.table) × (N.table.words ≡ 1) }
+        requires known { C.knows N.opened ask }
         ensures begins { IsPrefix me.old.front me.new.front }
         ensures number { me.new.number ≡ me.old.number }
         ensures legal { C.legal me.new.front }
@@ -133,6 +134,7 @@ fn call_with<C: Growing>(
     ask: C::Ask,
     room: bool,
 ) -> (Receipt<C::Reply>, u64)
+    requires { C.knows (C.opened value.old) ask }
     ensures place { result.0.place ≡ length (C.history value.old) }
     ensures call { AddsIfAccepted C.answers result.0.accepted (C.history value.old) (C.history value.new) ask result.0.reply }
     ensures opened { C.opened value.new ≡ C.opened value.old }

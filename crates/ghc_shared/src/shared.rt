@@ -39,6 +39,7 @@ impl<C: Growing, N: Naming> Shared<C, N> {
         me: &mut Pass<C, N>,
         ask: C::Ask,
     ) -> Receipt<C::Reply>
+        requires { C.knows N.opened ask }
         ensures begins { IsPrefix me.old.front me.new.front }
         ensures number { me.new.number ≡ me.old.number }
         ensures legal { C.legal me.new.front }

@@ -1,46 +1,57 @@
 // A core as a value that tells its history.
 ghost use Rattle.std.specs.Prelude.{◌≡◌};
 ghost use Rattle.ghc_records.specs.Journal.{history};
-ghost use Rattle.ghc_core.specs.Answers.{Answers};
-ghost use Rattle.ghc_core.specs.EventCode.{reply_of};
 ghost use Rattle.ghc_core.specs.Legal.{IsLegal};
-ghost use Rattle.ghc_core.specs.World.{Hands};
-ghost use Rattle.ghc_shared.specs.inner.Calls.{hands_of, event_of, CallDoes, IsToldAnyway, IsAnswerTo, code_of, is_submit};
+ghost use Rattle.ghc_shared.specs.inner.Calls.{TellsCommit, TellsNoCommit, IsCallMade, CallDoes, IsAnswerTo, IsKnownCall, code_of, is_submit};
 
 use crate::calls::{Call, HistoryItem};
 use crate::growing::Growing;
 use ghc_core::{Core, Reply, answers_add_what_they_tell};
+use ghc_records::Addition;
 use ghc_term::Fault;
 use std::alloc::Global;
 
+// Tells what a commit answered.
+fn tell_commit(answer: Result<u32, Fault>) -> Reply
+    ensures { TellsCommit answer result }
+{
+    match answer {
+        Ok(number) => Reply::Stepped(number),
+        Err(fault) => Reply::Refused(fault),
+    }
+}
+
+// Tells why a commit is refused, and else that there is no memory for it.
+fn tell_no_commit(found: Result<Addition, Fault>) -> Reply
+    ensures { TellsNoCommit found result }
+{
+    match found {
+        Ok(_addition) => Reply::Refused(Fault::Memory),
+        Err(reason) => Reply::Refused(reason),
+    }
+}
+
 // Makes the call, and replies.
-fn reply_to(core: &mut Core, alloc: Global, call: &Call) -> Reply
-    ensures answer { (left : Hands) × Answers (Unit {0}) core.old.world (hands_of call.now) (event_of call.now) (reply_of result) core.new.world left }
-    ensures anyway { IsToldAnyway core.old.world call.now result }
-    ensures does { CallDoes core.old call.now result core.new }
+fn reply_to(core: &mut Core, alloc: Global, call: Call) -> Reply
+    requires { IsKnownCall (code_of core.old.world.opening) call }
+    ensures { IsCallMade core.old call result core.new }
 {
     match call {
-        Call::Submit(proposal) => match core.commit(alloc, proposal) {
-            Ok(number) => Reply::Stepped(number),
-            Err(fault) => Reply::Refused(fault),
-        },
-        Call::Note(goal) => core.reply_to_note(alloc, *goal),
-        Call::Command(command) => core.obey(alloc, command),
+        Call::Submit(proposal) => tell_commit(core.commit(alloc, &proposal)),
+        Call::SubmitProposed(proposal) => tell_commit(core.commit_proposed(alloc, proposal)),
+        Call::Note(goal) => core.reply_to_note(alloc, goal),
+        Call::Command(command) => core.obey(alloc, &command),
     }
 }
 
 // Tells why the call is refused, and else that there is no memory for it; a note, which takes no place, is made.
 fn refuse_to(core: &mut Core, alloc: Global, call: &Call) -> Reply
-    ensures answer { (left : Hands) × Answers (Unit {0}) core.old.world (hands_of call.now) (event_of call.now) (reply_of result) core.old.world left }
-    ensures anyway { IsToldAnyway core.old.world call.now result }
+    ensures made { IsCallMade core.old call.now result core.new }
     ensures world { core.new.world ≡ core.old.world }
-    ensures does { CallDoes core.old call.now result core.new }
 {
     match call {
-        Call::Submit(proposal) => match core.prepare(alloc, proposal) {
-            Ok(_addition) => Reply::Refused(Fault::Memory),
-            Err(reason) => Reply::Refused(reason),
-        },
+        Call::Submit(proposal) => tell_no_commit(core.prepare(alloc, proposal)),
+        Call::SubmitProposed(proposal) => tell_no_commit(core.prepare(alloc, proposal)),
         Call::Note(goal) => core.reply_to_note(alloc, *goal),
         Call::Command(command) => match core.prepare_command(alloc, command) {
             Ok(_change) => Reply::Refused(Fault::Memory),
@@ -68,6 +79,8 @@ impl Growing for Core {
 
     ghost does = { CallDoes };
 
+    ghost knows = { IsKnownCall };
+
     fn refuse(&mut self, alloc: Global, ask: &Call) -> Reply {
         self.stands();
         refuse_to(self, alloc, ask)
@@ -79,13 +92,13 @@ impl Growing for Core {
     }
 
     fn is_submit(&self, ask: &Call) -> bool {
-        matches!(ask, Call::Submit(_))
+        matches!(ask, Call::Submit(_) | Call::SubmitProposed(_))
     }
 
     fn call(&mut self, alloc: Global, ask: Call) -> (Reply, bool) {
         self.stands();
         answers_add_what_they_tell();
-        let reply = reply_to(self, alloc, &ask);
+        let reply = reply_to(self, alloc, ask);
         let accepted = reply.tells_change();
         (reply, accepted)
     }

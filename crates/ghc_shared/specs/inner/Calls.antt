@@ -19,6 +19,7 @@ use Rattle.ghc_core.specs.Counting.{Counts}
 use Rattle.ghc_core.specs.Meets.{CarriesNotes}
 use Rattle.ghc_core.specs.Events as events
 use Rattle.ghc_core.specs.Proposes.{IsProposedIn, AttemptAnswers}
+use Rattle.ghc_core.specs.Answers.{Answers}
 use Rattle.ghc_core.specs.Anyway.{IsRefusedAnyway}
 use Rattle.ghc_core.specs.Legal.{Leaves, Receipt, entry_count, IsAccepted, IsTold}
 use Rattle.ghc_core.specs.Playing.{hands_with, IsRefusal}
@@ -27,7 +28,7 @@ use Rattle.ghc_core.specs.EventCode.{reply_of}
 use Rattle.ghc_core.specs.declared.reply.Reply.{Reply}
 use Rattle.ghc_shared.specs.declared.receipt.Receipt as given
 use Rattle.ghc_shared.specs.declared.calls.Call.{Call}
-use Rattle.ghc_shared.specs.declared.calls.Call.TheVariants.{Submit, Note, Command}
+use Rattle.ghc_shared.specs.declared.calls.Call.TheVariants.{Submit, SubmitProposed, Note, Command}
 
 -- one hand, which holds the proposal
 abbrev pub holding : Proposal → Hands
@@ -36,18 +37,21 @@ holding p = hands_with 1 (finite.insert finite.empty 1 p)
 -- the hands with which the call is made
 abbrev pub hands_of : Call → Hands
 hands_of (Submit p) = holding p
+hands_of (SubmitProposed p) = holding p
 hands_of (Note g) = no_hands
 hands_of (Command c) = no_hands
 
 -- the event that the call is: what the one hand holds is committed, a goal is noted, or a command is given
 abbrev pub event_of : Call → events.Event
 event_of (Submit p) = events.commit 1
+event_of (SubmitProposed p) = events.commit 1
 event_of (Note g) = events.note g
 event_of (Command c) = events.command (command_of c)
 
 -- whether the call is a submit
 abbrev pub is_submit : Call → Bool
 is_submit (Submit p) = true
+is_submit (SubmitProposed p) = true
 is_submit (Note g) = false
 is_submit (Command c) = false
 
@@ -80,6 +84,12 @@ pub record CallDoes (old : Core) (call : Call) (reply : Reply) (new : Core) : Ty
   pub stays : IsRefusal (reply_of reply) → Stays old new
   pub counts : Counts old.world (hands_of call) (event_of call) old.meter new.meter
 
+-- The call was made of the core old, by the words of the core, and got this reply; the core is new after it.
+pub record IsCallMade (old : Core) (call : Call) (reply : Reply) (new : Core) : Type 0 where
+  pub answer : (left : Hands) × Answers (Unit {0}) old.world (hands_of call) (event_of call) (reply_of reply) new.world left
+  pub anyway : IsToldAnyway old.world call reply
+  pub does : CallDoes old call reply new
+
 -- A call that was not accepted gets the refusal that F1 cannot hide, if it has one in the world that the front leaves.
 abbrev pub IsToldOnFront : List Item → Call → given.Receipt Reply → Type 0
 IsToldOnFront front call receipt = (w : World) → receipt.accepted ≡ false → Leaves front w → IsToldAnyway w call receipt.reply
@@ -87,6 +97,17 @@ IsToldOnFront front call receipt = (w : World) → receipt.accepted ≡ false �
 -- the code of an opening; two openings with one code are one
 abbrev pub code_of : Opening → Gv
 code_of o = opening_code.code o
+
+-- In some world of the opening with this code, an attempt at its goal proposed this.
+abbrev pub WasProposedUnder : Gv → Proposal → Type 0
+WasProposedUnder opened p = (w : World) × (choice : Option ℕ) × (code_of w.opening ≡ opened) × IsProposedIn w p.goal choice p
+
+-- What a caller knows, who makes the call of a core of the opening with this code.
+abbrev pub IsKnownCall : Gv → Call → Type 0
+IsKnownCall opened (Submit p) = Unit {0}
+IsKnownCall opened (SubmitProposed p) = WasProposedUnder opened p
+IsKnownCall opened (Note g) = Unit {0}
+IsKnownCall opened (Command c) = Unit {0}
 
 -- In this world, which a core of the opening with this code can be in, an attempt at the goal, with a clause chosen or not, answers this. F1 never hides that the goal or the clause is not there.
 pub record IsProposal (opened : Gv) (w : World) (goal : GoalName) (choice : Option ℕ) (result : Result Proposal Fault) : Type 0 where
@@ -108,3 +129,13 @@ LooksWhereBound w p g = LooksAmong w p.effect.binds g
 abbrev pub ListsWoken : World → Result Proposal Fault → List GoalName → List GoalName → Type 0
 ListsWoken w (Ok p) old new = (g : GoalName) → In g new → In g old ⊎ LooksWhereBound w p g
 ListsWoken w (Err f) old new = new ≡ old
+
+-- The reply tells what a commit answered: the number of the step, or why it is refused.
+abbrev pub TellsCommit : Result ℕ Fault → Reply → Type 0
+TellsCommit (Ok n) reply = reply_of reply ≡ events.stepped n
+TellsCommit (Err f) reply = reply_of reply ≡ events.refused f
+
+-- The reply tells why a commit is refused, or where nothing else is the reason, that there is no memory for it.
+abbrev pub TellsNoCommit : {A : Type 0} → Result A Fault → Reply → Type 0
+TellsNoCommit (Ok _) reply = reply_of reply ≡ events.refused Fault.Memory
+TellsNoCommit (Err f) reply = reply_of reply ≡ events.refused f

@@ -10,5 +10,5 @@ returns-clause-opened c = ap (λ (w : World). code_of w.opening) c.refuse_to.ens
 pub returns-clause-reply : goal.returns-clause-reply
 returns-clause-reply c =
     let w = c.args.self.now.world in
-    let s = c.refuse_to.ensures.answer in
-    record { told = record { before = w; after = w; left = s.0; legal = c.stands.ensures.legal; place = refl; answer = s.1; adds_nothing = refl }; anyway = c.refuse_to.ensures.anyway }
+    let made = rw c.refuse_to.ensures.world at c.refuse_to.ensures.made.answer in
+    record { told = record { before = w; after = w; left = made.0; legal = c.stands.ensures.legal; place = refl; answer = made.1; adds_nothing = refl }; anyway = c.refuse_to.ensures.made.anyway }
