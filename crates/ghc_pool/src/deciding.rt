@@ -167,7 +167,9 @@ impl<N: Naming, R: Wait, G: Gate> Deciding<'_, N, R, G> {
     {
         let goals = proposal.effect().made();
         self.gate.held(worker, goal);
-        let receipt = self.shared.submit(self.rt, self.alloc, pass, proposal);
+        let receipt = self
+            .shared
+            .submit_proposed(self.rt, self.alloc, pass, proposal);
         self.gate.answered(worker, goal);
         let stop = stop_of_submit(&receipt.reply);
         let (step, made) = step_and_made(&receipt.reply, goals);

@@ -315,13 +315,37 @@ fn take_turn_at_door<P, C: Craft<P>, L: Limited, R: Wait>(
 // As many names as are taken in a turn at most.
 const MOST: u32 = 32;
 
-// How many names are taken at most in the turn after one of so many. The first turns are short, so that a small program is shown in
-// other orders, too; with long ones, workers seldom meet at the door.
-fn longer(most: u32) -> u32 {
-    if most < MOST {
-        return most * 2;
+// How much memory a worker takes at once, in pieces that an allocator maps together.
+const PIECES: usize = 32;
+
+const PIECE: usize = 100_000;
+
+// Takes memory and gives it back at once. An allocator makes the memory of a thread writable page by page, by a call of the system each,
+// for which other threads wait; what is writable stays so. Where memory is refused, less of it is.
+fn make_writable(alloc: Global) {
+    let mut pieces = Vec::new(alloc);
+    for _ in 0..PIECES {
+        let Ok(piece) = Vec::<u8>::with_capacity(alloc, PIECE) else {
+            return;
+        };
+        if pieces.push(piece).is_err() {
+            return;
+        }
     }
-    MOST
+}
+
+// How many names are taken at most in the turn after one of so many. The first turns are short, so that a small program is shown in
+// other orders, too; with long ones, workers seldom meet at the door. Where turns become the longest the run is long, and memory is made
+// writable for it.
+fn longer(alloc: Global, most: u32) -> u32 {
+    if most >= MOST {
+        return MOST;
+    }
+    let longer = most * 2;
+    if longer == MOST {
+        make_writable(alloc);
+    }
+    longer
 }
 
 // Works, turn after turn, until one is the last, or there is no name while nobody is at work who could offer one. Attempts are made
@@ -346,7 +370,7 @@ fn work<P, C: Craft<P>, L: Limited, R: Wait>(crew: &Crew<'_, C, L, R>, job: &mut
                 Next::End => return,
             }
         }
-        most = longer(most);
+        most = longer(crew.alloc, most);
     }
     unreachable!()
 }
