@@ -56,7 +56,7 @@ pub use Rattle.ghc_trace.specs.Spies.{HasPredicate, Spies, predicate, predicate_
 pub use Rattle.ghc_trace.specs.SpyLaws.{ListedSpiesComeBack}
 pub use Rattle.ghc_trace.specs.declared.spies.Predicate.{Predicate}
 pub use Rattle.ghcdb.specs.inner.CommandLine.{HasOptions, IsGhcdb, IsOptionalValue, IsRequiredValue, IsWorkersValue, SaysNumber}
-pub use Rattle.ghcdb.specs.inner.Workers.{HasManyClauses}
+pub use Rattle.ghcdb.specs.inner.Workers.{HasLargePredicate}
 pub use Rattle.ghcdb.specs.HistoryFront.{IsHeadingLine, IsReadOf, WhatIsReadTells, heading_bytes}
 pub use Rattle.ghcdb.specs.Opening.{GivesBack, IsDebuggerOf, IsHistoryFault, IsHistoryRefused, IsOpenRefusal, IsWithoutMemory, OpensOn, at_start, for_history, loads, of_chronicle, of_entry, of_history, of_start, of_step, of_text, resumes}
 pub use Rattle.ghcdb.specs.inner.Outputs.{HasBeginning, HasReplies}

@@ -1,5 +1,5 @@
 -- A predicate with more than 32 clauses is met at its first clause.
-use Rattle.ghcdb.proofs.CitedWords.{◌≡◌, ◌+◌, ◌<◌, ◌≤◌, ℕ, List, [], ◌∷◌, length, get_or, inl, sym, subst, refl, arith, In, in_contains, contains_in, list_any-from_Contains, Contains-from_any, eq_by_cmp_equiv, Equal-is, Clause, Program, AreNumbersFor, HasManyClauses}
+use Rattle.ghcdb.proofs.CitedWords.{◌≡◌, ◌+◌, ◌<◌, ◌≤◌, ℕ, List, [], ◌∷◌, length, get_or, inl, sym, subst, refl, arith, In, in_contains, contains_in, list_any-from_Contains, Contains-from_any, eq_by_cmp_equiv, Equal-is, Clause, Program, AreNumbersFor, HasLargePredicate}
 use borrow.Author.Count.{below_more}
 use Rattle.std.proofs.lemmas.Cmp.{nat_cmp_total}
 use Rattle.std.proofs.lemmas.Map.Keys.{IsDistinct-from_sorted, sorted_from_strictly_increasing}
@@ -39,18 +39,18 @@ one_more P cs i same below low c is f head ks name arguments are few k d more = 
         subst (HasFew P) (sym at) told
 
 -- where the predicate of each clause has few, each predicate has
-pub none_has_many : (P : Program) → ((k : ℕ) (d : Clause) → k < length P → HasFew P (get_or P k d)) → ¬ HasManyClauses P
-none_has_many P few h = go h.numbers refl h.many
+pub none_has_many : (P : Program) → ((k : ℕ) (d : Clause) → k < length P → HasFew P (get_or P k d)) → ¬ HasLargePredicate P
+none_has_many P few h = go h.clauses.0 refl h.clauses.2
   where
-    go : (ks : List ℕ) → ks ≡ h.numbers → 32 < length ks → ⊥
+    go : (ks : List ℕ) → ks ≡ h.clauses.0 → 32 < length ks → ⊥
     go [] e many = absurd (omega arith)
     go (k ∷ ks) e many =
-        let found = (h.are.«exactly» k).0 (subst (In k) e (inl refl)) in
+        let found = (h.clauses.1.«exactly» k).0 (subst (In k) e (inl refl)) in
         let c = found.0 in
         let at = found.1 in
         let is : get_or P at.0 c ≡ c = get_or_from_slice_get P at.0 c c at.2 in
         let here : HasFew P c = subst (HasFew P) is (few at.0 c (slice_get_within P at.0 c at.2)) in
-        let numbers : AreNumbersFor P c.name (length c.head) h.numbers = subst (λ f. AreNumbersFor P f (length c.head) h.numbers) (sym found.2) (subst (λ n. AreNumbersFor P h.name n h.numbers) (sym found.3) h.are) in
-        let most : length h.numbers ≤ 32 = here h.numbers numbers in
-        let more : 32 < length h.numbers = h.many in
+        let numbers : AreNumbersFor P c.name (length c.head) h.clauses.0 = subst (λ f. AreNumbersFor P f (length c.head) h.clauses.0) (sym found.2) (subst (λ n. AreNumbersFor P h.name n h.clauses.0) (sym found.3) h.clauses.1) in
+        let most : length h.clauses.0 ≤ 32 = here h.clauses.0 numbers in
+        let more : 32 < length h.clauses.0 = h.clauses.2 in
         absurd (omega arith)

@@ -1,6 +1,6 @@
 // How many workers make the runs of a session.
 ghost use Rattle.std.specs.Prelude.{◌≡◌, ◌↔◌, ◌≤◌, IsTrue};
-ghost use Rattle.ghcdb.specs.inner.Workers.{AreWorkersOf, HasManyClauses, one_each};
+ghost use Rattle.ghcdb.specs.inner.Workers.{AreWorkersOf, HasLargePredicate, one_each};
 
 use crate::settings::WorkersOption;
 use ghc_flat::Program;
@@ -14,8 +14,8 @@ const FEW: usize = 32;
 const MOST: usize = 64;
 
 // Whether a predicate of the program has more than 32 clauses: one pass over the clauses, two look-ups for each.
-fn has_many_clauses(program: &Program) -> bool
-    ensures { IsTrue result ↔ HasManyClauses program.now }
+fn has_large_predicate(program: &Program) -> bool
+    ensures { IsTrue result ↔ HasLargePredicate program.now }
 {
     for clause in program.clauses() {
         let numbers = program.clauses_for(clause.name(), clause.head().len());
@@ -43,7 +43,7 @@ pub fn workers_of(asked: WorkersOption, program: &Program, processors: usize) ->
     match asked {
         WorkersOption::Number(workers) => workers,
         WorkersOption::Auto => {
-            if has_many_clauses(program) {
+            if has_large_predicate(program) {
                 one_each(processors)
             } else {
                 Workers::one()

@@ -1,7 +1,7 @@
 use Rattle.ghcdb.proofs.CitedWords.{◌<◌, length, sym, subst, arith, Program}
 use Rattle.std.proofs.lemmas.Bool.{false≢true}
 use Rattle.ghcdb.proofs.ManyClauses.{none_has_many, one_more}
-use Rattle.ghcdb.proofs.workers.has_many_clauses.Goals as goal
+use Rattle.ghcdb.proofs.workers.has_large_predicate.Goals as goal
 
 pub loop-clause-preserved : goal.loop-clause-preserved
 loop-clause-preserved c =
