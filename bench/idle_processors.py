@@ -3,9 +3,10 @@
 
 PROGRAM is the built program, ../crates/ghcdb/out/ghcdb where none is named. Each round plays 10,000 calls of 60 clauses by one worker, then
 four such sessions side by side, then by four workers, and by one again. The first two tell how many processors were idle; the last two
-give how many times faster four workers are, so that no time serves for both. Rounds in which the hypervisor took a processor do not
-count. A line is printed for all that count, and one each for those in which side by side gave so many times one worker's work.
-Nothing here passes or fails, and the figures are medians: a shared machine gives others a minute later.
+give how many times faster four workers are, so that no time serves for both. What the program takes to start is taken off, as
+bench/workers.py does. Rounds in which the hypervisor took a processor do not count. A line is printed for all that count, and one each
+for those in which side by side gave so many times one worker's work. Nothing here passes or fails, and the figures are medians: a
+shared machine gives others a minute later.
 """
 
 import argparse
@@ -35,7 +36,8 @@ def round_of(program):
     one, four = words_of(program, "looks", QUERY, 1), words_of(program, "looks", QUERY, 4)
     before = stolen()
     first, together, shared, last = play(one, b"leap\n")[0], side_by_side(one), play(four, b"leap\n")[0], play(one, b"leap\n")[0]
-    return None if stolen() > before else (4 * first / together, last, shared)
+    starts = play(one, b"")[0], play(four, b"")[0]
+    return None if stolen() > before else (4 * first / together, last - starts[0], shared - starts[1])
 
 
 def main():
