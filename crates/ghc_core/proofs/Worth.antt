@@ -8,7 +8,7 @@ use Rattle.std.proofs.lemmas.List.Kept.{AllPairs-from_increasing}
 use Rattle.ghc_term.specs.Goal.{call}
 use Rattle.ghc_term.proofs.ListsLemmas.{in_contains}
 use Rattle.ghc_flat.specs.Clause.{Program}
-use Rattle.ghc_core.specs.Excerpt.{IsWorthAnExcerpt}
+use Rattle.ghc_core.specs.Excerpt.{few_clauses, IsWorthAnExcerpt}
 
 -- numbers that go up are distinct
 rising_distinct : (ks : List ℕ) → AllPairs (λ a b. a < b) ks → AreDistinct ks
@@ -30,8 +30,8 @@ module _ (w : World) (g : GoalName) (f : List ℕ) (ts : List Tree) (there : fin
   same_call : (e : IsWorthAnExcerpt w g) → (f ≡ e.name) × (ts ≡ e.arguments)
   same_call e = let found : Some (call f ts) ≡ Some (call e.name e.arguments) = sym there ∙ e.there in (cc, cc)
 
-  pub few_clauses : (ks : List ℕ) → AreNumbersFor w.opening.program f (length ts) ks → length ks ≤ 32 → ¬ IsWorthAnExcerpt w g
-  few_clauses ks numbers few e =
+  pub no_more_than_few : (ks : List ℕ) → AreNumbersFor w.opening.program f (length ts) ks → length ks ≤ few_clauses → ¬ IsWorthAnExcerpt w g
+  no_more_than_few ks numbers few e =
       let same = same_call e in
       let all = subst (λ h. AreNumbersFor w.opening.program h (length e.arguments) ks) same.0 (subst (λ us. AreNumbersFor w.opening.program f (length us) ks) same.1 numbers) in
       let no_more = no_more_numbers w.opening.program e.name (length e.arguments) ks e.clauses.0 all e.clauses.1 in

@@ -26,9 +26,13 @@ pub record IsExcerpt (w : World) (g : GoalName) (P : Program) (b : Goal) (M : Va
   pub called : (f : List ℕ) × (ts : List Tree) × (b ≡ call f ts)
   pub tells : (x : VarName) → GoalLooksAt P M b x → value_at w.state.store x ≡ M x
 
--- The program has more than 32 clauses for the calls of this name and arity.
+-- As many clauses are few: a call of no more is matched where it stands.
+abbrev pub few_clauses : ℕ
+few_clauses = 32
+
+-- The program has more than a few clauses for the calls of this name and arity.
 abbrev pub HasManyClauses : Program → List ℕ → ℕ → Type 0
-HasManyClauses P f n = (ks : List ℕ) × AreNumbersFor P f n ks × (32 < length ks)
+HasManyClauses P f n = (ks : List ℕ) × AreNumbersFor P f n ks × (few_clauses < length ks)
 
 -- An excerpt of the goal named g is worth its while. It is a call that stands in the world, the program has many clauses for it, and few terms are gone through for its arguments, as the store tells bindings.
 pub record IsWorthAnExcerpt (w : World) (g : GoalName) : Type 0 where

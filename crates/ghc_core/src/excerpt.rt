@@ -19,8 +19,8 @@ use std::slice;
 use std::snapshot::Snapshot;
 use std::sync::Arc;
 
-// A call of so many clauses, or fewer, is not worth an excerpt.
-const FEW: usize = 32;
+/// As many clauses are few: a call of no more is not worth an excerpt.
+pub const FEW_CLAUSES: usize = 32;
 
 // How many terms are gone through at most for an excerpt, closed ones apart.
 const MOST: usize = 64;
@@ -135,7 +135,7 @@ impl Core {
         let GoalView::Call(predicate, arguments) = goal.goal().view() else {
             return Ok(None);
         };
-        if self.program().clauses_for(predicate, arguments.len()).len() <= FEW {
+        if self.program().clauses_for(predicate, arguments.len()).len() <= FEW_CLAUSES {
             return Ok(None);
         }
         let Some(store) = cut_out(alloc, self.state.store(), arguments)? else {

@@ -28,7 +28,7 @@ pub use changes::{Change, Coming, Going};
 pub use command::Command;
 pub use core_state::Core;
 pub use event::Event;
-pub use excerpt::Excerpt;
+pub use excerpt::{Excerpt, FEW_CLAUSES};
 pub use hands::Hands;
 pub use laws::facts::{redo_is_changed, second_hand_is_stale};
 pub use laws::history_laws::{

@@ -7,7 +7,7 @@ ghost use Rattle.ghc_core.specs.World.{World, no_hands};
 ghost use Rattle.ghc_core.specs.Events.{commit as committed, note as noted, command as commanded};
 ghost use Rattle.ghc_core.specs.Legal.{IsLegal, IsAnswered, Shows};
 ghost use Rattle.ghc_core.specs.CommandCode.{command_of};
-ghost use Rattle.ghc_core.specs.Excerpt.{GivesExcerpt};
+ghost use Rattle.ghc_core.specs.Excerpt.{few_clauses, GivesExcerpt};
 ghost use Rattle.ghc_shared.specs.declared.calls.Call.TheVariants.{Submit as submitted, Note as asked_note, Command as asked};
 ghost use Rattle.ghc_shared.specs.Passes.{submits_after};
 ghost use Rattle.ghc_shared.specs.Receipts.{IsDecided};
@@ -20,7 +20,7 @@ use crate::pass::Pass;
 use crate::receipt::Receipt;
 use crate::shared::Shared;
 use crate::waking::list_woken;
-use ghc_core::{Command, Core, Excerpt, Reply, leaves_is_one, legal_is_reachable};
+use ghc_core::{Command, Core, Excerpt, FEW_CLAUSES, Reply, leaves_is_one, legal_is_reachable};
 use ghc_fire::{Meter, Proposal};
 use ghc_term::{Fault, GoalName};
 use std::alloc::{AllocError, Global};
@@ -109,10 +109,10 @@ impl<N: Naming> Shared<Core, N> {
 
     /// Whether the program has 32 clauses at most: a comparison, under the read side of the lock.
     pub fn has_few_clauses<R: Wait>(&self, rt: &R) -> bool
-        ensures { (o : Opening) × (code_of o ≡ N.opened) × (IsTrue result ↔ (length o.program ≤ 32)) }
+        ensures { (o : Opening) × (code_of o ≡ N.opened) × (IsTrue result ↔ (length o.program ≤ few_clauses)) }
     {
         let held = self.lock.read(rt);
-        held.value.program().clauses().len() <= 32
+        held.value.program().clauses().len() <= FEW_CLAUSES
     }
 
     /// What an attempt at the goal reads, where that is a call for which the program has more than 32 clauses and which reaches few

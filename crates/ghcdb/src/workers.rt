@@ -3,12 +3,10 @@ ghost use Rattle.std.specs.Prelude.{◌≡◌, ◌↔◌, ◌≤◌, IsTrue};
 ghost use Rattle.ghcdb.specs.inner.Workers.{AreWorkersOf, HasLargePredicate, one_each};
 
 use crate::settings::WorkersOption;
+use ghc_core::FEW_CLAUSES;
 use ghc_flat::Program;
 use ghc_pool::Workers;
 use std::thread::{Threads, available_parallelism};
-
-// A call of a predicate with more clauses is matched apart, while others work: there several workers save time.
-const FEW: usize = 32;
 
 // No run is made by more.
 const MOST: usize = 64;
@@ -19,7 +17,7 @@ fn has_large_predicate(program: &Program) -> bool
 {
     for clause in program.clauses() {
         let numbers = program.clauses_for(clause.name(), clause.head().len());
-        if numbers.len() > FEW {
+        if numbers.len() > FEW_CLAUSES {
             return true;
         }
     }

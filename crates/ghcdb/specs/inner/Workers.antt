@@ -5,7 +5,7 @@ use Rattle.ghc_core.specs.Excerpt.{HasManyClauses}
 use Rattle.ghcdb.specs.declared.settings.WorkersOption.{WorkersOption}
 use Rattle.ghcdb.specs.declared.settings.WorkersOption.TheVariants.{Number, Auto}
 
--- A predicate of the program has more than 32 clauses.
+-- A predicate of the program has many clauses.
 pub record HasLargePredicate (P : Program) : Type 0 where
   pub name : List ℕ
   pub arity : ℕ
@@ -15,7 +15,7 @@ pub record HasLargePredicate (P : Program) : Type 0 where
 abbrev pub one_each : ℕ → ℕ
 one_each processors = max 1 (min processors 64)
 
--- It is one worker, or one for each processor where a predicate of the program has more than 32 clauses.
+-- It is one worker, or one for each processor where a predicate of the program has many clauses.
 pub record AreAutomatic (P : Program) (processors workers : ℕ) : Type 0 where
   pub few : ¬ HasLargePredicate P → workers ≡ 1
   pub many : HasLargePredicate P → workers ≡ one_each processors

@@ -4,7 +4,7 @@ use Rattle.ghc_term.specs.Goal.{Goal, call}
 use Rattle.ghc_match.specs.Looked.{GoalLooksAt}
 use Rattle.ghc_core.specs.inner.CutOut.{IsCutOut}
 use Rattle.ghc_core.proofs.Excerpts.{cut_tells}
-use Rattle.ghc_core.proofs.Worth.{few_clauses}
+use Rattle.ghc_core.proofs.Worth.{no_more_than_few}
 use Rattle.ghc_core.proofs.core_state.Core.excerpt.Goals as goal
 
 pub invariant_of-result : goal.invariant_of-result
@@ -27,11 +27,11 @@ invariant_of-result c =
       tells = λ x l. cut_tells P (value_at w.state.store) M f ts cut x (subst (λ (g : Goal). GoalLooksAt P M g x) is l);
     })
 
-pub returns-then-clauses_for-le-FEW : goal.returns-then-clauses_for-le-FEW
-returns-then-clauses_for-le-FEW c =
+pub returns-then-clauses_for-le-FEW_CLAUSES : goal.returns-then-clauses_for-le-FEW_CLAUSES
+returns-then-clauses_for-le-FEW_CLAUSES c =
     let w = c.args.self.now.world in
     let f = c.in-Call.predicate.now in
     let ts = c.in-Call.arguments.now in
     let goals = c.goals.ensures ∙ ap (λ (x : Core). x.world.state.goals) c.self.view_is in
     let there = ap (λ m. finite.get m c.args.name) (sym goals) ∙ sym c.in-Some.ensures ∙ ap Some (sym (c.in-Call.ensures ∙ c.goal.ensures)) in
-    few_clauses w c.args.name f ts there c.clauses_for.result.now (rw c.program.ensures at c.clauses_for.ensures) c.if-clauses_for-le-FEW.true
+    no_more_than_few w c.args.name f ts there c.clauses_for.result.now (rw c.program.ensures at c.clauses_for.ensures) c.if-clauses_for-le-FEW_CLAUSES.true
