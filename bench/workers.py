@@ -14,9 +14,10 @@ takes the rows whose name has WORD. Where there is `strace`, a last column tells
 round starts one thread fewer than there are workers. Where there is `valgrind`, --instructions tells in place of the times how many
 instructions all threads took together, in millions; there threads take turns, so those that rest look for goals more often.
 
-A system may let threads share a processor while others are idle: a Linux of virtual machines that packs threads (`sched_vcpu_pack` in
-/proc/cmdline) does so for some milliseconds after a thread starts or wakes. --own-processors plays each session, of one worker too, under
-the real-time policy of `chrt`, where a thread goes to an idle processor at once. It needs the right to that, and an idle machine.
+A system may let threads share a processor for some milliseconds after one starts or wakes. On a virtual machine started with
+`sched_vcpu_pack` (/proc/cmdline) four threads of a plain program had 31 of their first 40 ms of processor time, under the real-time policy
+39.6. --own-processors plays each session, of one worker too, under that policy, by `chrt`. It needs the right to it, and is no figure of what
+a user has: for that, read the table without it.
 
 Nothing here passes or fails: times depend on the machine, and on what else it does, so compare only what one run has measured.
 """
