@@ -36,6 +36,10 @@ loop :- true | loop.
 WALK = """walk([]) :- true | true.
 walk([_|X]) :- true | walk(X).
 """
+# Terms whose parts are shared through variables.
+DOUBLED = """d(0,X) :- true | X = a.
+d(N,X) :- N > 0 | M := N - 1, X = f(Y,Y), d(M,Y).
+"""
 
 
 class Session(NamedTuple):
@@ -77,6 +81,11 @@ def undone(size):
     return Session(WALK, f"walk([{listed}])", ["leap"] + [f"undo {step}" for step in range(size + 1, 0, -1)] + ["save 1"], last=f"end {size + 2}")
 
 
+def doubled(size):
+    """Two terms that are doubled so many times, through variables, are made equal."""
+    return Session(DOUBLED, f"d({size},X), d({size},Y)", ["leap", "ask X = Y", "leap"], last="stopped quiet")
+
+
 class Growth(NamedTuple):
     what: str
     session: Callable[[int], Session]
@@ -90,6 +99,7 @@ GROWTHS = [
     Growth("runs of one step beside many goals that wait", beside_many, 8_000),
     Growth("walks along closed lists by two workers", walks, 20_000),
     Growth("undos of all steps of a run", undone, 10_000),
+    Growth("two terms doubled through variables made equal", doubled, 4_000),
 ]
 
 

@@ -79,6 +79,10 @@ class Story(NamedTuple):
     told: tuple[Told, ...] = ()
 
 
+# Two terms that are doubled through variables: their unification meets 128 pairs, most of them again.
+DOUBLED = """d(0,X) :- true | X = a.
+d(N,X) :- N > 0 | M := N - 1, X = f(Y,Y), d(M,Y).
+"""
 STORIES = {
     "append": Story(
         APPEND,
@@ -137,6 +141,7 @@ STORIES = {
         LONG,
         "records;leap;records;leap;records;goals;why 5;who Q;show Q;undo 9;roll 20;shelf;goals;roll 2;goals;redo 20;redo 2;records;save",
     ),
+    "doubled": Story(DOUBLED, "d(7,X), d(7,Y)", "records;leap;records;ask X = Y;step 47.1;why 48;records"),
     "load_stream": Story(SUM, "instream(S), sum(S,0,R)", "goals;records;show R;in 1 3;roll 2;goals;in 1 4;shelf;redo 2;records;save 1;save", SUM_HISTORY),
     "load_long": Story(SUM, "instream(S), sum(S,0,R)", "save 1;records;save", LONG_HISTORY),
     "load_whole": Story(APPEND, "append([1],[2],R)", "goals;records;shelf;save;redo 2;redo 6;redo 5;save 1;records;save", WHOLE_HISTORY),

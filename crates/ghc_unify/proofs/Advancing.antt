@@ -16,7 +16,7 @@ quiet {init = init} = record { read = []; moves = stay; reads_are = union_none i
 
 module _ {S T : VarName → Option Tree} {first items : List (Tree × Tree)} (rest : List (Tree × Tree)) {init reads : set.FinSet name_cmp} {l r : Tree}
     (q : Quiet S T first (reverse items) init reads) (e : items ≡ rest ++ (l, r) ∷ []) where
-  top : reverse items ≡ (l, r) ∷ reverse rest
+  pub top : reverse items ≡ (l, r) ∷ reverse rest
   top = ap reverse e ∙ reverse_push rest (l, r)
 
   -- the move on the first of them
@@ -27,10 +27,6 @@ module _ {S T : VarName → Option Tree} {first items : List (Tree × Tree)} (re
       let before = subst (λ z. Moves S T first T z [] q.read) top q.moves in
       let all : Moves S T first U fs (bs ++ []) (q.read ++ (s.0 ++ [])) = one_more_move before (go s.1 stay) in
       (q.read ++ s.0, simp append-nil at all, s.2 ∙ ap (λ z. set.union z (set.from_list s.0)) q.reads_are ∙ union_append init q.read s.0)
-
-  pub still_quiet : {fs : List (Tree × Tree)} {grown : set.FinSet name_cmp}
-      → (rs : List VarName) × Move S T ((l, r) ∷ reverse rest) T fs [] rs × (grown ≡ set.union reads (set.from_list rs)) → Quiet S T first fs init grown
-  still_quiet s = let n = next s in record { read = n.0; moves = n.1; reads_are = n.2 }
 
   pub gets_lighter : (s : StoreValue) {fs : List (Tree × Tree)} {grown : set.FinSet name_cmp} → value_at s ≡ T → IsAcyclic T
       → (rs : List VarName) × Move S T ((l, r) ∷ reverse rest) T fs [] rs × (grown ≡ set.union reads (set.from_list rs))

@@ -13,6 +13,9 @@ pub mod Advancing
 pub mod Falling
 pub mod FirstEquation
 pub mod Growth
+pub mod Noted
+pub mod MetPairs
+pub mod ByPairs
 pub mod Partings
 pub mod Refusals
 pub mod Runs

@@ -111,8 +111,8 @@ fn solve(
 ///
 /// It goes by loops along chains and through the terms, once through each pair of parts that is met, so that lists of
 /// any length take no stack. Each binding costs a search of the bound term, and that of the first one goes past what the
-/// store knows. Terms that share parts are met once for each place where they stand: it ends, but no bound on the time is
-/// promised there.
+/// store knows. Between two bindings each equation of two variables is solved once, but for the first 64 equations. A part that
+/// stands several times in a term as written is met at each of its places: it ends, but no bound on the time is promised there.
 pub fn unify(alloc: Global, left: &Term, right: &Term, store: &Store) -> Result<Solved, Fault>
     ensures answer { Answered (λ s. Unifies (value_at store.now.held) left.now right.now s.binds s.reads) (UnifyFails (value_at store.now.held) left.now right.now) result }
 

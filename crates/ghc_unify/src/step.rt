@@ -1,14 +1,16 @@
 // The moves on a list of equations up to the next binding.
-ghost use Rattle.std.specs.Prelude.{◌≡◌, ◌⊎◌, IfOk, IfErr, OnOk, Err, List, length, reverse, ◌++◌};
+ghost use Rattle.std.specs.Prelude.{◌≡◌, true, ◌⊎◌, IfOk, IfErr, OnOk, Err, List, length, reverse, ◌++◌};
 ghost use Rattle.ghc_term.specs.Store.{value_at};
 ghost use Rattle.ghc_term.specs.Tree.{Tree, trees, IsValue};
 ghost use Rattle.ghc_term.specs.Bindings.{IsAcyclic, Reaches};
 ghost use Rattle.ghc_unify.specs.Unify.{Pairs, Meets, IsClash, IsCycle, with_bindings};
+ghost use Rattle.ghc_unify.specs.inner.Met.{IsNoted, IsPairOf};
 ghost use Rattle.ghc_unify.specs.inner.Steps.{Steps, Advances, FailsFrom};
 
 use crate::chains::add_bound_reads;
 use crate::parting::both_chains;
 use ghc_term::{Bindings, Fault, Overlay, Store, Term, TermView, VarName, Variables};
+use indexmap::IndexSet;
 use std::alloc::{AllocError, Global};
 
 // A variable and what it is to be bound to.
@@ -16,6 +18,9 @@ pub type Binding = (VarName, Term);
 
 // Equations, of which the last one comes first.
 pub type Equations = Vec<(Term, Term)>;
+
+// Equations of two variables that were met, as written.
+type Met = IndexSet<(VarName, VarName)>;
 
 // Adds the equations of the arguments, those of the first ones to come first. One step an argument, whatever its size.
 fn push_pairs(lefts: &[Term], rights: &[Term], equations: &mut Equations) -> Result<(), AllocError>
@@ -114,7 +119,38 @@ fn step<'a>(
     Ok(None)
 }
 
-// Makes the moves up to the next binding, which it gives, or up to the last equation.
+// Whether both sides are variables that were met as a pair. Notes a pair that is new. One look-up.
+#[inline(never)]
+fn are_met_again(left: &Term, right: &Term, met: &mut Met) -> Result<bool, AllocError>
+    ensures noted { OnOk result (IsNoted left.now right.now met.old.keys met.new.keys) }
+    ensures again { IfOk result (λ again. again ≡ true → IsPairOf left.now right.now met.old.keys) }
+{
+    let TermView::Var(x) = left.view() else {
+        return Ok(false);
+    };
+    let TermView::Var(y) = right.view() else {
+        return Ok(false);
+    };
+    let is_new = met.insert((x, y))?;
+    Ok(!is_new)
+}
+
+// The same, but neither looks nor notes as long as the equations are few.
+#[inline(always)]
+fn are_solved(left: &Term, right: &Term, few: &mut u32, met: &mut Met) -> Result<bool, AllocError>
+    ensures noted { OnOk result (IsNoted left.now right.now met.old.keys met.new.keys) }
+    ensures again { IfOk result (λ again. again ≡ true → IsPairOf left.now right.now met.old.keys) }
+{
+    if *few > 0 {
+        *few -= 1;
+        return Ok(false);
+    }
+    are_met_again(left, right, met)
+}
+
+// Makes the moves up to the next binding, which it gives, or up to the last equation. After the first few it drops an equation
+// of two variables that it met before: that one is solved by now, and to solve it again binds nothing and reads nothing new.
+// So terms that share parts through variables cost a look-up for each pair of variables, not a move for each path to it.
 pub fn advance(
     alloc: Global,
     store: &Store,
@@ -128,7 +164,12 @@ pub fn advance(
     ensures cycle { result ≡ Err Fault.Cycle → FailsFrom IsCycle (value_at store.now.held) (with_bindings binds.now (value_at store.now.held)) (reverse equations.old.items) }
     ensures only { IfErr result (λ e. (e ≡ Fault.Clash) ⊎ (e ≡ Fault.Cycle) ⊎ (e ≡ Fault.Memory)) }
 {
+    let mut few = 64;
+    let mut met = IndexSet::new(alloc);
     while let Some((left, right)) = equations.pop() {
+        if are_solved(&left, &right, &mut few, &mut met)? {
+            continue;
+        }
         if let Some(binding) = step(alloc, store, binds, &left, &right, equations, reads)? {
             return Ok(Some(binding));
         }
