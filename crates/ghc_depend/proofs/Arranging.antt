@@ -30,7 +30,7 @@ module _ {X : Type 0} where
   swap_in [] back a b x i = grind arith
   swap_in (y ∷ front) back a b x i = grind (arith, swap_in front back a b x)
 
-  swap_before : (front back : List X) (a b x y : X) → Before (front ++ b ∷ a ∷ back) x y → Before (front ++ a ∷ b ∷ back) x y ⊎ ((x ≡ b) × (y ≡ a))
+  pub swap_before : (front back : List X) (a b x y : X) → Before (front ++ b ∷ a ∷ back) x y → Before (front ++ a ∷ b ∷ back) x y ⊎ ((x ≡ b) × (y ≡ a))
   swap_before [] back a b x y h = grind arith
   swap_before (z ∷ front) back a b x y h = grind (arith, swap_in front back b a y, swap_before front back a b x y)
 

@@ -20,7 +20,14 @@ pub mod Ahead
 pub mod Using
 pub mod TakingBack
 pub mod Arranging
+pub mod Turning
+pub mod Parabola
+pub mod UndosSquare
+pub mod Swapping
+pub mod SameText
+pub mod OfClauses
 pub mod Undoing
+pub mod UndoSquare
 pub mod ComingBack
 pub mod KeptOnce
 pub mod TakenTogether

@@ -2,7 +2,7 @@
 use Rattle.ghc_depend.proofs.Words.{◌≡◌, ◌⊎◌, List, [], ◌∷◌, ◌++◌, refl, sym, ap, subst, inl, inr, In, in_right, in_either, in_more, Picks, nothing, leave, AreDistinct, Record, numbers, Before, before_in, before_once, number_in, number_of, numbers_append, Precedes, before_is, Decided, arith}
 use Rattle.ghc_records.specs.Orders.{take}
 pub use Rattle.ghc_flat.proofs.DistinctLemmas.{distinct_left, distinct_right, distinct_split}
-pub use Rattle.ghc_records.proofs.PickLemmas.{either_before, before_left, before_right, before_across, picks_in, picks_has, picks_order, picks_keep, picks_distinct, pick_last, leave_last, no_longer}
+pub use Rattle.ghc_records.proofs.PickLemmas.{either_before, before_left, before_right, before_across, before_last, kept_in, picks_in, picks_has, picks_order, picks_keep, picks_distinct, pick_last, leave_last, no_longer}
 
 module _ {X : Type 0} where
   pub before_front : (done rest : List X) (r m : X) → In m done → Before (done ++ r ∷ rest) m r

@@ -1,11 +1,11 @@
 -- Laws of orders, of consequences and of deletion.
-use Rattle.std.specs.Prelude.{◌≡◌, ◌⊎◌, ℕ, List, [], ◌∷◌, ◌++◌}
+use Rattle.std.specs.Prelude.{◌≡◌, ◌⊎◌, ◌↔◌, ◌<◌, ℕ, List, [], ◌∷◌, ◌++◌, length}
 use Rattle.ghc_term.specs.Lists.{In}
 use Rattle.ghc_flat.specs.Clause.{Program, Query}
 use Rattle.ghc_flat.specs.Flat.{IsProgram, IsQuery}
-use Rattle.ghc_records.specs.Orders.{AreDistinct}
+use Rattle.ghc_records.specs.Orders.{AreDistinct, Picks}
 use Rattle.ghc_records.specs.Record.{State, Record, numbers, Shelf}
-use Rattle.ghc_records.specs.Replay.{Replays}
+use Rattle.ghc_records.specs.Replay.{Replays, Runs}
 use Rattle.ghc_records.specs.Journal.{Opening, Entry}
 use Rattle.ghc_depend.specs.Depend.{DependsOn, Follows, IsFirstConsequence}
 use Rattle.ghc_depend.specs.Deletion.{IsClosedUnder, IsPartedBy, IsWithoutSteps}
@@ -59,6 +59,62 @@ abbrev pub NeighboursChangePlaces : Type 0
 NeighboursChangePlaces =
     (P : Program) (query : Query) (front back : List Record) (a b : Record) (t : State) → IsProgram P → IsQuery P query
     → Replays P query (front ++ a ∷ b ∷ back) t → ¬ DependsOn (front ++ a ∷ b ∷ back) b a → Replays P query (front ++ b ∷ a ∷ back) t
+
+-- Where the kept steps replay in another order too, with the effects recorded, that order is lawful, and the state is the same.
+abbrev pub ReplayingOrdersAreLawful : Type 0
+ReplayingOrdersAreLawful =
+    (P : Program) (query : Query) (kept : List Record) (t : State) (order : List ℕ) (new : List Record) (u : State) → IsQuery P query
+    → Replays P query kept t → Replays P query new u → IsInOrder kept order new → IsLawful kept order × (u ≡ t)
+
+-- The square: after the same steps, a and b are possible, and b is possible unchanged after a. Then a is possible unchanged after b, and both ways lead to one state.
+abbrev pub StepsSquare : Type 0
+StepsSquare =
+    (P : Program) (query : Query) (front : List Record) (a b : Record) (s t : State) → IsProgram P → IsQuery P query
+    → Replays P query (front ++ b ∷ []) s → Replays P query (front ++ a ∷ b ∷ []) t → Replays P query (front ++ b ∷ a ∷ []) t
+
+-- Of two kept steps without consequences, once one is taken away the other is still there, and has none.
+pub record StaysFree (kept left : List Record) (b : Record) : Type 0 where
+  pub there : In b left
+  pub free : (c : Record) → ¬ Follows left b c
+
+-- The square of two undos: of two kept steps without consequences each can still be undone once the other is, and both ways leave the same steps, in the same order.
+abbrev pub UndosSquare : Type 0
+UndosSquare =
+    (kept left_a left_b left : List Record) (a b : Record) → In a kept → In b kept → ¬ (a ≡ b) → ((c : Record) → ¬ Follows kept a c) → ((c : Record) → ¬ Follows kept b c)
+    → IsWithout kept a left_a → IsWithout kept b left_b → StaysFree kept left_a b × StaysFree kept left_b a × (IsWithout left_a b left ↔ IsWithout left_b a left)
+
+-- The square of an undo and a step: b, which is possible after the kept steps, is possible unchanged without a, and a can still be undone after b. Both ways leave the same steps, in the same order.
+pub record UndoAndStepMeet (P : Program) (query : Query) (kept left : List Record) (a b : Record) : Type 0 where
+  pub possible : (u : State) × Replays P query (left ++ b ∷ []) u
+  pub free : (c : Record) → ¬ Follows (kept ++ b ∷ []) a c
+  pub both_ways : IsWithout (kept ++ b ∷ []) a (left ++ b ∷ [])
+
+-- So it is where a has no consequences among the kept steps, and b does not depend on it.
+abbrev pub UndoAndStepSquare : Type 0
+UndoAndStepSquare =
+    (P : Program) (query : Query) (kept left : List Record) (a b : Record) (t : State) → IsProgram P → IsQuery P query → In a kept → ((c : Record) → ¬ Follows kept a c)
+    → IsWithout kept a left → Replays P query (kept ++ b ∷ []) t → ¬ DependsOn (kept ++ b ∷ []) b a → UndoAndStepMeet P query kept left a b
+
+-- Each undo leaves fewer steps: so no undoing goes on without end.
+abbrev pub UndoingEnds : Type 0
+UndoingEnds = (kept left : List Record) (a : Record) → In a kept → IsWithout kept a left → length left < length kept
+
+-- SwapsInto kept new: kept becomes new where neighbours change places, one pair after the other, of which the later step does not depend on the earlier one.
+pub data SwapsInto (kept : List Record) : List Record → Type 0 where
+  no_swap : SwapsInto kept kept
+  one_more_swap :
+      (front back : List Record) (a b : Record) → SwapsInto kept (front ++ a ∷ b ∷ back) → ¬ DependsOn (front ++ a ∷ b ∷ back) b a
+      → SwapsInto kept (front ++ b ∷ a ∷ back)
+
+-- The lawful orders of kept steps with distinct numbers are just those into which swaps of neighbours bring them.
+abbrev pub OrdersAreSwaps : Type 0
+OrdersAreSwaps = (kept : List Record) (order : List ℕ) (new : List Record) → AreDistinct (numbers kept) → IsInOrder kept order new → IsLawful kept order ↔ SwapsInto kept new
+
+-- Where some steps replay alone, and all of them stand in another replay, its state is reached from theirs by forward steps alone: those that it has more. (With the law of deletion it is the parabola: from one run to another one goes back first, and then forward.)
+abbrev pub ReplaysExtend : Type 0
+ReplaysExtend =
+    (P : Program) (query : Query) (left whole : List Record) (v u : State) → IsProgram P → IsQuery P query → Replays P query left v → Replays P query whole u
+    → ((r : Record) → In r left → In r whole) → (more : List Record) × Picks (λ r. ¬ In r left) whole more × Runs P v more u
 
 -- Where a kept step has no consequences, the rest replays to the state without it.
 abbrev pub UndoKeepsReplay : Type 0

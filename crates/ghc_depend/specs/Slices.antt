@@ -1,5 +1,5 @@
 -- Slices of the record: the steps to which a variable owes its term, with all on which they depend.
-use Rattle.std.specs.Prelude.{◌≡◌, ◌⊎◌, List, Option, Some}
+use Rattle.std.specs.Prelude.{◌≡◌, ◌⊎◌, ℕ, List, Option, Some}
 use Rattle.std.specs.FinMap as finite
 use Rattle.ghc_term.specs.declared.var_name.VarName.{VarName}
 use Rattle.ghc_term.specs.declared.goal_name.GoalName.{GoalName}
@@ -8,8 +8,10 @@ use Rattle.ghc_term.specs.Tree.{Tree, variable}
 use Rattle.ghc_term.specs.Bindings.{Reaches}
 use Rattle.ghc_term.specs.Store.{value_at}
 use Rattle.ghc_term.specs.Goal.{Goal}
-use Rattle.ghc_flat.specs.Clause.{Program, Query}
-use Rattle.ghc_flat.specs.Flat.{IsProgram, IsQuery}
+use Rattle.ghc_flat.specs.Clause.{Clause, Program, Query, IsClause}
+use Rattle.ghc_flat.specs.Flat.{AreDefined, IsProgram, IsQuery}
+use Rattle.ghc_fire.specs.declared.act.Act.TheVariants.{ByClause as by_clause, Asked as asked}
+use Rattle.ghc_term.specs.Resolved.{IsTextOf}
 use Rattle.ghc_match.specs.Looked.{GoalLooksAt}
 use Rattle.ghc_records.specs.Record.{State, Record}
 use Rattle.ghc_records.specs.Replay.{Replays, IsVariableOf}
@@ -70,3 +72,17 @@ abbrev pub GoalSlicesAreLeast : Type 0
 GoalSlicesAreLeast =
     (P : Program) (query : Query) (kept : List Record) (t : State) (g : GoalName) (b : Goal) (slice rest : List Record) → IsProgram P → IsQuery P query
     → Replays P query kept t → finite.get t.goals g ≡ Some b → IsGoalSliceOf P kept t g b slice rest → GoalSliceIsLeast P query kept t g b slice
+
+-- Where whatever x reaches has the value that it had, x has the text that it had.
+abbrev pub SameFromHasTheSameText : Type 0
+SameFromHasTheSameText =
+    (x : VarName) (S U : VarName → Option Tree) (text : List ℕ) → SameFrom x S U → IsTextOf S (variable x) text → IsTextOf U (variable x) text
+
+-- The program Q has the clauses of P by which the steps went, under their numbers, and clauses for the calls that they asked for.
+pub record HasClausesOf (P Q : Program) (rs : List Record) : Type 0 where
+  pub used : (r : Record) (k : ℕ) (c : Clause) → In r rs → r.act ≡ by_clause k → IsClause P k c → IsClause Q k c
+  pub defined : (r : Record) (gs : List Goal) → In r rs → r.act ≡ asked gs → AreDefined P gs → AreDefined Q gs
+
+-- Steps replay, with the effects recorded, under each program that has the clauses by which they went.
+abbrev pub ReplayIsOfItsClauses : Type 0
+ReplayIsOfItsClauses = (P Q : Program) (query : Query) (rs : List Record) (t : State) → HasClausesOf P Q rs → Replays P query rs t → Replays Q query rs t

@@ -1,6 +1,6 @@
 // Laws about the definitions, each as the contract of a function.
-ghost use Rattle.ghc_depend.specs.Laws.{OrdersHaveOneAnswer, OrdersAreDecided, ConsequencesHaveOneAnswer, LawOfDeletion, LawfulOrderKeepsReplay, NeighboursChangePlaces, UndoKeepsReplay, RollKeepsReplay, GoneComeBack, WithoutStepsIsOne, KeepsIsOne};
-ghost use Rattle.ghc_depend.specs.Slices.{SlicesAreLeast, GoalSlicesAreLeast};
+ghost use Rattle.ghc_depend.specs.Laws.{OrdersHaveOneAnswer, OrdersAreDecided, ConsequencesHaveOneAnswer, LawOfDeletion, LawfulOrderKeepsReplay, ReplayingOrdersAreLawful, StepsSquare, UndosSquare, UndoAndStepSquare, UndoingEnds, OrdersAreSwaps, ReplaysExtend, NeighboursChangePlaces, UndoKeepsReplay, RollKeepsReplay, GoneComeBack, WithoutStepsIsOne, KeepsIsOne};
+ghost use Rattle.ghc_depend.specs.Slices.{SlicesAreLeast, GoalSlicesAreLeast, SameFromHasTheSameText, ReplayIsOfItsClauses};
 
 /// An order is lawful or has one pair that tells why not, and not both.
 pub fn orders_have_one_answer()
@@ -17,14 +17,55 @@ pub fn orders_are_decided()
     ensures { OrdersAreDecided }
 {}
 
-/// Steps that are closed under consequences can be taken out of the record, and no others, so that the rest replays as recorded.
+/// *Causal safety*: steps that are closed under consequences can be taken out of the record, and no others, so that the rest replays as recorded.
 pub fn law_of_deletion()
     ensures { LawOfDeletion }
 {}
 
-/// The record in a lawful order replays to the same state.
+/// *Causal consistency*, equivalent runs end alike: the record in a lawful order replays to the same state.
 pub fn lawful_order_keeps_replay()
     ensures { LawfulOrderKeepsReplay }
+{}
+
+/// *Causal consistency*, runs that end alike are equivalent: an order in which the kept steps replay too, with the effects recorded, is
+/// lawful, and leaves the same state.
+pub fn replaying_orders_are_lawful()
+    ensures { ReplayingOrdersAreLawful }
+{}
+
+/// *Square property*, two steps: where two steps are possible, and one of them is so unchanged after the other, both ways round lead to
+/// one state.
+pub fn steps_square()
+    ensures { StepsSquare }
+{}
+
+/// *Square property*, two undos: two steps that can be undone are undone in either order, and both ways leave the same steps. So undos are
+/// independent.
+pub fn undos_square()
+    ensures { UndosSquare }
+{}
+
+/// *Square property*, an undo and a step: a step that can be undone, and a possible one that does not depend on it, are undone and taken
+/// in either order, and both ways leave the same steps.
+pub fn undo_and_step_square()
+    ensures { UndoAndStepSquare }
+{}
+
+/// *Well-foundedness*: each undo leaves fewer kept steps, so no undoing goes on without end.
+pub fn undoing_ends()
+    ensures { UndoingEnds }
+{}
+
+/// *Causal equivalence*: the lawful orders are just those into which swaps of neighbours bring the record, each time of a later step that
+/// does not depend on the earlier one.
+pub fn orders_are_swaps()
+    ensures { OrdersAreSwaps }
+{}
+
+/// *Parabolic lemma*: where some steps replay alone, and all of them stand in another replay, its state is reached from theirs by forward
+/// steps alone. By the law of deletion one comes to the steps in common by going back.
+pub fn replays_extend()
+    ensures { ReplaysExtend }
 {}
 
 /// Two neighbouring steps, of which the later one does not depend on the earlier one, may change places.
@@ -67,4 +108,15 @@ pub fn slices_are_least()
 /// record that does so has the slice.
 pub fn goal_slices_are_least()
     ensures { GoalSlicesAreLeast }
+{}
+
+/// Where whatever a variable reaches has the value that it had, it is printed as it was: so of each variable in the state of its slice alone.
+pub fn same_from_has_the_same_text()
+    ensures { SameFromHasTheSameText }
+{}
+
+/// Steps replay under each program that has the clauses by which they went. So what a variable is, by its slice, rests on the clauses by
+/// which the steps of the slice went, and on no other.
+pub fn replay_is_of_its_clauses()
+    ensures { ReplayIsOfItsClauses }
 {}

@@ -34,7 +34,7 @@ module _ {X : Type 0} where
   before_last (x ∷ xs) z a b (inl h) = elim (in_more xs z b h.1) [ inl j ↦ inl (inl (h.0, j)) | inr e ↦ inr (inl h.0, e) ]
   before_last (x ∷ xs) z a b (inr h) = elim (before_last xs z a b h) [ inl j ↦ inl (inr j) | inr p ↦ inr (inr p.0, p.1) ]
 
-  kept_in : (before behind : List X) (x y : X) → In y (before ++ x ∷ behind) → ¬ (y ≡ x) → In y (before ++ behind)
+  pub kept_in : (before behind : List X) (x y : X) → In y (before ++ x ∷ behind) → ¬ (y ≡ x) → In y (before ++ behind)
   kept_in before behind x y i n = elim (in_either before (x ∷ behind) y i) [
     | inl j ↦ in_left before behind y j
     | inr (inl e) ↦ absurd (n e)
