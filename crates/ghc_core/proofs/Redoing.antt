@@ -8,14 +8,22 @@ use Rattle.ghc_core.proofs.Reaching.{Good, reached_good}
 use Rattle.ghc_core.proofs.Replayed.{Replayed, replayed}
 
 -- each of the steps put on the shelf is there
-on_shelf : (gone : List Record) (shelf : Shelf) → AreDistinct (numbers gone) → (r : Record) → In r gone → finite.get (with_shelved gone shelf) r.number ≡ Some r
+pub on_shelf : (gone : List Record) (shelf : Shelf) → AreDistinct (numbers gone) → (r : Record) → In r gone → finite.get (with_shelved gone shelf) r.number ≡ Some r
 on_shelf [] shelf d r i = absurd i
 on_shelf (s ∷ gone) shelf d r (inl e) = grind (arith, finite.get-insert nat_cmp_total (with_shelved gone shelf) s.number s r.number)
 on_shelf (s ∷ gone) shelf d r (inr i) =
     grind (arith, d.0, number_in gone r i, finite.get-insert nat_cmp_total (with_shelved gone shelf) s.number s r.number, on_shelf gone shelf d.1 r i)
 
+-- what is on the shelf stays there where steps of other numbers come beside it
+pub still_on_shelf : (gone : List Record) (shelf : Shelf) (r : Record) → ¬ In r.number (numbers gone) → finite.get shelf r.number ≡ Some r
+    → finite.get (with_shelved gone shelf) r.number ≡ Some r
+still_on_shelf [] shelf r n e = e
+still_on_shelf (s ∷ gone) shelf r n e =
+    let apart : ¬ (r.number ≡ s.number) = λ q. n (inl q) in
+    grind (arith, apart, finite.get-insert nat_cmp_total (with_shelved gone shelf) s.number s r.number, still_on_shelf gone shelf r (λ i. n (inr i)) e)
+
 -- steps that are on the shelf and run from here are redone one after another
-redo_each : (hands : Hands) (rest : List Record) (x : World) (goal : State) → Runs x.opening.program x.state rest goal → ((r : Record) → In r rest → finite.get x.shelf r.number ≡ Some r)
+pub redo_each : (hands : Hands) (rest : List Record) (x : World) (goal : State) → Runs x.opening.program x.state rest goal → ((r : Record) → In r rest → finite.get x.shelf r.number ≡ Some r)
     → AreDistinct (numbers rest) → length x.kept + length rest ≤ kept_limit → NameWhatIsKnown x.opening.query (x.kept ++ rest)
     → (u : World) × AnswersEach (λ i. ⊥) x hands (map (λ m. command (redo m)) (numbers rest)) (map stepped (numbers rest)) u hands × (u.state ≡ goal)
 redo_each hands [] x goal run on d l named = (x, (refl, refl), sym run)

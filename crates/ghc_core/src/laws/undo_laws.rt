@@ -6,7 +6,7 @@ pub fn reachable_is_replay()
     ensures { ReachableIsReplay }
 {}
 
-/// A kept step without consequences can be undone, which leaves the state without it.
+/// *Causal liveness*: a kept step without consequences can be undone, which leaves the state without it.
 pub fn undo_takes_step_away()
     ensures { UndoTakesStepAway }
 {}
@@ -16,12 +16,13 @@ pub fn roll_takes_steps_away()
     ensures { RollTakesStepsAway }
 {}
 
-/// A step that was just taken can be undone, and that gives back the old state.
+/// *Loop lemma*, forth and back: a step that was just taken can be undone, and that gives back the old state.
 pub fn step_then_undo()
     ensures { StepThenUndo }
 {}
 
-/// What an undo or a rollback took away can be redone in the order of its list, and that gives back the old state.
+/// *Loop lemma*, back and forth: what an undo or a rollback took away can be redone in the order of its list, and that gives back the
+/// old state.
 pub fn undone_then_redone()
     ensures { UndoneThenRedone }
 {}
