@@ -7,6 +7,7 @@ pub mod Crosses
 pub mod ExclusiveCrosses
 pub mod Answering
 pub mod AtOnce
+pub mod CarriedOn
 pub mod AnsweredCalls
 pub mod CoreCrosses
 pub mod Listing

@@ -10,7 +10,7 @@ ghost use Rattle.ghc_shared.specs.Places.{AreAllByTheirs, AreEachOnce, places_si
 use crate::growing::Growing;
 use crate::keeper::catch_up;
 use crate::knowledge::{HistorySeat, HistoryTable};
-use crate::locked::{Held, Locked};
+use crate::locked::Held;
 use crate::naming::Naming;
 use crate::pass::Pass;
 use crate::shared::Shared;
@@ -31,10 +31,8 @@ impl<C: Growing + Drop, N: Naming> Shared<C, N> {
         ensures once { AreEachOnce passes.items (places_since N.base (C.history result)) }
     {
         let Shared { table, lock, rest } = self;
-        let Locked { value, held } = lock.into_inner();
-        let Some(Held { mut seat, mut book }) = held.into_inner() else {
-            unreachable!()
-        };
+        let (value, held) = lock.into_inner().into_parts();
+        let Held { mut seat, mut book } = held;
         let mut rest = rest.into_inner();
         let count = value.len();
         take_all_back(&table, &mut seat, &value, count, &mut rest, passes);

@@ -4,6 +4,7 @@ ghost use mathlib.Core.List.{IsPrefix};
 ghost use Rattle.ghc_fire.specs.Meter.{fired, one_more};
 ghost use Rattle.ghc_records.specs.Journal.{Item, Opening};
 ghost use Rattle.ghc_core.specs.World.{World, no_hands};
+ghost use Rattle.ghc_core.specs.Core.{IsStanding};
 ghost use Rattle.ghc_core.specs.Events.{commit as committed, note as noted, command as commanded};
 ghost use Rattle.ghc_core.specs.Legal.{IsLegal, IsAnswered, Shows};
 ghost use Rattle.ghc_core.specs.CommandCode.{command_of};
@@ -49,7 +50,7 @@ impl<N: Naming> Shared<Core, N> {
         ensures counted { meter.new ≡ fired meter.old }
     {
         let held = self.lock.read(rt);
-        let core = &held.value;
+        let core = held.get();
         core.stands();
         core.attempt(alloc, meter, goal, choice)
     }
@@ -69,7 +70,7 @@ impl<N: Naming> Shared<Core, N> {
         ensures counted { meter.new ≡ fired meter.old }
     {
         let held = self.lock.read(rt);
-        let core = &held.value;
+        let core = held.get();
         core.stands();
         match core.attempt(alloc, meter, goal, None) {
             Ok(proposal) => {
@@ -112,23 +113,26 @@ impl<N: Naming> Shared<Core, N> {
         ensures { (o : Opening) × (code_of o ≡ N.opened) × (IsTrue result ↔ (length o.program ≤ few_clauses)) }
     {
         let held = self.lock.read(rt);
-        held.value.program().clauses().len() <= FEW_CLAUSES
+        held.get().program().clauses().len() <= FEW_CLAUSES
     }
 
     /// What an attempt at the goal reads, where that is a call for which the program has more than 32 clauses and which reaches few
-    /// terms. It gives nothing only where a core gives none: where there is no such goal, it is no call, the program has 32 clauses for it
-    /// at most, or more than 64 terms are gone through for it. An attempt at it is made apart, while others hold the lock. It takes one
-    /// holding of the read side, and costs what the excerpt of a core costs. It fails only where memory is refused.
+    /// terms. It gives nothing only where a core gives none, in a world that events lead to: where there is no such goal, it is no call,
+    /// the program has 32 clauses for it at most, or more than 64 terms are gone through for it. (That the world is the present one, no
+    /// clause can say, as of `propose`.) An attempt at it is made apart, while others hold the lock. It takes one holding of the read side,
+    /// and costs what the excerpt of a core costs. It fails only where memory is refused.
     pub fn excerpt<R: Wait>(
         &self,
         rt: &R,
         alloc: Global,
         goal: GoalName,
     ) -> Result<Option<Excerpt>, AllocError>
-        ensures { (w : World) × (code_of w.opening ≡ N.opened) × IfOk result (GivesExcerpt w goal) }
+        ensures { (w : World) × (code_of w.opening ≡ N.opened) × IsStanding w × IfOk result (GivesExcerpt w goal) }
     {
         let held = self.lock.read(rt);
-        held.value.excerpt(alloc, goal)
+        let core = held.get();
+        core.stands();
+        core.excerpt(alloc, goal)
     }
 
     // Asks the core, and tells it by the core's words.
@@ -251,7 +255,7 @@ impl<N: Naming> Shared<Core, N> {
     {
         let mut held = self.lock.write(rt);
         held.look(&self.table, me);
-        let core = &held.value;
+        let core = held.get();
         core.stands();
         let length = core.journal().len();
         let kept = core.kept_numbers(alloc)?;

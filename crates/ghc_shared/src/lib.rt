@@ -15,7 +15,6 @@ mod opening;
 mod pass;
 mod receipt;
 mod shared;
-mod stepping;
 mod telling;
 mod tending;
 mod waking;

@@ -1,7 +1,9 @@
 // What lies behind the lock: the value, with the keeper's seat and the book.
+mod stepping;
+
 ghost use Rattle.std.specs.Prelude.{◌≡◌, ◌⊎◌, IsTrue, length};
 ghost use mathlib.Core.List.{IsPrefix};
-ghost use Rattle.ghc_shared.specs.Passes.{submits_after};
+ghost use Rattle.ghc_shared.specs.Passes.{IsKeeper, submits_after};
 ghost use Rattle.ghc_shared.specs.Receipts.{AddsIfAccepted, IsDecided};
 
 use crate::booking::book_call;
@@ -24,11 +26,12 @@ pub(crate) struct Held<C: Growing, N: Naming> {
 }
 
 // The value, with the keeper's seat and the book. Contracts see the value. Under the read side the seat and the book are out of
-// reach; they are there whenever the lock is free.
+// reach; they are there whenever the lock is free. Nothing changes the value but the methods of this module, which say what they do
+// to it.
 #[derive(Drop)]
 pub(crate) struct Locked<C: Growing, N: Naming> {
-    pub(crate) value: C,
-    pub(crate) held: Exclusive<Option<Held<C, N>>>,
+    value: C,
+    held: Exclusive<Option<Held<C, N>>>,
 }
 
 impl<C: Growing, N: Naming> Model for Locked<C, N> {
@@ -43,6 +46,26 @@ impl<C: Growing, N: Naming> Model for Locked<C, N> {
 }
 
 impl<C: Growing, N: Naming> Locked<C, N> {
+    // The value, with the keeper's seat and the book of its opening.
+    pub(crate) fn new(value: C, held: Held<C, N>) -> Locked<C, N>
+        requires opened { C.opened value ≡ N.opened }
+        requires keeper { (held.seat.table_id ≡ N.table) × IsKeeper N.base N.passes (C.history value) held.seat.me held.book.total }
+        ensures { result ≡ value }
+    {
+        Locked {
+            value,
+            held: Exclusive::new(Some(held)),
+        }
+    }
+
+    // The value, which nobody changes while it is read.
+    pub(crate) fn get(&self) -> &C
+        ensures value { result.now ≡ self.now }
+        ensures opened { C.opened result.now ≡ N.opened }
+    {
+        &self.value
+    }
+
     // The pass sees the whole history.
     pub(crate) fn look(&mut self, table: &HistoryTable<C>, me: &mut Pass<C, N>)
         requires { (table.now.shared.table_id ≡ N.table) × (N.table.words ≡ 1) }
@@ -85,6 +108,7 @@ impl<C: Growing, N: Naming> Locked<C, N> {
         ensures front { me.new.front ≡ C.history self.new }
         ensures submits { me.new.submits ≡ submits_after (C.submits ask) me.old.submits }
         ensures decided { IsDecided C.answers (C.history self.old) ask result me.old me.new }
+        ensures does { C.does self.old ask result.reply self.new }
     {
         let room = me.places.reserve(1).is_ok();
         me.submits = counted(me.submits, self.value.is_submit(&ask));
@@ -127,6 +151,21 @@ impl<C: Growing, N: Naming> Locked<C, N> {
     }
 }
 
+impl<C: Growing + Drop, N: Naming> Locked<C, N> {
+    // The value, with the keeper's seat and the book.
+    pub(crate) fn into_parts(self) -> (C, Held<C, N>)
+        ensures value { result.0 ≡ self }
+        ensures opened { C.opened result.0 ≡ N.opened }
+        ensures keeper { (result.1.seat.table_id ≡ N.table) × IsKeeper N.base N.passes (C.history result.0) result.1.seat.me result.1.book.total }
+    {
+        let Locked { value, held } = self;
+        let Some(held) = held.into_inner() else {
+            unreachable!()
+        };
+        (value, held)
+    }
+}
+
 // Makes the call, or refuses it where there is no room for its place; gives its receipt, and how many items the history has then.
 fn call_with<C: Growing>(
     value: &mut C,
@@ -141,6 +180,7 @@ fn call_with<C: Growing>(
     ensures room { IsTrue result.0.accepted → IsTrue room }
     ensures count { result.1 ≡ length (C.history value.new) }
     ensures legal { C.legal (C.history value.new) }
+    ensures does { C.does value.old ask result.0.reply value.new }
 {
     let place = value.len();
     if !room {

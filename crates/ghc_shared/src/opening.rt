@@ -89,10 +89,7 @@ impl<C: Growing + Drop> Opening<C> {
         for number in 0..passes {
             made.push_reserved(newcomer(alloc, &table, &mut seat, &value, &mut rest, number));
         }
-        let lock = RwLock::new(Locked {
-            value,
-            held: Exclusive::new(Some(Held { seat, book })),
-        });
+        let lock = RwLock::new(Locked::new(value, Held { seat, book }));
         let shared = Shared {
             table,
             lock,

@@ -8,7 +8,7 @@ shown front w n ns legal at is kept = (w, subst (λ (l : List Item). Leaves l w)
 
 pub returns-clause-shows : goal.returns-clause-shows
 returns-clause-shows g c =
-    let same = c.behind-held.view_is ∙ c.deref.ensures ∙ c.look.ensures.value in
+    let same = c.get-core.ensures.value ∙ c.deref.ensures ∙ c.look.ensures.value in
     let at = c.look.ensures.front ∙ ap (λ (k : Core). history k.world.opening k.world.journal) (sym same) in
-    shown c.look.new.me.front c.behind-held.inside.value.world c.len-length.result c.in_ok-kept.kept.items c.stands.ensures.legal at
+    shown c.look.new.me.front c.get-core.result.now.world c.len-length.result c.in_ok-kept.kept.items c.stands.ensures.legal at
     (c.len-length.ensures.length ∙ ap (λ (l : List Entry). length l) c.journal.ensures) c.in_ok-kept.ensures

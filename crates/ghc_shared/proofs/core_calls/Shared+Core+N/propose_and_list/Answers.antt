@@ -8,16 +8,16 @@ use Rattle.ghc_shared.proofs.core_calls.Shared+Core+N.propose_and_list.Goals as 
 pub returns-in-Ok-clause-answer : goal.returns-in-Ok-clause-answer
 returns-in-Ok-clause-answer g c =
     let made = c.in-Ok.ensures in
-    let w = c.behind-held.inside.value.world in (
+    let w = c.get-core.result.now.world in (
       w,
-      record { of_opening = c.behind-held.invariant.0; standing = c.stands.ensures.standing; answer = made.answer; no_goal = made.no_goal; no_clause = made.no_clause },
+      record { of_opening = c.get-core.ensures.opened; standing = c.stands.ensures.standing; answer = made.answer; no_goal = made.no_goal; no_clause = made.no_clause },
       subst (λ m. (g : GoalName) → In g c.list_woken.new.list.items → In g c.args.woken.now.items ⊎ LooksAmong w m g) (c.binds.ensures ∙ ap (λ e. e.binds) c.effect.ensures) c.list_woken.ensures,
     )
 
 pub returns-clause-answer : goal.returns-clause-answer
 returns-clause-answer g c =
     let made = c.in-Err.ensures in (
-      c.behind-held.inside.value.world,
-      record { of_opening = c.behind-held.invariant.0; standing = c.stands.ensures.standing; answer = made.answer; no_goal = made.no_goal; no_clause = made.no_clause },
+      c.get-core.result.now.world,
+      record { of_opening = c.get-core.ensures.opened; standing = c.stands.ensures.standing; answer = made.answer; no_goal = made.no_goal; no_clause = made.no_clause },
       refl,
     )

@@ -2,13 +2,15 @@ use Rattle.ghc_shared.proofs.Words.{◌≡◌, length, sym, ap, ◌∙◌, subst
 use Rattle.ghc_shared.proofs.Newcomers.{keeper_is, all_newcomers}
 use Rattle.ghc_shared.proofs.opening.Opening.named.Goals as goal
 
-pub invariant_of-new : goal.invariant_of-new
-invariant_of-new g c =
+pub new-requires-clause-opened : goal.new-requires-clause-opened
+new-requires-clause-opened g c = ap (λ v. g.C.Growing.opened v.value) c.self.view_is ∙ c.requires.opened
+
+pub new-requires-clause-keeper : goal.new-requires-clause-keeper
+new-requires-clause-keeper g c =
     let history = g.C.Growing.history c.self.inside.value in
     let loop = c.loop-number.invariant in
     let base = sym (ap (λ v. length (g.C.Growing.history v.value)) c.self.view_is ∙ c.requires.base) in
-    let opened = ap (λ v. g.C.Growing.opened v.value) c.self.view_is ∙ c.requires.opened in
-    (opened, rw c.new.ensures (loop.0, keeper_is _ g.N.Naming.base g.N.Naming.passes c.loop-number.seat.me c.open-book.result.0.total history loop.1 base c.open-book.ensures.total))
+    (loop.0, keeper_is _ g.N.Naming.base g.N.Naming.passes c.loop-number.seat.me c.open-book.result.0.total history loop.1 base c.open-book.ensures.total)
 
 pub returns-clause-all : goal.returns-clause-all
 returns-clause-all g c =

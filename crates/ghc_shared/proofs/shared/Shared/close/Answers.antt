@@ -6,8 +6,8 @@ use Rattle.ghc_shared.proofs.shared.Shared.close.Goals as goal
 pub returns-clause-once : goal.returns-clause-once
 returns-clause-once g c =
     let base = g.N.Naming.base in
-    let kept = (rw (sym c.in-Some.ensures) at c.value.invariant).1.1 in
-    let log = c.in-Some.field-0.seat.me.0.seen in
+    let kept = c.into_parts-value.ensures.keeper.1 in
+    let log = c.into_parts-value.result.1.seat.me.0.seen in
     let ps = c.args.passes.items in
     let back = c.take_all_back.ensures in
     let rest = c.into_inner-rest.ensures in

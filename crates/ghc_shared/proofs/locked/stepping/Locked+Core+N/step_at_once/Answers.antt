@@ -5,7 +5,7 @@ use Rattle.ghc_shared.specs.declared.receipt.Receipt as given
 use Rattle.ghc_shared.specs.declared.calls.Call.TheVariants.{Submit}
 use Rattle.ghc_shared.proofs.AtOnce.{adds_at_once, opened_at_once, told_at_once}
 use Rattle.ghc_shared.proofs.Keeping.{adds_one, knows_seen, decided}
-use Rattle.ghc_shared.proofs.stepping.Locked+Core+N.step_at_once.Goals as goal
+use Rattle.ghc_shared.proofs.locked.stepping.Locked+Core+N.step_at_once.Goals as goal
 
 pub book_call-requires-clause-keeper : goal.book_call-requires-clause-keeper
 book_call-requires-clause-keeper g c = let had = rw (sym c.in-Some.ensures.result) at c.self.invariant in (had.1.0, knows_seen had.1.1)

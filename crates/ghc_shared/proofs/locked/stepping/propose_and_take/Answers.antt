@@ -1,4 +1,4 @@
-use Rattle.ghc_shared.proofs.Words.{◌≡◌, ◌⊎◌, sym, ap, ◌∙◌, subst, subst₂, inl, inr, length, true, false, Fault}
+use Rattle.ghc_shared.proofs.Words.{◌≡◌, ◌⊎◌, sym, ap, refl, ◌∙◌, subst, subst₂, inl, inr, length, true, false, Fault}
 use Rattle.std.proofs.Common.{rules}
 use Rattle.ghc_term.specs.Lists.{In}
 use Rattle.ghc_term.specs.declared.goal_name.GoalName.{GoalName}
@@ -8,7 +8,8 @@ use Rattle.ghc_shared.specs.inner.AtOnce.{IsTaken}
 use Rattle.ghc_core.specs.EventCode.{reply_of}
 use Rattle.ghc_shared.proofs.Answering.{gives_up}
 use Rattle.ghc_shared.proofs.AtOnce.{found_is_told, full_has_goal, full_has_clause, found, taken_answer, full, none_proposed, at_once}
-use Rattle.ghc_shared.proofs.stepping.propose_and_take.Goals as goal
+use Rattle.ghc_shared.proofs.CarriedOn.{moves_still, stays_after}
+use Rattle.ghc_shared.proofs.locked.stepping.propose_and_take.Goals as goal
 
 pub take-requires : goal.take-requires
 take-requires c = subst (λ w. IsNextStep w c.in-Ok.step) (sym c.in-Ok.ensures.stays.world) c.in-Ok.ensures.answer.0.3.1
@@ -39,3 +40,21 @@ returns-in-Err-clause-refused c =
     let told = c.in-Err.ensures in
     let not_full : c.in-Err.fault ≡ Fault.Full → ⊥ = λ e. search rules in
     none_proposed c.args.core.now.world c.args.goal c.stands.ensures.standing c.in-Err.fault told.answer.1 not_full told.no_goal told.no_clause
+
+pub returns-in-Ok-clause-moves : goal.returns-in-Ok-clause-moves
+returns-in-Ok-clause-moves c = moves_still _ _ _ c.in-Ok.ensures.stays c.take.ensures.moves
+
+pub returns-in-Err-Full-clause-moves : goal.returns-in-Err-Full-clause-moves
+returns-in-Err-Full-clause-moves c = inl (Fault.Full, refl)
+
+pub returns-in-Ok-clause-still : goal.returns-in-Ok-clause-still
+returns-in-Ok-clause-still c r = stays_after _ _ _ c.in-Ok.ensures.stays (c.take.ensures.stays r)
+
+pub returns-in-Err-Full-clause-still : goal.returns-in-Err-Full-clause-still
+returns-in-Err-Full-clause-still c _ = c.in-Err-Full.ensures.stays
+
+pub returns-in-Err-clause-idle : goal.returns-in-Err-clause-idle
+returns-in-Err-clause-idle c = c.in-Err.ensures.stays
+
+pub returns-in-Ok-clause-counted : goal.returns-in-Ok-clause-counted
+returns-in-Ok-clause-counted c = c.take.ensures.meter ∙ c.in-Ok.ensures.counted

@@ -1,11 +1,13 @@
 // A step of a core that is proposed and submitted at once.
-ghost use Rattle.std.specs.Prelude.{◌≡◌, IsTrue, IfOk, IfErr, OnOk, OnErr, None, Err};
+ghost use Rattle.std.specs.Prelude.{◌≡◌, ◌⊎◌, IsTrue, IfOk, IfErr, OnOk, OnErr, None, Err};
 ghost use mathlib.Core.List.{IsPrefix};
-ghost use Rattle.ghc_fire.specs.Meter.{one_more};
+ghost use Rattle.ghc_fire.specs.Meter.{fired, one_more};
 ghost use Rattle.ghc_core.specs.World.{World, IsNextStep};
 ghost use Rattle.ghc_core.specs.EventCode.{reply_of};
 ghost use Rattle.ghc_core.specs.Legal.{IsLegal};
-ghost use Rattle.ghc_core.specs.Playing.{tells_change};
+ghost use Rattle.ghc_core.specs.Playing.{tells_change, IsRefusal};
+ghost use Rattle.ghc_core.specs.Core.{Stays};
+ghost use Rattle.ghc_core.specs.Meets.{Moves};
 ghost use Rattle.ghc_shared.specs.inner.Calls.{code_of, IsProposal};
 ghost use Rattle.ghc_shared.specs.inner.AtOnce.{IsTaken, IsAnsweredAtOnce, IsStepAtOnce};
 
@@ -27,6 +29,11 @@ fn take(core: &mut Core, alloc: Global, step: Record, room: bool) -> Reply
     requires { IsNextStep core.old.world step }
     ensures taken { IsTaken core.old.world step (reply_of result) core.new.world }
     ensures room { IsTrue (tells_change (reply_of result)) → IsTrue room }
+
+    // Where the step is taken, a note stays just where its goal is still there and did not look at what the step binds; and nothing is tried.
+    ensures moves { IsRefusal (reply_of result) ⊎ Moves core.old core.new }
+    ensures stays { IsRefusal (reply_of result) → Stays core.old core.new }
+    ensures meter { core.new.meter ≡ core.old.meter }
 {
     if !room {
         return Reply::Refused(Fault::Memory);
@@ -51,6 +58,10 @@ fn propose_and_take(
     ensures room { IfOk result (λ r. IsTrue (tells_change (reply_of r.0)) → IsTrue room) }
     ensures refused { IfErr result (λ f. IsProposal (code_of core.old.world.opening) core.old.world goal None (Err f)) }
     ensures stays { OnErr result ((core.new.world ≡ core.old.world) × (woken.new.items ≡ woken.old.items)) }
+    ensures moves { IfOk result (λ r. IsRefusal (reply_of r.0) ⊎ Moves core.old core.new) }
+    ensures still { IfOk result (λ r. IsRefusal (reply_of r.0) → Stays core.old core.new) }
+    ensures idle { OnErr result (Stays core.old core.new) }
+    ensures counted { core.new.meter ≡ fired core.old.meter }
 {
     core.stands();
     match core.prepare_step(alloc, goal, None) {
@@ -84,6 +95,9 @@ impl<N: Naming> Locked<Core, N> {
         ensures stepped { IfOk result (λ r. IsStepAtOnce N.opened goal r.0 r.1 me.old me.new woken.old.items woken.new.items) }
         ensures refused { IfErr result (λ f. (w : World) × IsProposal N.opened w goal None (Err f)) }
         ensures stays { OnErr result ((me.new ≡ me.old) × (woken.new.items ≡ woken.old.items)) }
+        ensures moves { IfOk result (λ r. IsRefusal (reply_of r.0.reply) ⊎ Moves self.old self.new) }
+        ensures still { IfOk result (λ r. IsRefusal (reply_of r.0.reply) → Stays self.old self.new) }
+        ensures counted { self.new.meter ≡ fired self.old.meter }
     {
         answers_add_what_they_tell();
         legal_is_reachable();
