@@ -16,7 +16,7 @@ use Rattle.ghc_shared.specs.contracts.calls.HistoryItem as item
 use Rattle.ghc_shared.specs.contracts.shared.Shared as shared
 use Rattle.ghc_trace.specs.contracts.spies.SpySet as spies
 use Rattle.ghc_pool.specs.contracts.deciding.Deciding as deciding
-use Rattle.ghc_pool.proofs.deciding.Manner.TheSendSync as manner
+use Rattle.ghc_pool.proofs.manner.Manner.TheSendSync as manner
 use Rattle.ghc_pool.specs.contracts.scope.Scope as scope
 
 spies_sync : IsSync spies.the_row

@@ -2,6 +2,7 @@
 pub mod Answers
 pub mod Fair
 pub mod Gathered
+pub mod Manners
 pub mod Meeting
 pub mod Opened
 pub mod Plans

@@ -9,6 +9,7 @@ ghost use Rattle.ghc_pool.specs.inner.Plans.{IsPlan, IsSubmitStop, IsSettlingSto
 use crate::answer::{Answer, RoundStop};
 use crate::craft::{Craft, Decided};
 use crate::gate::Gate;
+use crate::manner::Manner;
 use crate::scope::Scope;
 use ghc_core::{Core, Excerpt, Reply};
 use ghc_fire::{Meter, Proposal};
@@ -30,17 +31,6 @@ pub struct Deciding<'a, N: Naming, R: Wait, G: Gate> {
     pub gate: &'a G,
     pub steps: bool,
     pub manner: Manner,
-}
-
-// How a step of a goal is taken, where nothing is spied.
-#[derive(Clone, Copy, Drop)]
-pub enum Manner {
-    // It is proposed and submitted under one holding of the lock.
-    AtOnce,
-    // It is proposed apart from what workers share and then submitted, where there is an excerpt of it; else it is taken at once.
-    Apart,
-    // It is proposed, and then submitted.
-    Proposed,
 }
 
 // What is to be done with a goal where steps are taken.

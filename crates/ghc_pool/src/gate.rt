@@ -2,7 +2,8 @@
 
 use ghc_term::GoalName;
 
-/// What a worker calls between its calls of the core, each time with no lock held. It may wait there. Nothing is promised of it.
+/// What a worker calls between its calls of the core, each time with no lock held. It may wait there. Nothing is promised of it, and no
+/// contract says that a worker calls it: two tests hold workers up here.
 pub trait Gate {
     /// The worker of this number holds a proposed step of the goal, and has not submitted it.
     fn held(&self, worker: usize, goal: GoalName);

@@ -6,6 +6,7 @@ mod craft;
 mod deciding;
 mod gate;
 mod laws;
+mod manner;
 mod mode;
 mod rounds;
 mod runs;

@@ -1,4 +1,5 @@
 // Four workers: all names are taken, and no more is submitted than the limit allows.
+mod apart;
 mod overlap;
 mod played_again;
 mod undoing;

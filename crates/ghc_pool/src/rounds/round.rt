@@ -8,8 +8,9 @@ ghost use Rattle.ghc_pool.specs.inner.Told.{IsPassAfter, AreFedAnswers, Asks, su
 ghost use Rattle.ghc_pool.specs.Modes.{takes_steps, limit_of};
 
 use crate::answer::{RoundStop, Work};
-use crate::deciding::{Deciding, Manner};
+use crate::deciding::Deciding;
 use crate::gate::Gate;
+use crate::manner::Manner;
 use crate::mode::Mode;
 use crate::rounds::threads::{Ended, work_together};
 use crate::rounds::worker::Worker;
@@ -55,18 +56,6 @@ fn take_apart(workers: Vec<Worker>, done: &mut Vec<Work>)
     }
 }
 
-// How steps are taken: at once where the program has few clauses, and apart where it has many; but where a worker may be held up between
-// a proposal and its submit, one after the other.
-fn manner<N: Naming, R: Wait, G: Gate>(rt: &R, shared: &Shared<Core, N>, gate: &G) -> Manner {
-    if gate.holds_up() {
-        return Manner::Proposed;
-    }
-    if shared.has_few_clauses(rt) {
-        return Manner::AtOnce;
-    }
-    Manner::Apart
-}
-
 /// A round over a shared core. As many workers as there are passes, from 1 to 64, each in a thread of its own, work off the names,
 /// and the goals that their steps make or wake. The first offers first what is handed in. Where steps are taken, a worker proposes and
 /// submits a step of each name in the scope, unless the goal is a call of a spied predicate. Where nothing is spied, and the gate holds
@@ -104,7 +93,7 @@ pub fn round<'a, N: Naming + Send + Sync, R: Threads + Wait + Sync, G: Gate + Sy
         return Err(passes);
     };
     let steps = mode.takes_steps();
-    let manner = manner(rt, shared, gate);
+    let manner = Manner::serving(rt, shared, gate.holds_up());
     let craft = Deciding {
         rt,
         alloc,

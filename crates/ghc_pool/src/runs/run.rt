@@ -96,10 +96,13 @@ impl<R: Threads + Wait + Sync, G: Gate + Sync> Team<'_, R, G> {
 /// of a goal in question that is no call of a spied predicate. The reason that is reported holds of the core that comes back.
 ///
 /// One worker does what `run` does. Several share the core for rounds, each after a look at the core that is alone. They work off all
-/// goals that are ready then, and those that their steps make or wake, in any order that threads happen to take. In each round a step
-/// costs a proposal and a commit, which fires again, and a few locks; threads are started for each round. Where one goal alone is ready,
-/// up to 64 steps are taken without threads. So several workers show a program under other orders, and make it no faster. Where memory
-/// is refused, so that no step is taken, the run stops for that. It waits where the gate waits.
+/// goals that are ready then, and those that their steps make or wake, in any order that threads happen to take. Threads are started
+/// for each round; where one goal alone is ready, up to 64 steps are taken without them. Where nothing is spied, and the gate holds
+/// nobody up, a step costs one attempt and one holding of the lock, and no two are attempted at the same time. But the attempt at a call
+/// for which the program has more than 32 clauses, and which reaches few terms, is made with no lock held, while others are made. Else a
+/// step costs a proposal and a commit, which attempts it again where it is not a small call's that read nothing. So several workers show
+/// a program under other orders, and make it faster only where most of its work is such calls. Where memory is refused, so that no step is
+/// taken, the run stops for that. It waits where the gate waits.
 pub fn run_together<R: Threads + Wait + Sync, G: Gate + Sync>(
     rt: &R,
     alloc: Global,

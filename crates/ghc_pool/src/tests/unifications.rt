@@ -24,8 +24,8 @@ use std::thread::Threads;
 
 // A gate at which nobody waits, though it may say that one might.
 #[derive(Drop)]
-struct Open {
-    holds_up: bool,
+pub(crate) struct Open {
+    pub(crate) holds_up: bool,
 }
 
 impl Gate for Open {

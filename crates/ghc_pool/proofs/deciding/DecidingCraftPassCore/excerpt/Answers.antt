@@ -15,4 +15,4 @@ returns-in-Ok g c =
     let here = c.args.self.now in
     let given = c.in-Ok.ensures in
     let plain : IsPlain here.scope.now here.spies.now here.steps c.args.name = (c.if-not-self.false, c.if-not-is_plain.ensures.inside refl, c.if-not-is_plain.ensures.unspied refl) in
-    of_opening g.N.Naming.opened here.scope.now here.spies.now here.steps c.args.name given.0 c.in-Ok.found plain given.1 given.2
+    of_opening g.N.Naming.opened here.scope.now here.spies.now here.steps c.args.name given.0 c.in-Ok.found plain given.1 given.3
