@@ -1,30 +1,36 @@
 -- Where all steps outside of a slice are rolled back, the slice is kept alone.
-use Rattle.ghc_term.proofs.ListsLemmas.{in_more, in_left, in_last}
+use Rattle.ghc_term.proofs.ListsLemmas.{in_more, in_left, in_last, in_either}
+use Rattle.std.proofs.lemmas.List.{length-append}
+use Rattle.std.specs.FinMap as finite
 use Rattle.ghc_records.specs.Journal.{Opening}
 use Rattle.ghc_console.proofs.CitedWords.{◌≡◌, ◌↔◌, ℕ, List, [], ◌∷◌, ◌++◌, refl, sym, ap, subst, ◌∙◌, inl, inr, arith, Some, In, VarName, value_at, AreDistinct, Record, numbers, record_once, World, IsVariableOf, IsNotKept, opening_stays}
 use Rattle.ghc_core.proofs.Reaching.{reached_good}
+use Rattle.ghc_core.proofs.Redoing.{on_shelf, still_on_shelf, redo_each}
 use Rattle.ghc_core.proofs.Replayed.{replayed}
 use Rattle.ghc_core.specs.Core.{IsStanding}
 use Rattle.ghc_core.specs.Reached.{by_change}
 use Rattle.ghc_core.specs.declared.changes.Change.TheVariants.{Goes as goes}
 use Rattle.ghc_core.specs.declared.changes.Going.{Going}
-use Rattle.ghc_core.specs.Gone.{all_gone}
+use Rattle.ghc_core.specs.Gone.{Gone, all_gone}
 use Rattle.ghc_records.specs.Orders.{Picks, nothing, take, leave}
 use Rattle.ghc_records.specs.Record.{State}
-use Rattle.ghc_records.specs.Replay.{Replays}
-use Rattle.ghc_records.proofs.OrderLemmas.{Before, is_before, before_is, number_in, number_of, picks_once, records_distinct}
-use Rattle.ghc_records.proofs.PickLemmas.{picks_in, picks_has, picks_order, picks_distinct}
-use Rattle.ghc_records.proofs.Replaying.{replay_once}
-use Rattle.ghc_depend.specs.Depend.{DependsOn, Follows, directly, further, GoesWith}
+use Rattle.ghc_records.specs.Replay.{Replays, Runs, query_state}
+use Rattle.ghc_records.proofs.OrderLemmas.{number_in, number_of, picks_once, records_distinct}
+use Rattle.ghc_records.proofs.PickLemmas.{no_longer, picks_in, picks_has, picks_distinct}
+use Rattle.ghc_records.proofs.Replaying.{replay_once, run_once}
+use Rattle.ghc_depend.specs.Depend.{GoesWith}
 use Rattle.ghc_depend.specs.Deletion.{IsPartedBy}
+use Rattle.ghc_depend.specs.Kept.{IsSplitAt, with_shelved}
 use Rattle.ghc_depend.specs.Slices.{IsCauseOf, Gave, GaveGoal, IsThereAlike, SameFrom, IsSliceOf}
 use Rattle.ghc_depend.proofs.ComingBack.{gone_come_back}
-use Rattle.ghc_depend.proofs.Finding.{ends}
+use Rattle.ghc_depend.proofs.Following.{follows_in}
+use Rattle.ghc_depend.proofs.UndosSquare.{follows_more}
+use Rattle.ghc_depend.proofs.KeptOnce.{runs_split}
 use Rattle.ghc_depend.proofs.Slicing.{goal_slices, rest_is_closed, slices}
 use Rattle.ghc_hooks.proofs.Statuses.{status_there}
 use Rattle.ghc_hooks.specs.Status.{HasStatus}
 use Rattle.ghc_console.specs.Keeping.{RollsBack, not_kept, rolls, RollBack, none_yet, and_next}
-use Rattle.ghc_console.specs.KeepLaws.{IsGoalKeptAlone, IsKeptAlone, KeepLeavesTheGoal, KeepLeavesTheSlice}
+use Rattle.ghc_console.specs.KeepLaws.{ComeBack, IsGoalKeptAlone, IsKeptAlone, KeepLeavesTheGoal, KeepLeavesTheSlice}
 
 module _ {X : Type 0} where
   -- what is picked by one property is picked by another that says the same of each
@@ -47,12 +53,6 @@ module _ {X : Type 0} where
       leave (λ i. d.0 (picks_in xs more x rest (picks_in more zs x others i).0).0) (picks_twice xs more zs d.1 rest others)
   picks_twice (x ∷ xs) ys zs d (leave n rest) others = leave (λ i. d.0 (picks_in xs ys x rest (picks_in ys zs x others i).0).0) (picks_twice xs ys zs d.1 rest others)
 
--- what follows in a part of the record follows in the whole
-still_follows : {P : Record → Type 0} (whole part : List Record) → Picks P whole part → (a b : Record) → Follows part a b → Follows whole a b
-still_follows whole part picked a b (directly d) = directly (before_is whole a b (picks_order whole part a b picked (is_before part a b d.0)), d.1)
-still_follows whole part picked a b (further {b = m} f d) =
-    further (still_follows whole part picked a m f) (before_is whole m b (picks_order whole part m b picked (is_before part m b d.0)), d.1)
-
 module _ (w : World) (roots : Record → Type 0) (slice rest : List Record) (standing : IsStanding w) (parts : IsPartedBy w.kept (IsCauseOf w.kept roots) slice rest) where
   distinct : AreDistinct (numbers w.kept)
   distinct = (reached_good standing).kept_once
@@ -66,23 +66,20 @@ module _ (w : World) (roots : Record → Type 0) (slice rest : List Record) (sta
   not_outside : (r : Record) → In r w.kept → ¬ In r rest → Belongs r
   not_outside r i n = elim (picks_has w.kept slice r parts.0 i) [ inl k ↦ (picks_in w.kept slice r parts.0 k).1 | inr m ↦ absurd (n (outside r i m)) ]
 
-  behind_kept : (a b : Record) → Follows w.kept a b → In b w.kept
-  behind_kept a b (directly d) = (ends w.kept b a d).1
-  behind_kept a b (further {b = m} f d) = (ends w.kept b m d).1
-
   -- the rest after the slice gives the old state
   pub way_back : Replays w.opening.program w.opening.query (slice ++ rest) w.state
   way_back =
       let good = reached_good standing in
       gone_come_back w.opening.program w.opening.query w.kept w.state rest slice good.accepted good.asked (replayed standing).replay
       (picks_alike w.kept rest (λ r i. (outside r i, λ j. (picks_in w.kept rest r parts.1 j).1)) parts.1, picks_alike w.kept slice (λ r i. (λ b j. (picks_in w.kept rest r parts.1 j).1 b, not_outside r i)) parts.0)
-      (λ a b i f. outside b (behind_kept a b f) (rest_is_closed w.kept roots a b (picks_in w.kept rest a parts.1 i).1 f))
+      (λ a b i f. outside b (follows_in f) (rest_is_closed w.kept roots a b (picks_in w.kept rest a parts.1 i).1 f))
 
-  -- After some of the others were rolled back: what is kept is a part of what was kept, the slice among it, and none of those rolled back.
+  -- After some of the others were rolled back: what is kept is a part of what was kept, the slice among it, and none of those rolled back, which are shelved.
   pub record Left (ns : List ℕ) (v : World) : Type 0 where
     pub part : Picks (λ r. In r v.kept) w.kept v.kept
     pub has : (r : Record) → In r slice → In r v.kept
     pub gone : (r : Record) → In r v.kept → ¬ In r.number ns
+    pub shelved : (r : Record) → In r w.kept → ¬ In r v.kept → finite.get v.shelf r.number ≡ Some r
     pub reached : IsStanding v
     pub query : v.opening ≡ w.opening
 
@@ -91,6 +88,7 @@ module _ (w : World) (roots : Record → Type 0) (slice rest : List Record) (sta
     part = all_picked w.kept w.kept (λ r i. i);
     has = λ r i. (picks_in w.kept slice r parts.0 i).0;
     gone = λ r i never. never;
+    shelved = λ r i n. absurd (n i);
     reached = standing;
     query = refl;
   }
@@ -99,8 +97,22 @@ module _ (w : World) (roots : Record → Type 0) (slice rest : List Record) (sta
     not_there : (r : Record) → In r v.kept → ¬ (r.number ≡ n) → ¬ In r.number (ns ++ n ∷ [])
     not_there r i differs j = elim (in_more ns n r.number j) [ inl k ↦ l.gone r i k | inr e ↦ differs e ]
 
+    -- what is not left was put on the shelf now, or was there before
+    on_new_shelf : (r : Record) → In r w.kept → (gone : Gone) (left : List Record) → IsSplitAt v.kept gone.first (all_gone gone) left → ¬ In r left
+        → finite.get (with_shelved (all_gone gone) v.shelf) r.number ≡ Some r
+    on_new_shelf r i gone left split n = elim (picks_has w.kept v.kept r l.part i) [
+      | inl j ↦ elim (picks_has v.kept (all_gone gone) r split.0 j) [
+        | inl k ↦ on_shelf (all_gone gone) v.shelf (picks_distinct v.kept (all_gone gone) split.0 (reached_good l.reached).kept_once) r k
+        | inr m ↦ elim (picks_has v.kept left r split.1 j) [ inl k ↦ absurd (n k) | inr d ↦ absurd (d m) ]
+      ]
+      | inr out ↦ still_on_shelf (all_gone gone) v.shelf r (λ k.
+          let q = number_of (all_gone gone) r.number k in
+          let there = (picks_in v.kept (all_gone gone) q.0 split.0 q.1).0 in
+          out (subst (λ z. In z v.kept) (record_once w.kept q.0 r distinct (picks_in w.kept v.kept q.0 l.part there).0 i q.2) there)) (l.shelved r i out)
+    ]
+
     next : (u : World) (line : List ℕ) → RollsBack v n line u → Left (ns ++ n ∷ []) u
-    next u line (not_kept none) = record { part = l.part; has = l.has; gone = λ r i. not_there r i (none r i); reached = l.reached; query = l.query }
+    next u line (not_kept none) = record { part = l.part; has = l.has; gone = λ r i. not_there r i (none r i); shelved = l.shelved; reached = l.reached; query = l.query }
     next u line (rolls gone first can changes) =
         let left = changes.0 in
         let split = changes.1 in
@@ -122,12 +134,13 @@ module _ (w : World) (roots : Record → Type 0) (slice rest : List Record) (sta
                 | inl j ↦ subst (In r) (sym kept) j
                 | inr n ↦ absurd (n (λ g. elim g [
                   | inl e ↦ is_rest (subst Belongs e belongs)
-                  | inr f ↦ rest_is_closed w.kept roots s r is_rest (still_follows w.kept v.kept l.part s r f) belongs
+                  | inr f ↦ rest_is_closed w.kept roots s r is_rest (follows_more w.kept v.kept l.part s r f) belongs
                 ]))
               ];
           gone = λ r i.
               let j = picks_in v.kept left r split.1 (subst (In r) kept i) in
               not_there r j.0 (λ e. j.1 (inl (record_once w.kept r s distinct (picks_in w.kept v.kept r l.part j.0).0 in_w (e ∙ sym first))));
+          shelved = λ r i n. subst (λ shelf. finite.get shelf r.number ≡ Some r) (sym (ap (λ (z : World). z.shelf) is)) (on_new_shelf r i gone left split (λ j. n (subst (In r) (sym kept) j)));
           reached = by_change (goes Going.Together gone) l.reached can changes;
           query = opening_stays v u (goes Going.Together gone) can changes ∙ l.query;
         }
@@ -158,6 +171,22 @@ module _ (w : World) (roots : Record → Type 0) (slice rest : List Record) (sta
     replays_back =
         subst (λ (o : Opening). Replays o.program o.query (v.kept ++ rest) w.state) (sym l.query) (subst (λ rs. Replays w.opening.program w.opening.query (rs ++ rest) w.state) (sym alone) way_back)
 
+    -- each of the rest is on the shelf, and one after another is redone
+    pub come_back : ComeBack w v (numbers rest)
+    come_back hands =
+        let back = replays_back in
+        let kept = (replayed l.reached).replay in
+        let s = runs_split v.opening.program v.kept rest (query_state v.opening.query) w.state back.1 in
+        let same = run_once v.opening.program (query_state v.opening.query) v.kept s.0 v.state s.1 kept.1 in
+        let all : (r : Record) → In r (v.kept ++ rest) → In r w.kept =
+        λ r i. elim (in_either v.kept rest r i) [ inl j ↦ (picks_in w.kept v.kept r l.part j).0 | inr j ↦ (picks_in w.kept rest r parts.1 j).0 ]
+        in
+        let few = no_longer (v.kept ++ rest) w.kept (records_distinct (v.kept ++ rest) back.0.1) all in
+        let most = (replayed standing).few in
+        let both = length-append v.kept rest in
+        redo_each hands rest v w.state (subst (λ z. Runs v.opening.program z rest w.state) same s.2)
+        (λ r i. l.shelved r (picks_in w.kept rest r parts.1 i).0 (λ j. l.gone r j (number_in rest r i))) (picks_distinct w.kept rest parts.1 distinct) (omega arith) back.2
+
     pub same_query : v.opening ≡ w.opening
     same_query = l.query
 
@@ -174,6 +203,7 @@ keep_leaves w v x slice rest lines standing known parts done =
       variable = subst (λ (o : Opening). IsVariableOf o.query v.kept x) (sym (same_query w roots slice rest standing parts v l)) (subst (λ rs. IsVariableOf w.opening.query rs x) (sym is) there.2);
       same = subst (λ (s : State). SameFrom x (value_at w.state.store) (value_at s.store)) one there.3;
       way_back = replays_back w roots slice rest standing parts v l;
+      redone = come_back w roots slice rest standing parts v l;
     }
 
 -- the same of a goal, which has its status there
@@ -196,4 +226,5 @@ keep_leaves_goal w v g b slice rest lines standing there parts done =
           let has = status_there P S (value_at v.state.store) b s (subst (λ c. HasStatus P S c s) same st.2) (λ x looked. sym (alike.1 x looked)) in
           (b, alike.0, subst (λ (o : Opening). HasStatus o.program (value_at v.state.store) b s) (sym (same_query w roots slice rest standing parts v l)) has);
       way_back = replays_back w roots slice rest standing parts v l;
+      redone = come_back w roots slice rest standing parts v l;
     }

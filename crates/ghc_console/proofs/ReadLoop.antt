@@ -1,5 +1,6 @@
 -- How far the reading of a line has come.
-use Rattle.ghc_console.proofs.CitedWords.{◌≡◌, ◌≢◌, ℕ, ◌+◌, All, Option, None, Some, List, [], ◌∷◌, ◌++◌, length, IfSome, inl, inr, refl, sym, ap, ◌∙◌, subst, append_assoc, length-append, arith, drop_of_length-le, Bool, false, All-append, Consumes, IsAtEnd, Keeps, prepend_known, Consumes-kept, Consumes-nil, Keeps-refl, Keeps-trans, prepend_known-nil, AsksAtNeed, CountsGiven, HasGathered, TakesFront, Gathered}
+use Rattle.ghc_console.proofs.CitedWords.{◌≡◌, ◌⊎◌, ◌≢◌, ℕ, ◌+◌, All, Option, None, Some, List, [], ◌∷◌, ◌++◌, length, IfSome, inl, inr, refl, sym, ap, ◌∙◌, subst, append_assoc, length-append, arith, drop_of_length-le, Bool, false, All-append, Consumes, IsAtEnd, Keeps, prepend_known, Consumes-kept, Consumes-nil, Keeps-refl, Keeps-trans, prepend_known-nil, AsksAtNeed, CountsGiven, HasGathered, TakesFront, Gathered}
+use Rattle.ghc_console.specs.Reading.{AsksForMore}
 
 -- these bytes of the line were taken, no call has failed, and each read was needed: `first` and `given` are the bytes given at the start and now, `before` and `asked` those before the last read
 pub record Begun (ahead held : List ℕ) (unread left : Option (List ℕ)) (line : Gathered) (written now : Option (List ℕ)) (failed failures first given before asked : ℕ) : Type 0 where
@@ -78,11 +79,19 @@ begun_at_start ahead unread written line failed first before gathered = record {
 
 module _ (ahead held : List ℕ) (unread left : Option (List ℕ)) (line : Gathered) (written now : Option (List ℕ)) (failed failures first given before asked : ℕ)
     (b : Begun ahead held unread left line written now failed failures first given before asked) where
-  -- a read
-  pub asked_more : (asked' : ℕ) → length held ≡ 0 → asked' ≡ given → AsksAtNeed ahead (prepend_known ahead unread) first before asked'
-  asked_more asked' none is =
+  -- where a read is needed
+  pub needs_more : (asked' : ℕ) → length held ≡ 0 → asked' ≡ given → AsksForMore ahead (prepend_known ahead unread) first asked'
+  needs_more asked' none is =
       let place = b.place in
-      inr (record { seen = b.seen; plain = b.plain; front = front_of _ _ b.seen b.taken; place = omega (arith, place, none, is) })
+      record { seen = b.seen; plain = b.plain; front = front_of _ _ b.seen b.taken; place = omega (arith, place, none, is) }
+
+  -- a read, or none
+  pub asked_more : (asked' : ℕ) → length held ≡ 0 → asked' ≡ given → AsksAtNeed ahead (prepend_known ahead unread) first before asked'
+  asked_more asked' none is = inr (needs_more asked' none is)
+
+  pub asked_or_not : (asked' : ℕ) → length held ≡ 0 → (asked' ≡ asked) ⊎ (asked' ≡ given) → AsksAtNeed ahead (prepend_known ahead unread) first before asked'
+  asked_or_not asked' none (inl same) = subst (AsksAtNeed ahead (prepend_known ahead unread) first before) (sym same) b.asks
+  asked_or_not asked' none (inr is) = asked_more asked' none is
 
   pub begun_filled : (held' : List ℕ) (later next : Option (List ℕ)) (failures' asked' latest : ℕ) → length held ≡ 0 → Keeps left (prepend_known held' later) → Keeps now next
       → failures' ≡ failures → asked' ≡ given → latest ≡ length held'

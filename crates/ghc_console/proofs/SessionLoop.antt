@@ -1,11 +1,13 @@
 -- How far a session has come.
 use Rattle.ghc_console.proofs.CitedWords.{◌≡◌, ◌≤◌, ◌+◌, ◌-◌, ℕ, Bool, true, false, Option, None, Some, List, [], ◌++◌, length, inl, inr, take, refl, sym, ap, ◌∙◌, subst, append_assoc, append-nil, length-append, arith, take-append_seam, Appends, IsAtEnd, Keeps, prepend_known, Appends-trans, Appends-kept, Appends-nil, line_feeds, lines_of, AsksAtNeed, CountsGiven, TakesFirst, TakesLine, IsReply, SessionState, Session, Began, Tells, at_end, ends, goes_on, nothing_yet, broken, went_on}
+use Rattle.ghc_console.specs.Session.{SoFar, none_yet, one_then}
 use Rattle.ghc_console.proofs.Rows.{feeds_append, feeds_plain}
 
 -- what the rest gives, after `count` lines and what was done, is what the whole gives
 pub record Onward (count : ℕ) (first now : SessionState) (all rest : List (List ℕ)) (done : List ℕ) : Type 0 where
   pub whole : (more : ℕ) (out : List ℕ) (later : SessionState) → Session more now rest out later → Session (more + count) first all (done ++ out) later
   pub begun : (more : ℕ) (out : List ℕ) (later : SessionState) → Began more now rest out later → Began (more + count) first all (done ++ out) later
+  pub going : (more : ℕ) (out : List ℕ) (later : SessionState) → SoFar more now rest out later → SoFar (more + count) first all (done ++ out) later
 
 -- a front of the input was answered, and it has no fewer lines than line feeds were there when the last read was made
 pub record Gone (first now : SessionState) (input rest : List ℕ) (written held : Option (List ℕ)) (before : ℕ) : Type 0 where
@@ -36,6 +38,7 @@ going_start s (Some input) written before none = record {
   onward = record {
     whole = λ more out later r. subst (λ n. Session n s (lines_of input) out later) (none_more more) r;
     begun = λ more out later r. subst (λ n. Began n s (lines_of input) out later) (none_more more) r;
+    going = λ more out later r. subst (λ n. SoFar n s (lines_of input) out later) (none_more more) r;
   };
 }
   where
@@ -115,6 +118,9 @@ going_on first now next (Some input) (Some rest) (Some rest') written held held'
         begun = λ more out later run. subst (λ n. Began n first (lines_of input) ((g.done ++ text) ++ out) later) (counts more g.count)
             (subst (λ l. Began ((more + 1) + g.count) first (lines_of input) l later) (sym (append_assoc g.done text out))
             (g.onward.begun (more + 1) (text ++ out) later (subst (λ ls. Began (more + 1) now ls (text ++ out) later) (sym t.lines) (went_on answer.1 run))));
+        going = λ more out later run. subst (λ n. SoFar n first (lines_of input) ((g.done ++ text) ++ out) later) (counts more g.count)
+            (subst (λ l. SoFar ((more + 1) + g.count) first (lines_of input) l later) (sym (append_assoc g.done text out))
+            (g.onward.going (more + 1) (text ++ out) later (subst (λ ls. SoFar (more + 1) now ls (text ++ out) later) (sym t.lines) (one_then answer.1 run))));
       };
     }
   where
@@ -152,6 +158,20 @@ going_quit first now next (Some input) (Some rest) (Some rest') written held hel
       out = g.done ++ text;
       appended = Appends-trans _ _ _ g.done text g.appended answer.2;
       run = g.onward.whole 0 text next (subst (λ ls. Session 0 now ls text next) (sym t.lines) (ends answer.1));
+      asked = omega (arith, asked);
+    }
+
+-- what was written so far
+pub going_so_far : (first now : SessionState) (old left written held held' : Option (List ℕ)) (before : ℕ) → Going first now old left written held before → Keeps held held' → Tells SoFar first old written held' before now
+going_so_far first now None left written held held' before g k = tt
+going_so_far first now (Some input) None written held held' before g k = absurd g
+going_so_far first now (Some input) (Some rest) written held held' before g k =
+    let asked = g.asked in
+    record {
+      count = 0 + g.count;
+      out = g.done ++ [];
+      appended = subst (Appends written held') (sym (append-nil g.done)) (Appends-kept _ _ _ g.done g.appended k);
+      run = g.onward.going 0 [] now none_yet;
       asked = omega (arith, asked);
     }
 

@@ -31,6 +31,15 @@ pub data Began : ℕ → SessionState → List (List ℕ) → List ℕ → Sessi
       → Began count r lines rest t
       → Began (count + 1) s (line ∷ lines) (text ++ rest) t
 
+-- SoFar count s lines out t: the same of a session that goes on. Each of the first `count` lines has its whole reply, and no other is answered.
+pub data SoFar : ℕ → SessionState → List (List ℕ) → List ℕ → SessionState → Type 0 where
+  none_yet : {s : SessionState} {lines : List (List ℕ)} → SoFar 0 s lines [] s
+  one_then :
+      {count : ℕ} {s r t : SessionState} {line text rest : List ℕ} {lines : List (List ℕ)}
+      → IsReply s line text r false
+      → SoFar count r lines rest t
+      → SoFar (count + 1) s (line ∷ lines) (text ++ rest) t
+
 -- One line was served: its reply was written, or a beginning of it where a call failed.
 pub record Served {E : Type 0} (s : SessionState) (line : List ℕ) (t : SessionState) (old new : Option (List ℕ)) (result : Result Bool E) : Type 0 where
   pub text : List ℕ

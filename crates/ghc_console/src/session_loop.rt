@@ -7,8 +7,8 @@ ghost use Rattle.ghc_console.specs.inner.Device.{Counts, WritesFront};
 ghost use Rattle.ghc_console.specs.Firing.{Fires, firings_in, runs_in};
 ghost use Rattle.ghc_console.specs.Lines.{lines_of};
 ghost use Rattle.ghc_console.specs.Reading.{LineSays};
-ghost use Rattle.ghc_console.specs.Session.{Began, Session, Tells};
-ghost use Rattle.ghc_console.specs.SessionState.{state_of};
+ghost use Rattle.ghc_console.specs.Session.{Began, Session, SoFar, Tells};
+ghost use Rattle.ghc_console.specs.SessionState.{SessionState, state_of};
 
 use crate::answer::answer;
 use crate::answered::Answered;
@@ -127,6 +127,13 @@ pub fn session<R: Threads + Wait + Sync, G: Gate + Sync, D: Device>(
     gate: &G,
     device: &mut D,
 ) -> (Debugger, Result<(), Fault>)
+    // It asks only at the prompt: the device may be read where all is handed on, and what was written is the replies to the lines
+    // that were read, each of them.
+    requires prompt { (d : D) (t : SessionState) → D.held d ≡ []
+        → Tells SoFar (state_of debugger) (D.unread device.old) (D.written device.old) (D.written d)
+        (D.earlier d + D.latest d - (D.earlier device.old + D.latest device.old)) t
+        → D.may_read d }
+
     // What is written is the replies to the lines, or a beginning of them where the device failed; and no read is made
     // where a line that ends the session is there.
     ensures text { MatchResult result.1

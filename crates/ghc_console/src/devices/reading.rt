@@ -1,8 +1,8 @@
 // Reading lines from a device.
-ghost use Rattle.std.specs.Prelude.{◌≡◌, ◌≢◌, ◌∷◌, ◌++◌, ◌+◌, ◌<◌, All, IfSome, IfNone, List, ℕ, [], length, ◌==◌, false, take, drop, IfOk, OnOk, Option};
+ghost use Rattle.std.specs.Prelude.{◌≡◌, ◌⊎◌, ◌≢◌, ◌∷◌, ◌++◌, ◌+◌, ◌<◌, All, IfSome, IfNone, List, ℕ, [], length, ◌==◌, false, take, drop, IfOk, OnOk, Option};
 ghost use Rattle.std.specs.Io.KnownBytes.{IsAtEnd, Keeps, prepend_known};
 ghost use Rattle.ghc_console.specs.inner.Device.{Counts};
-ghost use Rattle.ghc_console.specs.Reading.{AsksAtNeed, CountsGiven, HasGathered, IsMadeOf, IsNextLine, TakesFront};
+ghost use Rattle.ghc_console.specs.Reading.{AsksAtNeed, AsksForMore, CountsGiven, HasGathered, IsMadeOf, IsNextLine, TakesFront};
 
 use crate::devices::device::{Broken, Device};
 use crate::devices::line_buffer::{Gathered, LINE_LIMIT, State};
@@ -96,16 +96,23 @@ impl Ahead {
         self.start == self.end
     }
 
-    // Reads once, and says whether there was anything.
+    // Hands on what the device holds back, reads once, and says whether there was anything.
     fn fill<D: Device>(&mut self, device: &mut D) -> Result<bool, Broken>
-        requires { self.old ≡ [] }
+        requires empty { self.old ≡ [] }
+        requires ask { (d : D) → D.held d ≡ [] → Keeps (D.written device.old) (D.written d)
+            → D.earlier d + D.latest d ≡ D.earlier device.old + D.latest device.old → D.may_read d }
         ensures bytes { OnOk result (Keeps (D.unread device.old) (prepend_known self.new (D.unread device.new))) }
         ensures end { IfOk result (λ more. more ≡ false → (self.new ≡ []) × IsAtEnd (D.unread device.new)) }
         ensures written { Keeps (D.written device.old) (D.written device.new) }
         ensures count { Counts (D.failures device.old) (D.failures device.new) result }
-        ensures earlier { D.earlier device.new ≡ D.earlier device.old + D.latest device.old }
+        ensures earlier { OnOk result (D.earlier device.new ≡ D.earlier device.old + D.latest device.old) }
+        ensures asked { (D.earlier device.new ≡ D.earlier device.old) ⊎ (D.earlier device.new ≡ D.earlier device.old + D.latest device.old) }
         ensures latest { OnOk result (D.latest device.new ≡ length self.new) }
     {
+        match device.flush() {
+            Ok(()) => (),
+            Err(Broken) => return Err(Broken),
+        }
         match device.read(&mut self.buf) {
             Ok(n) => {
                 self.start = 0;
@@ -144,6 +151,10 @@ impl Ahead {
         spare: Vec<u8>,
         device: &mut D,
     ) -> Result<Option<Line>, Broken>
+        // The device may be read where all is handed on, nothing more was written, and what is there of the line has no line feed.
+        requires ask { (d : D) → D.held d ≡ [] → Keeps (D.written device.old) (D.written d)
+            → AsksForMore self.old (prepend_known self.old (D.unread device.old)) (D.earlier device.old + D.latest device.old) (D.earlier d + D.latest d)
+            → D.may_read d }
         ensures line { IfOk result (λ line. IsNextLine line
             (prepend_known self.old (D.unread device.old)) (prepend_known self.new (D.unread device.new))) }
         ensures written { Keeps (D.written device.old) (D.written device.new) }

@@ -117,7 +117,7 @@ impl<L: Ledger> Script<L> {
 }
 
 impl<L: Ledger> Device for Script<L> {
-    ghost use Rattle.std.specs.Prelude.{Some, []};
+    ghost use Rattle.std.specs.Prelude.{Some, [], ⊤};
 
     ghost unread = { λ s. Some s.unread };
 
@@ -130,6 +130,9 @@ impl<L: Ledger> Device for Script<L> {
     ghost latest = { λ s. s.latest };
 
     ghost earlier = { λ s. s.earlier };
+
+    /// Anywhere.
+    ghost may_read = { λ s. ⊤ };
 
     /// As `Device` has it; it fails exactly where its turn has come, and gives no byte after a line feed.
     fn read(&mut self, buf: &mut [u8]) -> Result<usize, Broken>

@@ -1,13 +1,19 @@
-use Rattle.ghc_console.proofs.CitedWords.{◌∙◌, arith, refl, rules, sym, Keeps-trans, prepend_known-nil, command_of}
+use Rattle.ghc_console.proofs.CitedWords.{◌∙◌, arith, inr, refl, rules, state_of, sym, Keeps-trans, prepend_known-nil, command_of}
 use Rattle.ghc_console.proofs.RunCommands.{run_fires}
 use Rattle.ghc_console.proofs.Served.{counts_same, has_asked, has_broken, has_broken_run, has_ended, has_listed, has_run, has_told}
 use Rattle.ghc_console.proofs.SessionFirings.{fired_start, fired_on, fired_end}
-use Rattle.ghc_console.proofs.SessionLoop.{going_asked, going_on, going_end, going_quit, broken_read, broken_write, kept_then, taken_kept, going_start, given_start, given_then, given_kept}
+use Rattle.ghc_console.proofs.SessionLoop.{going_asked, going_on, going_end, going_quit, broken_read, broken_write, kept_then, taken_kept, going_so_far, going_start, given_start, given_then, given_kept}
 use Rattle.ghc_console.proofs.session_loop.session.Goals.{in-Told, in-Lists, in-Asks+in-Ok-written}
 use Rattle.ghc_console.proofs.session_loop.session.Goals as goal
 
 pub loop-init : goal.loop-init
 loop-init g c = (tt, tt, rw c.new-ahead.ensures (going_start _ _ _ _ (omega arith)), refl, refl, rw (c.new-ahead.ensures, prepend_known-nil _) (fired_start _ _ _ refl), given_start _ _)
+
+pub next_line-requires : goal.next_line-requires
+next_line-requires g c = record {
+  ask = λ d none kept more.
+      c.requires.prompt d (state_of c.loop.debugger) none (rw (sym c.settle.ensures.world) (going_so_far _ _ _ _ _ _ _ _ (going_asked _ _ _ _ _ _ _ _ _ _ _ c.loop.invariant.2 c.loop.invariant.6 (inr more)) kept));
+}
 
 pub serve_run-left-requires : goal.serve_run-left-requires
 serve_run-left-requires g c = (search rules, (search rules, rw c.in-Asks.is at c.in-Ok.ensures.handed_on))

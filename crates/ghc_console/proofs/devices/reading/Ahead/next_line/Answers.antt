@@ -1,5 +1,5 @@
 use Rattle.ghc_console.proofs.CitedWords.{◌≢◌, ◌+◌, ◌++◌, rules, All-append, prepend_known}
-use Rattle.ghc_console.proofs.ReadLoop.{Begun, begun_at_start, begun_filled, begun_fed, asked_more, taken_off, ends_there, refilled}
+use Rattle.ghc_console.proofs.ReadLoop.{Begun, begun_at_start, begun_filled, begun_fed, asked_more, asked_or_not, needs_more, taken_off, ends_there, refilled}
 use Rattle.ghc_console.proofs.Rows.{ended, last}
 use Rattle.ghc_console.proofs.devices.reading.Ahead.next_line.Goals as goal
 use Rattle.ghc_console.proofs.devices.reading.Ahead.next_line.Goals.{then-is_empty+in-Ok-true, else-is_empty}
@@ -23,7 +23,7 @@ pub returns-in-Ok-false-clause-asks : goal.returns-in-Ok-false-clause-asks
 returns-in-Ok-false-clause-asks g c = asked_more _ _ _ _ _ _ _ _ _ _ _ _ _ c.loop.invariant.2 _ (search rules) c.in-Ok-false.ensures.earlier
 
 pub returns-in-Err-clause-asks : goal.returns-in-Err-clause-asks
-returns-in-Err-clause-asks g c = asked_more _ _ _ _ _ _ _ _ _ _ _ _ _ c.loop.invariant.2 _ (search rules) c.in-Err.ensures.earlier
+returns-in-Err-clause-asks g c = asked_or_not _ _ _ _ _ _ _ _ _ _ _ _ _ c.loop.invariant.2 _ (search rules) c.in-Err.ensures.asked
 
 pub returns-in-Ok-false-clause-given : goal.returns-in-Ok-false-clause-given
 returns-in-Ok-false-clause-given g c =
