@@ -4,6 +4,7 @@ pub mod Ending
 pub mod Outputs
 pub mod Refusal
 pub mod RefusedPart
+pub mod Running
 pub mod Status
 pub mod Texts
 pub mod Workers

@@ -1,12 +1,13 @@
 // What the program does with the words of its command line.
-ghost use Rattle.std.specs.Prelude.{◌≡◌, ◌≢◌, ◌⊎◌, IfErr, IfOk};
+ghost use Rattle.std.specs.Prelude.{◌≡◌, ◌≢◌, IfOk, map, option_map, string_bytes};
+ghost use Rattle.std.specs.Fn.{FnOnceReturnsAt};
 ghost use Rattle.clap.specs.Words.{kind_of};
 ghost use Rattle.clap.specs.declared.error.kind.ErrorKind.{ErrorKind};
 ghost use Rattle.ghc_term.specs.Answered.{AnsweredUnless};
 ghost use Rattle.ghc_term.specs.Fault.{fault_text};
-ghost use Rattle.ghcdb.specs.inner.Ending.{DoOpen, EndsWith, IsEnd, IsRefusalOf};
 ghost use Rattle.ghcdb.specs.Opening.{IsDebuggerOf, IsOpenRefusal, IsWithoutMemory};
-ghost use Rattle.ghcdb.specs.inner.Texts.{history_in, schedule_in};
+ghost use Rattle.ghcdb.specs.inner.Running.{CarriesOut, Debugs, DebugsTexts, DoesAsAsked, IsAnswer, status_at_end};
+ghost use Rattle.ghcdb.specs.inner.Texts.{history_in};
 ghost use Rattle.ghcdb.specs.inner.Status.{spare_fault, status_of, status_of_print};
 ghost use Rattle.ghcdb.specs.inner.Workers.{AreWorkersOf};
 
@@ -22,21 +23,35 @@ use clap::Error;
 use ghc_console::Debugger;
 use ghc_term::Fault;
 use std::alloc::Global;
+use std::io;
+use std::io::{Read, Write};
+use std::num::NonZeroUsize;
 use std::rt::Files;
 use std::sync::Wait;
 use std::thread::Threads;
 
-/// Does what the words ask for, of which the first is the program's name, and says how it ends.
-pub fn run<R: Threads + Wait + Sync + Files + Input + Print + Eprint + AllocGlobal>(
-    rt: &R,
-    words: &[String],
-) -> Status {
+/// Does what the words ask for, of which the first is the program's name, and says how it ends. A session reads its lines from the reader,
+/// and it, or the schedule in its place, writes to the writer. `print` tells `clap`'s text, where the words ask for help or the version, or
+/// are none of this program, and says whether it could. `available` says how many processors there are, where that matters. The writer
+/// comes back, but where no memory was left for its buffer.
+pub fn run<
+    R: Threads + Wait + Sync + Files + Eprint + AllocGlobal,
+    I: Read + Drop,
+    O: Write + Drop,
+    P: FnOnce(&Error) -> bool + Drop,
+    C: FnOnce() -> io::Result<NonZeroUsize> + Drop,
+>(rt: &R, words: &[String], reader: I, writer: O, print: P, available: C) -> (Option<O>, Status)
+    requires print { P.IsAlwaysCallable print }
+    requires available { C.pre available }
+    ensures { DoesAsAsked (map string_bytes words.now) (FnOnceReturnsAt P.FnOnce print) (C.post available) (I.remaining reader) (O.contents writer) (option_map O.contents result.0) result.1 }
+{
     match options(rt.alloc(), words) {
         Ok(given) => {
             let Given { options, workers } = given;
-            debug(rt, options, workers)
+            let processors = processors_for(&workers, available);
+            debug(rt, options, workers, processors, reader, writer)
         }
-        Err(error) => answer(rt, &error),
+        Err(error) => (Some(writer), answer(rt, &error, print)),
     }
 }
 
@@ -56,14 +71,12 @@ fn status_after(error: &Error, printed: bool) -> Status
     }
 }
 
-// Prints help or the version on the standard output, and what is wrong with the words on the standard error, whose failing changes
-// nothing.
-fn answer<R: Print + Eprint>(rt: &R, error: &Error) -> Status
-    ensures help { kind_of error.now ≡ ErrorKind.DisplayHelp → (result ≡ Status.Done) ⊎ (result ≡ Status.Broken) }
-    ensures version { kind_of error.now ≡ ErrorKind.DisplayVersion → (result ≡ Status.Done) ⊎ (result ≡ Status.Broken) }
-    ensures mistake { kind_of error.now ≢ ErrorKind.DisplayHelp → kind_of error.now ≢ ErrorKind.DisplayVersion → result ≡ Status.Misused }
+// Tells the text, and on the standard error that help or the version could not be told.
+fn answer<R: Eprint, P: FnOnce(&Error) -> bool + Drop>(rt: &R, error: &Error, print: P) -> Status
+    requires { P.IsAlwaysCallable print }
+    ensures { IsAnswer (FnOnceReturnsAt P.FnOnce print) error.now result }
 {
-    let printed = error.print(rt).is_ok();
+    let printed = print(error);
     let status = status_after(error, printed);
     if matches!(status, Status::Broken) {
         let _ = eprintln!(rt; "{}", spare_text(&Fault::Device));
@@ -107,52 +120,68 @@ fn open_for_workers(
 }
 
 // Starts what the texts and the options say, and plays the schedule, where there is a text of one, or else runs the session.
-fn carry_out<R: Threads + Wait + Sync + Input + Print + AllocGlobal>(
+fn carry_out<R: Threads + Wait + Sync + AllocGlobal, I: Read + Drop, O: Write + Drop>(
     rt: &R,
     texts: &Texts,
     options: Options<'_>,
     workers: WorkersOption,
-) -> Result<(), Refusal>
-    ensures done { IfOk result (λ _. DoOpen texts.now.program.items options.entry.query.now (history_in texts.now)) }
-    ensures refused { IfErr result (IsRefusalOf texts.now.program.items options.entry.query.now (history_in texts.now) (schedule_in texts.now)) }
+    processors: usize,
+    reader: I,
+    writer: O,
+) -> (Option<O>, Result<(), Refusal>)
+    ensures { CarriesOut texts.now options.entry workers processors (I.remaining reader) (O.contents writer) (option_map O.contents result.0) result.1 }
 {
-    let processors = processors_for(rt, &workers);
     let debugger = match open_for_workers(rt.alloc(), texts, options, workers, processors) {
         Ok(debugger) => debugger,
-        Err(refusal) => return Err(refusal),
+        Err(refusal) => return (Some(writer), Err(refusal)),
     };
     match &texts.schedule {
-        Some(schedule) => run_or_play(rt, debugger, Some(schedule.as_slice())),
-        None => run_or_play(rt, debugger, None),
+        Some(schedule) => run_or_play(rt, debugger, Some(schedule.as_slice()), reader, writer),
+        None => run_or_play(rt, debugger, None, reader, writer),
+    }
+}
+
+// Tells of the refusal, where it did not end well, and gives the status.
+fn tell_end<R: Eprint + AllocGlobal>(rt: &R, ended: &Result<(), Refusal>) -> Status
+    ensures { result ≡ status_at_end ended.now }
+{
+    match ended {
+        Ok(()) => Status::Done,
+        Err(refusal) => tell(rt, refusal),
     }
 }
 
 // Carries out what the texts and the options say, tells of a refusal, and says how it ends.
-fn debug_texts<R: Threads + Wait + Sync + Input + Print + Eprint + AllocGlobal>(
+fn debug_texts<R: Threads + Wait + Sync + Eprint + AllocGlobal, I: Read + Drop, O: Write + Drop>(
     rt: &R,
     texts: &Texts,
     options: Options<'_>,
     workers: WorkersOption,
-) -> Status
-    ensures { EndsWith texts.now.program.items options.entry.query.now (history_in texts.now) (schedule_in texts.now) result }
+    processors: usize,
+    reader: I,
+    writer: O,
+) -> (Option<O>, Status)
+    ensures { DebugsTexts texts.now options.entry workers processors (I.remaining reader) (O.contents writer) (option_map O.contents result.0) result.1 }
 {
-    match carry_out(rt, texts, options, workers) {
-        Ok(()) => Status::Done,
-        Err(refusal) => tell(rt, &refusal),
-    }
+    let (writer, ended) = carry_out(rt, texts, options, workers, processors, reader, writer);
+    let status = tell_end(rt, &ended);
+    (writer, status)
 }
 
 // Reads the files, all of them before anything is judged, and debugs what stands in them.
-fn debug<R: Threads + Wait + Sync + Files + Input + Print + Eprint + AllocGlobal>(
+fn debug<R: Threads + Wait + Sync + Files + Eprint + AllocGlobal, I: Read + Drop, O: Write + Drop>(
     rt: &R,
     options: Options<'_>,
     workers: WorkersOption,
-) -> Status
-    ensures { IsEnd result }
+    processors: usize,
+    reader: I,
+    writer: O,
+) -> (Option<O>, Status)
+    ensures { Debugs options.entry workers processors (I.remaining reader) (O.contents writer) (option_map O.contents result.0) result.1 }
 {
     match read_texts(rt, options) {
-        Ok(texts) => debug_texts(rt, &texts, options, workers),
-        Err(refusal) => tell(rt, &refusal),
+        Ok(texts) => debug_texts(rt, &texts, options, workers, processors, reader, writer),
+        Err(refusal) => (Some(writer), tell(rt, &refusal)),
     }
 }
 

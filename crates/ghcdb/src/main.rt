@@ -19,10 +19,13 @@ mod status;
 mod text_front;
 mod workers;
 
+use clap::Error;
 use debugger::run;
 use status::Status;
 use std::process::ExitCode;
-use std::rt::Env;
+use std::rt::{Env, Files};
+use std::sync::Wait;
+use std::thread::{Threads, available_parallelism};
 use std::{env, io};
 
 // The words of the command line, of which the first is the program's name.
@@ -40,9 +43,20 @@ fn refuse_words<R: Eprint>(rt: &R, error: &io::Error) -> Status {
     Status::Misused
 }
 
+// Does what the words ask for, on the streams and the processors of the system.
+fn run_here<R: Threads + Wait + Sync + Files + Input + Print + Eprint + AllocGlobal>(
+    rt: &R,
+    words: &[String],
+) -> Status {
+    let print = |error: &Error| error.print(rt).is_ok();
+    let available = || available_parallelism(rt);
+    let (_, status) = run(rt, words, rt.reader(), io::writer(rt), print, available);
+    status
+}
+
 fn main(rt: HostRuntime) -> ExitCode {
     let status = match words(&rt) {
-        Ok(words) => run(&rt, words.as_slice()),
+        Ok(words) => run_here(&rt, words.as_slice()),
         Err(error) => refuse_words(&rt, &error),
     };
     ExitCode::from(status.code())

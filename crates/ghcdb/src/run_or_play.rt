@@ -1,8 +1,9 @@
-// What was started runs a session, or plays a schedule in its place, over the standard streams.
+// What was started runs a session, or plays a schedule in its place, from a reader to a writer.
 ghost use Rattle.std.specs.Prelude.{◌≡◌, ◌⊎◌, ◌<◌, [], IfErr, OnOk, option_map};
 ghost use Rattle.ghc_console.specs.SessionState.{state_of};
-ghost use Rattle.ghcdb.specs.inner.Ending.{IsEndRefusal, IsStreamRefusal, ended_as};
-ghost use Rattle.ghcdb.specs.inner.Outputs.{HasOutput, PlaysSchedule, RunsOrPlays, RunsSession};
+ghost use Rattle.ghcdb.specs.Start.{IsNoMemoryFor};
+ghost use Rattle.ghcdb.specs.inner.Ending.{IsEndRefusal, ended_as, part_at_end};
+ghost use Rattle.ghcdb.specs.inner.Outputs.{Ends, HasOutput, PlaysSchedule, RunsOrPlays, RunsSession};
 
 use crate::console::run_on_device;
 use crate::playing::play_on_device;
@@ -13,10 +14,10 @@ use ghc_term::Fault;
 use std::alloc::Global;
 use std::io::{BufWriter, Read, Write};
 use std::marker::Brand;
+use std::mem;
 use std::sync::Wait;
 use std::sync::ledger::{Blank, Ledger};
 use std::thread::Threads;
-use std::{io, mem};
 
 // Plays the schedule on the device. The program ends next, and the system takes all memory back at once: the core is not
 // taken apart goal by goal.
@@ -107,31 +108,9 @@ fn run_or_play_to_writer<L: Ledger, R: Threads + Wait + Sync, I: Read + Drop, O:
     (writer, result)
 }
 
-// The same from the reader to the writer, whose calls are counted in the ledger.
-fn run_or_play_between<
-    L: Ledger,
-    R: Threads + Wait + Sync + AllocGlobal,
-    I: Read + Drop,
-    O: Write + Drop,
->(
-    rt: &R,
-    debugger: Debugger,
-    schedule: Option<&[u8]>,
-    reader: I,
-    writer: BufWriter<O>,
-    blank: Blank,
-) -> Result<(), Refusal>
-    requires blank { (blank.name ≡ L.name) × (blank.parts ≡ L.parts) × (1 < L.parts) }
-    ensures { IfErr result (IsEndRefusal (option_map (λ text. text.now) schedule.entry)) }
-{
-    let device: Lines<I, O, L> = Lines::new(reader, writer, blank);
-    let (_, result) = run_or_play_to_writer(rt, rt.alloc(), debugger, schedule, device);
-    result
-}
-
 // The refusal where no memory is left for the output.
 fn no_memory_for_output(schedule: Option<&[u8]>) -> Refusal
-    ensures { IsStreamRefusal (option_map (λ text. text.now) schedule.entry) result }
+    ensures { IsNoMemoryFor (part_at_end (option_map (λ text. text.now) schedule.entry)) result }
 {
     let fault = Fault::Memory;
     match schedule {
@@ -146,32 +125,43 @@ fn no_memory_for_output(schedule: Option<&[u8]>) -> Refusal
     }
 }
 
-// The same over the standard streams.
-fn run_or_play_counted<L: Ledger, R: Threads + Wait + Sync + Input + Print + AllocGlobal>(
+// The same from the reader to the writer, whose calls are counted in the ledger.
+fn run_or_play_counted<
+    L: Ledger,
+    R: Threads + Wait + Sync + AllocGlobal,
+    I: Read + Drop,
+    O: Write + Drop,
+>(
     rt: &R,
     debugger: Debugger,
     schedule: Option<&[u8]>,
+    reader: I,
+    writer: O,
     blank: Blank,
-) -> Result<(), Refusal>
+) -> (Option<O>, Result<(), Refusal>)
     requires blank { (blank.name ≡ L.name) × (blank.parts ≡ L.parts) × (1 < L.parts) }
-    ensures { IfErr result (IsStreamRefusal (option_map (λ text. text.now) schedule.entry)) }
+    ensures { Ends debugger (option_map (λ text. text.now) schedule.entry) (I.remaining reader) (O.contents writer) (option_map O.contents result.0) result.1 }
 {
-    let Ok(writer) = BufWriter::new(rt.alloc(), io::writer(rt)) else {
-        return Err(no_memory_for_output(schedule));
+    let Ok(buffer) = BufWriter::new(rt.alloc(), writer) else {
+        return (None, Err(no_memory_for_output(schedule)));
     };
-    run_or_play_between::<L, _, _, _>(rt, debugger, schedule, rt.reader(), writer, blank)
+    let device: Lines<I, O, L> = Lines::new(reader, buffer, blank);
+    let (writer, result) = run_or_play_to_writer(rt, rt.alloc(), debugger, schedule, device);
+    (Some(writer), result)
 }
 
-/// Plays the schedule on the core, where one is given, and writes its replies to the standard output. Else it runs a session over the
-/// standard streams, up to `quit` or the end of the input. The refusal is that of the schedule or of the session. It is `Device` where a
-/// stream fails, and `Memory` where there is none for the output that is gathered, or, of a schedule, for the hands, for the line of a
-/// reply or for the records.
-pub fn run_or_play<R: Threads + Wait + Sync + Input + Print + AllocGlobal>(
+/// Plays the schedule on the core, where one is given, and writes its replies to the writer. Else it runs a session from the reader to the
+/// writer, up to `quit` or the end of the input. The refusal is that of the schedule or of the session. It is `Device` where a stream
+/// fails, and `Memory` where there is none for the output that is gathered, with which the writer is let go, or, of a schedule, for the
+/// hands, for the line of a reply or for the records.
+pub fn run_or_play<R: Threads + Wait + Sync + AllocGlobal, I: Read + Drop, O: Write + Drop>(
     rt: &R,
     debugger: Debugger,
     schedule: Option<&[u8]>,
-) -> Result<(), Refusal>
-    ensures { IfErr result (IsStreamRefusal (option_map (λ text. text.now) schedule.entry)) }
+    reader: I,
+    writer: O,
+) -> (Option<O>, Result<(), Refusal>)
+    ensures { Ends debugger (option_map (λ text. text.now) schedule.entry) (I.remaining reader) (O.contents writer) (option_map O.contents result.0) result.1 }
 {
-    run_or_play_counted::<Brand, R>(rt, debugger, schedule, Blank::new(2))
+    run_or_play_counted::<Brand, R, I, O>(rt, debugger, schedule, reader, writer, Blank::new(2))
 }

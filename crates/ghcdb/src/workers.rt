@@ -1,12 +1,13 @@
 // How many workers make the runs of a session.
-ghost use Rattle.std.specs.Prelude.{◌≡◌, ◌↔◌, ◌≤◌, IsTrue};
-ghost use Rattle.ghcdb.specs.inner.Workers.{AreWorkersOf, HasLargePredicate, one_each};
+ghost use Rattle.std.specs.Prelude.{◌≡◌, ◌↔◌, IsTrue};
+ghost use Rattle.ghcdb.specs.inner.Workers.{AreProcessorsFor, AreWorkersOf, HasLargePredicate, one_each, processors_in};
 
 use crate::settings::WorkersOption;
 use ghc_core::FEW_CLAUSES;
 use ghc_flat::Program;
 use ghc_pool::Workers;
-use std::thread::{Threads, available_parallelism};
+use std::io;
+use std::num::NonZeroUsize;
 
 // No run is made by more.
 const MOST: usize = 64;
@@ -50,16 +51,27 @@ pub fn workers_of(asked: WorkersOption, program: &Program, processors: usize) ->
     }
 }
 
-/// How many processors the machine has, or one where it does not say, or where a number of workers is asked for. It costs some calls of
-/// the system under `auto`.
-pub fn processors_for<R: Threads>(rt: &R, asked: &WorkersOption) -> usize
-    ensures { 1 ≤ result }
+/// How many processors the machine has, or one where it does not say, or where a number of workers is asked for. Only under `auto` it is
+/// asked for them.
+pub fn processors_for<C: FnOnce() -> io::Result<NonZeroUsize> + Drop>(
+    asked: &WorkersOption,
+    available: C,
+) -> usize
+    requires { C.pre available }
+    ensures { AreProcessorsFor (C.post available) asked.now result }
 {
     match asked {
         WorkersOption::Number(_) => 1,
-        WorkersOption::Auto => match available_parallelism(rt) {
-            Ok(count) => count.get(),
-            Err(_) => 1,
-        },
+        WorkersOption::Auto => counted(available()),
+    }
+}
+
+// So many processors, or one where none are told.
+fn counted(told: io::Result<NonZeroUsize>) -> usize
+    ensures { result ≡ processors_in told }
+{
+    match told {
+        Ok(count) => count.get(),
+        Err(_) => 1,
     }
 }

@@ -1,11 +1,14 @@
 -- What is written of a session, or of a schedule that is played in its place, and what a writer has of that at the end.
-use Rattle.std.specs.Prelude.{◌≡◌, ℕ, List, [], Option, None, Some, Result, MatchResult, OnOk}
+use Rattle.std.specs.Prelude.{◌≡◌, ℕ, List, [], Option, None, Some, Result, MatchResult, OnOk, IfErr, IsErrAnd}
 use Rattle.std.specs.Io.KnownBytes.{append_known}
 use Rattle.ghc_core.specs.Core.{Core}
 use Rattle.ghc_console.specs.ScheduleText.{IsScheduleOf}
 use Rattle.ghc_console.specs.Session.{Began, Session, Tells}
 use Rattle.ghc_console.specs.SessionState.{SessionState, state_of}
 use Rattle.ghc_console.specs.declared.debugger.Debugger.{Debugger}
+use Rattle.ghcdb.specs.Start.{IsNoMemoryFor}
+use Rattle.ghcdb.specs.inner.Ending.{IsEndRefusal, part_at_end}
+use Rattle.ghcdb.specs.declared.refusal.Refusal.{Refusal}
 
 -- HasReplies s unread before after: where the bytes to come and those written before are known, the replies to all lines to come are written after these.
 abbrev pub HasReplies : SessionState → Option (List ℕ) → Option (List ℕ) → Option (List ℕ) → Type 0
@@ -31,3 +34,8 @@ RunsOrPlays d (Some text) unread before after result = PlaysSchedule d.core text
 -- HasOutput d schedule unread before after result: the writer has all that is written so; or, where the result is an error, it may lack an end of it, which is lost.
 abbrev pub HasOutput : {E : Type 0} → Debugger → Option (List ℕ) → Option (List ℕ) → Option (List ℕ) → Option (List ℕ) → Result Unit E → Type 0
 HasOutput d schedule unread before after result = (lost : List ℕ) × OnOk result (lost ≡ []) × RunsOrPlays d schedule unread before (append_known after lost) result
+
+-- Ends d schedule unread before writer result: the writer that comes back has that, and a refusal is of what did not end well. Where none comes back, no memory was left for what is gathered of the output.
+abbrev pub Ends : Debugger → Option (List ℕ) → Option (List ℕ) → Option (List ℕ) → Option (Option (List ℕ)) → Result Unit Refusal → Type 0
+Ends d schedule unread before (Some after) result = HasOutput d schedule unread before after result × IfErr result (IsEndRefusal schedule)
+Ends d schedule unread before None result = IsErrAnd result (IsNoMemoryFor (part_at_end schedule))

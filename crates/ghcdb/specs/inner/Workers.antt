@@ -1,5 +1,7 @@
 -- How many workers make a run of the session.
-use Rattle.std.specs.Prelude.{◌≡◌, ℕ, List, max, min}
+use Rattle.std.specs.Prelude.{◌≡◌, ℕ, List, Result, Ok, Err, max, min}
+use Rattle.std.specs.NonZero.{non_zero_usize_get}
+use Rattle.std.specs.declared.num.NonZeroUsize.{NonZeroUsize}
 use Rattle.ghc_flat.specs.Clause.{Program}
 use Rattle.ghc_core.specs.Excerpt.{HasManyClauses}
 use Rattle.ghcdb.specs.declared.settings.WorkersOption.{WorkersOption}
@@ -24,3 +26,13 @@ pub record AreAutomatic (P : Program) (processors workers : ℕ) : Type 0 where
 abbrev pub AreWorkersOf : WorkersOption → Program → ℕ → ℕ → Type 0
 AreWorkersOf (Number n) P processors workers = workers ≡ n
 AreWorkersOf Auto P processors workers = AreAutomatic P processors workers
+
+-- so many processors, or one where none are told
+abbrev pub processors_in : {E : Type 0} → Result NonZeroUsize E → ℕ
+processors_in (Ok count) = non_zero_usize_get count
+processors_in (Err error) = 1
+
+-- AreProcessorsFor Says asked n: where the workers are left to the program, n is the number of processors that the machine says, of what it can say; else it is one.
+abbrev pub AreProcessorsFor : {E : Type 0} → (Result NonZeroUsize E → Type 0) → WorkersOption → ℕ → Type 0
+AreProcessorsFor Says (Number n) processors = processors ≡ 1
+AreProcessorsFor {E} Says Auto processors = (told : Result NonZeroUsize E) × Says told × (processors ≡ processors_in told)

@@ -84,11 +84,11 @@ const FIRST: &str = "1 0.1 in 5 reads - binds _0_1=[5|_1_1] makes 1.1";
 
 const END: &str = "3 2.1 end reads - binds _2_1=[] makes -";
 
-// Gives the first stream two inputs, of which the first is foreseen, which takes nothing.
+// Gives the first stream two inputs, of which the first is foreseen, which takes nothing. It has two lines, as none of a session has.
 fn is_fed(alloc: Global, core: &mut Core) -> bool {
     is_input_foreseen(alloc, core, "5", FIRST)
         && keeps(alloc, core, &[])
-        && is_given(alloc, core, "5", 1)
+        && is_given(alloc, core, " % five\n 5 ", 1)
         && is_kept(alloc, core, 1, FIRST)
         && is_given(alloc, core, "7", 2)
 }

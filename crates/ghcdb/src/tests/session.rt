@@ -3,7 +3,7 @@ ghost use Rattle.std.specs.Prelude.{◌≡◌, ◌<◌};
 
 use crate::no_gate::NoGate;
 use crate::tests::cores::core_of;
-use ghc_console::{Debugger, Device, Script, session};
+use ghc_console::{Debugger, Script, session};
 use ghc_core::Core;
 use ghc_trace::SpySet;
 use std::alloc::Global;
@@ -21,14 +21,14 @@ const OUTPUT: &str = "REDU 1 0.1 eq\nX = 1\n1 0.1 eq reads - binds _0_1=1 makes 
 type Served = (Option<usize>, usize, bool);
 
 // Runs a session, and says how many steps the core has then, and whether it was broken off.
-fn serve<R: Threads + Wait + Sync, D: Device>(
+fn serve<L: Ledger, R: Threads + Wait + Sync>(
     rt: &R,
     alloc: Global,
     core: Core,
-    device: &mut D,
+    script: &mut Script<L>,
 ) -> (usize, bool) {
     let debugger = Debugger::new(core, SpySet::new(alloc));
-    let (debugger, ended) = session(rt, alloc, debugger, &NoGate, device);
+    let (debugger, ended) = session(rt, alloc, debugger, &NoGate, script);
     (debugger.core.records().len(), ended.is_err())
 }
 

@@ -46,12 +46,14 @@ fn is_tried_again(alloc: Global, core: &mut Core) -> bool {
         && waits_for(core, 2)
 }
 
-// Whether that is so, and six tries were counted.
+// Whether that is so, and six tries were counted, and one firing, that of the commit.
 fn is_settled_thrice(alloc: Global) -> bool {
     match core_of(alloc, "p(a,b) :- true | true.", "p(X,Y), Y = c, Z = d") {
         Some(core) => {
             let mut core = core;
-            is_tried_again(alloc, &mut core) && core.meter().tries() == 6
+            is_tried_again(alloc, &mut core)
+                && core.meter().tries() == 6
+                && core.meter().firings() == 1
         }
         None => false,
     }
