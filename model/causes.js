@@ -2,7 +2,7 @@
 // instead; and notes on texts that are accepted but seldom meant. Nothing is refused or accepted here. Pure.
 //
 // A cause is `{ which, line, column, length, title, hints }`: `which` is the text's name, the column counts bytes from 1.
-const Causes = ((Tokens, Reader, SyntaxCauses, CheckerCauses, Nearest) => {
+const Causes = ((Tokens, Reader, SyntaxCauses, CheckerCauses, Nearest, Cures) => {
   "use strict";
 
   const caused = (which, { token, title, hints }) => ({ which, line: token.line, column: token.column, length: Math.max(1, token.text.length), title, hints });
@@ -13,13 +13,13 @@ const Causes = ((Tokens, Reader, SyntaxCauses, CheckerCauses, Nearest) => {
     const syntax = /^syntax at (\d+):(\d+)$/.exec(rest), clause = /^not flat in clause (\d+)$/.exec(rest);
     const twice = /^variable (\w+) repeated in the head of clause (\d+)$/.exec(rest), call = /^undefined (\w+)\/(\d+)$/.exec(rest);
     if (number === "F2" && syntax) {
-      const found = SyntaxCauses.causeOf(text, { line: Number(syntax[1]), column: Number(syntax[2]) }, isQuery);
+      const found = SyntaxCauses.causeOf(text, { line: Number(syntax[1]), column: Number(syntax[2]) }, isQuery, program);
       return caused(which, { ...found, title: `syntax: ${found.title}` });
     }
     if (!clause && !twice && !call) return undefined;
     const tokens = Tokens.tokensOf(text);
     if (number === "F3" && clause) return caused(which, CheckerCauses.notFlat(tokens, Number(clause[1])));
-    if (number === "F4" && twice) return caused(which, CheckerCauses.notLinear(tokens, twice[1], Number(twice[2])));
+    if (number === "F4" && twice) return caused(which, CheckerCauses.notLinear(tokens, twice[1], Number(twice[2]), text));
     if (number === "F5" && call) return caused(which, CheckerCauses.undefinedCall(Tokens.tokensOf(program), tokens, call[1], Number(call[2]), isQuery));
     return undefined;
   }
@@ -71,14 +71,18 @@ const Causes = ((Tokens, Reader, SyntaxCauses, CheckerCauses, Nearest) => {
     });
   }
 
-  /** Notes on assignments that wait for what they are to bind. */
+  const NOBODYS = "each _ is a variable of its own: give the value a name, and use that";
+
+  /** Notes on assignments that wait for what they are to bind, and on those whose value nobody gets. */
   function ownAssignments(clause, number, which) {
     const notes = [];
     clause.forEach((token, place) => {
       if (token.text !== ":=") return;
       const left = clause[place - 1], right = clause.slice(place + 1), end = right.findIndex(({ text }) => text === "," || text === ".");
+      const lone = `note: nobody gets what _ := computes in clause ${number}`;
+      if (left.text === "_") notes.push(caused(which, { token: left, title: lone, hints: [NOBODYS] }));
       if (!right.slice(0, end).some(({ kind, text }) => kind === "variable" && text === left.text)) return;
-      const cure = `a variable gets one value; name a new one: ${left.text}1 := ${left.text} + ..`;
+      const cure = `a variable gets one value; name a new one: ${Cures.newName(left.text, clause)} := ${left.text} + ..`;
       notes.push(caused(which, { token: left, title: `note: ${left.text} stands on both sides of := in clause ${number}`, hints: [cure] }));
     });
     return notes;
@@ -99,19 +103,9 @@ const Causes = ((Tokens, Reader, SyntaxCauses, CheckerCauses, Nearest) => {
     return notes;
   }
 
-  /** For each predicate and place of an argument the clause whose body binds that argument, a variable of its head. */
-  function bindersOf(clauses) {
-    const binders = new Map();
-    for (const { head, body, predicate, number } of clauses) {
-      const places = new Map(head.arguments.map(({ variable }, place) => [variable, place]));
-      for (const { left } of body) if (left?.variable !== undefined && places.has(left.variable)) binders.set(`${predicate} ${places.get(left.variable)}`, number);
-    }
-    return binders;
-  }
-
   /** Notes on results that stand in a head, which binds nothing, where another clause of the predicate binds that argument in its body. */
   function resultsInHeads(program, which) {
-    const clauses = Reader.readProgram(program), binders = bindersOf(clauses), notes = [];
+    const clauses = Reader.readProgram(program), binders = CheckerCauses.bindersOf(clauses), notes = [];
     for (const { head, predicate, number, line, letter, name } of clauses) {
       head.arguments.forEach((argument, place) => {
         const binder = argument.variable === undefined ? binders.get(`${predicate} ${place}`) : undefined;
@@ -131,6 +125,7 @@ const Causes = ((Tokens, Reader, SyntaxCauses, CheckerCauses, Nearest) => {
   }
 
   return { causeOf, notesOn, linesOf, letterOf, LIMITS: CheckerCauses.LIMITS };
-})(...(typeof require === "undefined" ? [Tokens, Reader, SyntaxCauses, CheckerCauses, Nearest] :
-  [require("./tokens.js"), require("./reader.js"), require("./syntax_causes.js"), require("./checker_causes.js"), require("./nearest.js")]));
+})(...(typeof require === "undefined" ? [Tokens, Reader, SyntaxCauses, CheckerCauses, Nearest, Cures] : [
+  require("./tokens.js"), require("./reader.js"), require("./syntax_causes.js"), require("./checker_causes.js"),
+  require("./nearest.js"), require("./cures.js")]));
 if (typeof module !== "undefined") module.exports = Causes;

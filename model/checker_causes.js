@@ -1,6 +1,6 @@
 // Why a text that reads well is refused: a guard that is no test (F3), a variable twice in a head (F4), a predicate without clauses
 // (F5), a limit (F6). Pure.
-const CheckerCauses = ((Tokens, Habits, Nearest) => {
+const CheckerCauses = ((Tokens, Reader, Habits, Nearest, Cures) => {
   "use strict";
 
   const TESTS = ["true", "wait", "integer", "atom", "list"];
@@ -15,8 +15,17 @@ const CheckerCauses = ((Tokens, Habits, Nearest) => {
   }
 
   const NO_BINDING = ["a guard binds nothing: = and := stand in the body", "to test for a value write it in the head, as p(1,Y) :- .., or compare numbers by =:="];
-  const ASK_INSTEAD = "let a process answer, and wait for its answer: p(X) :- true | q(X,A), p1(A).";
   const NOT_THERE_YET = "a guard tests what the goal brings; what the body makes is not there yet";
+
+  /** How a predicate that stands in a clause's guard as a test is asked instead. */
+  function askInstead(clause, place) {
+    const answer = Cures.newName("A", clause), head = Cures.textOf(clause.slice(0, Tokens.endOfCall(clause, 0) + 1));
+    const call = Cures.textOf(clause.slice(place, Tokens.endOfCall(clause, place) + 1));
+    const start = "let a process answer, and wait for its answer";
+    if (head === undefined || call === undefined) return start;
+    const asked = call.endsWith(")") ? `${call.slice(0, -1)},${answer})` : `${call}(${answer})`;
+    return `${start}: ${head} :- true | ${asked}, ${clause[0].text}1(${answer}).`;
+  }
 
   /** What is wrong with the test that begins at a place of a clause, outside of all brackets; undefined where nothing is. */
   function badTest(clause, place) {
@@ -25,7 +34,7 @@ const CheckerCauses = ((Tokens, Habits, Nearest) => {
     if (token.kind !== "name" || text === "mod") return undefined;
     if (Object.hasOwn(Habits.TESTS, text)) return causeAt(token, ...Habits.TESTS[text]);
     const near = TESTS.includes(text) ? text : Nearest.nearest(text, TESTS);
-    if (near === undefined) return causeAt(token, `${text}/${arity} is no test`, ALL_TESTS, ASK_INSTEAD);
+    if (near === undefined) return causeAt(token, `${text}/${arity} is no test`, ALL_TESTS, askInstead(clause, place));
     if (near !== text) return causeAt(token, `${text}/${arity} is no test`, `is it ${near}?`, ALL_TESTS);
     if (text === "true") return arity === 0 ? undefined : causeAt(token, "true takes no argument", "as true");
     const isRight = arity === 1 && clause[place + 2].kind === "variable";
@@ -50,10 +59,65 @@ const CheckerCauses = ((Tokens, Habits, Nearest) => {
     return { ...found, title: `not flat, clause ${number}: ${found.title}` };
   }
 
+  /** For each predicate and place of an argument the clause whose body binds that argument, a variable of its head. */
+  function bindersOf(clauses) {
+    const binders = new Map();
+    for (const { head, body, predicate, number } of clauses) {
+      const places = new Map(head.arguments.map(({ variable }, place) => [variable, place]));
+      for (const { left } of body) {
+        if (left?.variable === undefined || !places.has(left.variable)) continue;
+        binders.set(`${predicate} ${places.get(left.variable)}`, number);
+      }
+    }
+    return binders;
+  }
+
+  /** The places of a predicate's arguments that a body may bind, since the head's variable stands on the right of an `=`. */
+  function boundFromRight(clauses, predicate) {
+    const places = new Set();
+    for (const { head, body } of clauses.filter((clause) => clause.predicate === predicate)) {
+      const rights = body.filter(({ sort }) => sort === "unification").map(({ right }) => right.variable);
+      head.arguments.forEach(({ variable }, place) => variable !== undefined && rights.includes(variable) && places.add(place));
+    }
+    return places;
+  }
+
+  /**
+   * What a variable is that stands twice in a head, in the arguments at these places: a result where a body binds one that
+   * it is, a part of one where it stands within, a test where bodies bind others alone; undefined where nothing tells.
+   */
+  function roleOf(clauses, { head, predicate }, name, places) {
+    const binders = bindersOf(clauses), right = boundFromRight(clauses, predicate);
+    const bound = places.filter((place) => binders.has(`${predicate} ${place}`));
+    if (bound.some((place) => head.arguments[place].variable === name)) return { role: "result" };
+    if (bound.length > 0) return { role: "part", place: bound.at(-1) };
+    const hasResult = [...binders.keys()].some((key) => key.startsWith(`${predicate} `));
+    return { role: hasResult && !places.some((place) => right.has(place)) ? "test" : undefined };
+  }
+
+  const NO_EQUALITY = "other terms have no test of equality: write a clause for each value";
+
+  /** The cures of a variable that stands twice in a clause's head, by what it is. */
+  function curesOf(clause, name, { role, place }) {
+    const other = Cures.newName(name, clause), head = clause.slice(0, Tokens.endOfCall(clause, 0) + 1);
+    const value = Cures.textOf(head.map((token) => (token.text === name ? { text: "a" } : token)));
+    const bind = `name the second one ${other}, and write ${other} = ${name} in the body`;
+    const compare = `name the second one ${other}, and write ${name} =:= ${other} in the guard`;
+    const values = `${NO_EQUALITY}${value === undefined ? "" : `, as ${value} :- ..`}`;
+    if (role === "result") return [`a head binds nothing: ${bind}`];
+    if (role === "test") return [`to compare numbers ${compare}`, values];
+    if (role === undefined) return [`is it a result? ${bind}`, `is it a test of numbers? ${compare}`, values];
+    const built = Cures.newName("A", clause), text = Cures.textOf(Cures.argumentsOf(clause)[place]) ?? "..";
+    return [`a head builds nothing: write ${built} for argument ${place + 1}, and ${built} = ${text} in the body`];
+  }
+
   /** F4: the second place of the variable in the head. */
-  function notLinear(tokens, name, number) {
-    const token = Tokens.clausesOf(tokens)[number - 1].filter(({ text }) => text === name)[1];
-    const cures = [`a head binds nothing: name the second one ${name}1, and write ${name}1 = ${name} in the body`, `to compare numbers write ${name} =:= ${name}1 in the guard`];
+  function notLinear(tokens, name, number, program) {
+    const clause = Tokens.clausesOf(tokens)[number - 1], token = clause.filter(({ text }) => text === name)[1];
+    const clauses = Reader.readProgram(program);
+    const has = (argument) => argument.some(({ text }) => text === name);
+    const places = Cures.argumentsOf(clause).flatMap((argument, place) => (has(argument) ? [place] : []));
+    const cures = curesOf(clause, name, roleOf(clauses, clauses[number - 1], name, places));
     return causeAt(token, `not linear, clause ${number}: ${name} stands twice in the head`, ...cures);
   }
 
@@ -75,11 +139,9 @@ const CheckerCauses = ((Tokens, Habits, Nearest) => {
 
   /** F5: the call, and which predicate may have been meant. */
   function undefinedCall(program, tokens, name, arity, isQuery) {
-    const defined = definedIn(program), names = defined.map((predicate) => predicate.split("/")[0]);
-    const same = defined.filter((predicate) => predicate.split("/")[0] === name), near = Nearest.nearest(name, names.filter((other) => other !== name));
+    const defined = definedIn(program), near = Nearest.predicatesNamed(name, defined), isSame = near[0]?.startsWith(`${name}/`);
     const hints = [];
-    if (same.length > 0) hints.push(`there is ${same.join(", ")}: is an argument missing, or one too many?`);
-    else if (near !== undefined) hints.push(`there is ${defined.filter((predicate) => predicate.split("/")[0] === near).join(", ")}: is it that?`);
+    if (near.length > 0) hints.push(`there is ${near.join(", ")}: is ${isSame ? "an argument missing, or one too many" : "it that"}?`);
     if (Object.hasOwn(Habits.PREDICATES, name)) hints.push(Habits.PREDICATES[name]);
     if (hints.length === 0) hints.push(defined.length === 0 ? "the program has no clause" : `defined are: ${defined.slice(0, 12).join(", ")}${defined.length > 12 ? ", .." : ""}`);
     return causeAt(
@@ -93,6 +155,7 @@ const CheckerCauses = ((Tokens, Habits, Nearest) => {
     version: "history 1 cannot hold a step that asked for goals: use save alone",
   };
 
-  return { notFlat, notLinear, undefinedCall, definedIn, LIMITS };
-})(...(typeof require === "undefined" ? [Tokens, Habits, Nearest] : [require("./tokens.js"), require("./habits.js"), require("./nearest.js")]));
+  return { notFlat, notLinear, undefinedCall, bindersOf, LIMITS };
+})(...(typeof require === "undefined" ? [Tokens, Reader, Habits, Nearest, Cures] :
+  [require("./tokens.js"), require("./reader.js"), require("./habits.js"), require("./nearest.js"), require("./cures.js")]));
 if (typeof module !== "undefined") module.exports = CheckerCauses;

@@ -2,9 +2,10 @@
 const Habits = (() => {
   "use strict";
 
+  const COMMENT = ["/* .. */ is no comment here", "a comment begins with % and ends with its line"];
+
   // Marks, by how the text goes on at the place of the refusal: `[pattern, what is said, what to write instead ..]`.
   const MARKS = [
-    [/^\/\*/, "/* .. */ is no comment here", "a comment begins with % and ends with its line"],
     [/^\/\//, "// is neither a comment nor an operator here", "a comment begins with %; integer division is /, the remainder mod"],
     [/^[“”„‘’]/u, "curly quotes are not of the language", "write an atom without quotes, as hello"],
     [/^"/, "there are no strings", "use an atom, as hello, or a list of integers"],
@@ -29,6 +30,10 @@ const Habits = (() => {
     [/^\ufeff/, "the text begins with a byte order mark, which nobody sees", "save it as UTF-8 without BOM"],
     [/^\u00a0/, "a no-break space stands here, which looks like a blank", "write a blank"],
     [/^[\x00-\x1f\x7f]/, "a control character stands here, which nobody sees", "drop it"],
+    [/^≥/, "≥ is written >=", "as X >= Y, in the guard"],
+    [/^≤/, "≤ is written =<", "as X =< Y, in the guard"],
+    [/^≠/, "≠ is written =\\=", "as X =\\= Y, for numbers, in the guard"],
+    [/^[‐-―−]/u, "this dash is no minus", "write - in its place"],
     [/^[^\x00-\x7f]/u, "this letter is not of the language", "names have the 52 letters of ASCII, digits and _; other letters may stand in comments alone"],
     [/^\\\//, "there is no operator \\/", "the operators are + - * / mod"],
     [/^\\/, "\\ begins no mark here but =\\=", "\"not equal\" of numbers is =\\= and stands in the guard"],
@@ -114,6 +119,6 @@ const Habits = (() => {
     member: "nothing is built in: write its clauses", length: "nothing is built in: write its clauses", reverse: "nothing is built in: write its clauses, as in examples/reverse.ghc",
   };
 
-  return { MARKS, PAIRS, WORDS, TESTS, PREDICATES };
+  return { COMMENT, MARKS, PAIRS, WORDS, TESTS, PREDICATES };
 })();
 if (typeof module !== "undefined") module.exports = Habits;

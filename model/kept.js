@@ -1,5 +1,5 @@
 // Keeps account of the kept steps of a session from the replies to its lines, so that `records` need not be asked for. Pure.
-const Kept = (() => {
+const Kept = ((Replies) => {
   "use strict";
 
   const TAKEN = /^REDU (\d+) (\d+\.\d+|-) (.+)$/;
@@ -14,6 +14,9 @@ const Kept = (() => {
   }
 
   const firstWord = (line) => line.trim().split(/ +/)[0];
+
+  /** May a line change which steps are kept? */
+  const mayChange = (line) => !READING.has(firstWord(line));
 
   class Kept {
     constructor() {
@@ -49,7 +52,7 @@ const Kept = (() => {
 
     /** Learns what the reply to a line tells. */
     learn(line, reply) {
-      if (READING.has(firstWord(line)) || /^F\d+ /.test(reply[0] ?? "")) return;
+      if (!mayChange(line) || Replies.isRefusal(reply[0])) return;
       this.changes += 1;
       if (reply[0] === "arranged") this.arrange(line.trim().split(/ +/).slice(1).map(Number));
       for (const told of reply) this.learnLine(told);
@@ -90,6 +93,6 @@ const Kept = (() => {
     }
   }
 
-  return Kept;
-})();
+  return Object.assign(Kept, { mayChange });
+})(typeof require === "undefined" ? Replies : require("./replies.js"));
 if (typeof module !== "undefined") module.exports = Kept;

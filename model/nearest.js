@@ -18,16 +18,26 @@ const Nearest = (() => {
     return last[other.length];
   }
 
-  /** The nearest word, where no more than a third of its letters differ; else undefined. One letter is near to nothing. */
+  const LEAST = 3; // letters: a shorter word is near to nothing
+
+  /** The nearest word, where at most a quarter of the letters of the longer one differ; else undefined. */
   function nearest(word, words) {
-    let best, least = word.length > 1 ? Infinity : 0;
+    let best, least = Infinity;
     for (const other of words) {
+      if (Math.min(word.length, other.length) < LEAST) continue;
       const far = distance(word.toLowerCase(), other.toLowerCase());
-      if (far < least && far <= Math.max(1, Math.floor(Math.max(word.length, other.length) / 3))) [best, least] = [other, far];
+      if (far < least && far <= Math.max(word.length, other.length) / 4) [best, least] = [other, far];
     }
     return best;
   }
 
-  return { nearest, distance };
+  /** The predicates, as `append/3`, of a name, with any number of arguments; where none has it, those of the nearest. */
+  function predicatesNamed(name, predicates) {
+    const nameOf = (predicate) => predicate.split("/")[0], names = predicates.map(nameOf);
+    const meant = names.includes(name) ? name : nearest(name, names);
+    return predicates.filter((predicate) => nameOf(predicate) === meant);
+  }
+
+  return { nearest, predicatesNamed, distance };
 })();
 if (typeof module !== "undefined") module.exports = Nearest;

@@ -10,6 +10,9 @@ const Reader = ((Tokens) => {
   const UNWRITTEN = "#"; // stands in the name of each lone `_`
   const isWritten = (name) => !name.includes(UNWRITTEN);
 
+  /** Is the name that of a variable of the running state, as `_1_2`? */
+  const isState = (name) => /^_\d+_\d+$/.test(name);
+
   class Reading {
     constructor(text) {
       this.text = text;
@@ -214,8 +217,13 @@ const Reader = ((Tokens) => {
     return { goals: body.filter(({ sort }) => sort !== "true"), variables: variablesOfGoals(body) };
   }
 
-  const readTerm = (text) => new Reading(text).term();
+  /** The term that a text is. Throws a SyntaxError where it is none, or something stands after the term. */
+  function readTerm(text) {
+    const reading = new Reading(text), term = reading.term(), { kind, line, column } = reading.next;
+    if (kind !== "end") throw new SyntaxError(`the term ends before ${line}:${column}`);
+    return term;
+  }
 
-  return { NIL, isWritten, addVariables, termsOf, fold, readProgram, readQuery, readTerm };
+  return { NIL, isWritten, isState, addVariables, termsOf, fold, readProgram, readQuery, readTerm };
 })(typeof require === "undefined" ? Tokens : require("./tokens.js"));
 if (typeof module !== "undefined") module.exports = Reader;

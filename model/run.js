@@ -4,7 +4,6 @@ const Run = ((Graph, Reader, Print) => {
   "use strict";
 
   const numbersOf = (name) => name.match(/\d+/g).map(Number);
-  const isState = (variable) => /^_\d+_\d+$/.test(variable);
 
   /** The term in which each variable stands for what `env` gives. */
   function substitute(term, env) {
@@ -225,7 +224,7 @@ const Run = ((Graph, Reader, Print) => {
 
     /** The name that the text gives to a variable of the state; undefined where it has none. */
     nameOf(variable) {
-      if (!isState(variable)) return undefined;
+      if (!Reader.isState(variable)) return undefined;
       const [number, place] = numbersOf(variable), step = this.kept.steps.get(number);
       const names = number === 0 ? this.query.variables : step?.clause ? this.clauses[step.clause - 1].news : [];
       const name = names[place - 1];

@@ -5,16 +5,7 @@
 const Stuck = ((Graph) => {
   "use strict";
 
-  function holdersOf(goals) {
-    const holders = new Map();
-    for (const goal of goals) {
-      for (const variable of Graph.variablesIn(goal.text)) {
-        if (!holders.has(variable)) holders.set(variable, []);
-        holders.get(variable).push(goal);
-      }
-    }
-    return holders;
-  }
+  const finish = (parts) => { while (!parts.next().done); };
 
   const waitsAlone = (goal, variable) => goal.waitsFor.length === 1 && goal.waitsFor[0] === variable;
   const mayBind = (goal, variable) => goal.status !== "failed" && !waitsAlone(goal, variable);
@@ -22,28 +13,87 @@ const Stuck = ((Graph) => {
   // Of many goals: how many a line names, among how many that could bind a variable a circle is looked for, of how many it is told.
   const NAMED = 12, LOOKED = 40, TOLD = 200, CIRCLES = 20;
 
-  /** Of the goals of a set the first ones beside one of them, and how many there are beside it. */
-  function beside(goals, goal) {
-    const first = [];
-    for (const other of goals) {
-      if (first.length === LOOKED) break;
-      if (other !== goal) first.push(other);
+  /** The goals of a set beside one of them: the first of them, and how many there are, found where somebody asks. */
+  class Others {
+    constructor(goals, goal) {
+      this.goals = goals;
+      this.goal = goal;
     }
-    return { first, count: goals.size - (goals.has(goal) ? 1 : 0) };
+
+    get count() {
+      return this.goals.size - (this.goals.has(this.goal) ? 1 : 0);
+    }
+
+    get first() {
+      const first = [];
+      for (const other of this.goals) {
+        if (first.length === LOOKED) break;
+        if (other !== this.goal) first.push(other);
+      }
+      return first;
+    }
   }
 
-  /** For each of the goals that wait and each variable that it waits for: the others that have the variable, and those that could bind it. */
-  function waitsOf(goals, waiting = goals.filter(({ status }) => status === "waits")) {
-    const holders = holdersOf(goals), sets = new Map(), waits = [];
-    const setsOf = (variable) => {
-      const all = holders.get(variable) ?? [];
-      if (!sets.has(variable)) sets.set(variable, { all: new Set(all), binders: new Set(all.filter((goal) => mayBind(goal, variable))) });
-      return sets.get(variable);
-    };
-    for (const goal of waiting) {
-      for (const variable of goal.waitsFor) waits.push({ goal, variable, others: beside(setsOf(variable).all, goal), binders: beside(setsOf(variable).binders, goal) });
+  /** Who waits for whom among some goals. */
+  class Waits {
+    constructor() {
+      this.holders = new Map(); // the goals that have a variable, by the variable
+      this.sets = new Map(); // the same as sets, and those that could bind it
+      this.circle = null; // the first one, where it was looked for
     }
-    return waits;
+
+    setsOf(variable) {
+      const known = this.sets.get(variable);
+      if (known !== undefined) return known;
+      const all = this.holders.get(variable) ?? [], binders = all.filter((goal) => mayBind(goal, variable));
+      const sets = { all: new Set(all), binders: new Set(binders) };
+      this.sets.set(variable, sets);
+      return sets;
+    }
+
+    /** For each variable that a goal waits for: the others that have the variable, and those that could bind it. */
+    of(goal) {
+      return goal.waitsFor.map((variable) => {
+        const { all, binders } = this.setsOf(variable);
+        return { goal, variable, others: new Others(all, goal), binders: new Others(binders, goal) };
+      });
+    }
+
+    isHelped(goal) {
+      return goal.waitsFor.some((variable) => this.setsOf(variable).binders.size > 0);
+    }
+  }
+
+  const known = new WeakMap(); // by lists of goals
+
+  /** Finds who has which variable; yields after each goal, so that of many it can be done in parts. */
+  function* gathering(goals) {
+    const waits = new Waits();
+    for (const goal of goals) {
+      for (const variable of Graph.variablesIn(goal.text)) {
+        if (!waits.holders.has(variable)) waits.holders.set(variable, []);
+        waits.holders.get(variable).push(goal);
+      }
+      yield null;
+    }
+    known.set(goals, waits);
+  }
+
+  /** Who waits for whom among goals: found once for each list of goals. */
+  function waitsAmong(goals) {
+    if (!known.has(goals)) finish(gathering(goals));
+    return known.get(goals);
+  }
+
+  /** The goals that have a variable, by the variable. */
+  const holdersOf = (goals) => waitsAmong(goals).holders;
+
+  const waitingIn = (goals) => goals.filter(({ status }) => status === "waits");
+
+  /** The waits of the goals that wait, or of some of them. */
+  function waitsOf(goals, waiting = waitingIn(goals)) {
+    const waits = waitsAmong(goals);
+    return waiting.flatMap((goal) => waits.of(goal));
   }
 
   const statusOf = (other) => `${other.name}, which ${other.status === "failed" ? "has failed" : "waits for it too"}`;
@@ -57,29 +107,38 @@ const Stuck = ((Graph) => {
     return `${start}nobody can bind it (only ${namesOf(others, statusOf)})`;
   }
 
-  /** For each goal that waits the names of those that could bind what it waits for. */
-  function nextOf(waits) {
-    const next = new Map();
-    for (const { goal, binders } of waits) next.set(goal.name, [...(next.get(goal.name) ?? []), ...binders.first.map(({ name }) => name)]);
-    return next;
-  }
-
-  /** The circles that a search from each goal along what it waits for comes upon, each by the names of its goals in order. */
-  function circlesOf(waits) {
-    const next = nextOf(waits), circles = [], done = new Set();
-    for (const start of next.keys()) {
-      const way = [], places = new Map(), left = [[start, 0]], leave = (name) => places.delete(name) && done.add(name);
-      while (left.length > 0 && circles.length < CIRCLES) {
+  /**
+   * The circles that a search from each goal along what it waits for comes upon, each by the names of its goals in
+   * order; null after each goal from which it has searched.
+   */
+  function* circlesIn(goals) {
+    const waits = waitsAmong(goals), waiting = new Map(waitingIn(goals).map((goal) => [goal.name, goal]));
+    const done = new Set(), places = new Map();
+    const leave = (name) => places.delete(name) && done.add(name);
+    for (const [start, goal] of waiting) {
+      const way = [], left = waits.isHelped(goal) ? [[start, 0]] : [];
+      while (left.length > 0) {
         const [name, depth] = left.pop();
         while (way.length > depth) leave(way.pop());
         const at = places.get(name);
-        if (at !== undefined) circles.push(way.slice(at));
-        if (at !== undefined || done.has(name) || !next.has(name)) continue;
+        if (at !== undefined) yield way.slice(at);
+        if (at !== undefined || done.has(name)) continue;
         places.set(name, way.length);
         way.push(name);
-        for (const other of next.get(name)) left.push([other, way.length]);
+        const next = waits.of(waiting.get(name)).flatMap(({ binders }) => binders.first);
+        for (const other of next) if (waiting.has(other.name)) left.push([other.name, way.length]);
       }
       way.forEach(leave);
+      yield null;
+    }
+  }
+
+  /** The first circles. */
+  function circlesOf(goals) {
+    const circles = [];
+    for (const circle of circlesIn(goals)) {
+      if (circle !== null) circles.push(circle);
+      if (circles.length === CIRCLES) break;
     }
     return circles;
   }
@@ -94,21 +153,54 @@ const Stuck = ((Graph) => {
   function linesOf(goals, labelOf) {
     const waits = waitsOf(goals), more = waits.length > TOLD ? [`.. ${waits.length - TOLD} more such lines; goals lists all goals`] : [];
     const ready = waits.length > 0 && goals.some(({ status }) => status === "ready") ? ["not stuck: some goal is ready"] : [];
-    return [...ready, ...waits.slice(0, TOLD).map((wait) => wordsOf(wait, labelOf)), ...more, ...circlesOf(waits).map(circleLine)];
+    const told = waits.slice(0, TOLD).map((wait) => wordsOf(wait, labelOf));
+    return [...ready, ...told, ...more, ...circlesOf(goals).map(circleLine)];
   }
 
   /** The lines of one goal. */
   function linesOfGoal(goals, name, labelOf) {
-    return waitsOf(goals, goals.filter((goal) => goal.name === name && goal.status === "waits")).map((wait) => wordsOf(wait, labelOf));
+    return waitsOf(goals, waitingIn(goals).filter((goal) => goal.name === name)).map((wait) => wordsOf(wait, labelOf));
   }
 
   /** Of the first goals that wait, one that nobody can help, else the first; in words. */
   function lineOfOne(goals, labelOf, most = 100) {
-    const waiting = goals.filter(({ status }) => status === "waits").slice(0, most), waits = waitsOf(goals, waiting);
+    const waits = waitsOf(goals, waitingIn(goals).slice(0, most));
     const one = waits.find(({ binders }) => binders.count === 0) ?? waits[0];
     return one === undefined ? undefined : { words: wordsOf(one, labelOf), isHelped: one.binders.count > 0 };
   }
 
-  return { holdersOf, linesOf, linesOfGoal, lineOfOne };
+  const MOST_EDGES = 20000; // of more than a picture or a sentence can use the first are found
+
+  /** From each goal that waits, or from some of them, to those that could bind what it waits for. */
+  function edgesOf(goals, waiting = waitingIn(goals)) {
+    const waits = waitsAmong(goals), edges = [];
+    for (const goal of waiting) {
+      for (const { variable, binders } of waits.of(goal)) {
+        for (const { name } of binders.first) edges.push({ from: goal.name, to: name, variable });
+      }
+      if (edges.length > MOST_EDGES) break;
+    }
+    return edges;
+  }
+
+  /** Finds who waits for whom, and the first circle; yields after each goal, so that it can be done in parts. */
+  function* study(goals) {
+    if (!known.has(goals)) yield* gathering(goals);
+    let circle = null;
+    for (const found of circlesIn(goals)) {
+      circle = found;
+      if (circle !== null) break;
+      yield null;
+    }
+    known.get(goals).circle = circle ?? [];
+  }
+
+  /** The names of goals that wait for each other in a circle, in its order; none where there is no circle. */
+  function circleOf(goals) {
+    if (waitsAmong(goals).circle === null) finish(study(goals));
+    return waitsAmong(goals).circle;
+  }
+
+  return { study, holdersOf, linesOf, linesOfGoal, lineOfOne, edgesOf, circleOf };
 })(typeof require === "undefined" ? Graph : require("../web/graph.js"));
 if (typeof module !== "undefined") module.exports = Stuck;

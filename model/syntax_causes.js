@@ -1,12 +1,13 @@
 // Why a text is refused at a place (F2): the cause in a reader's words, and what to write instead. It refuses nothing by itself; ghcdb
 // has told the place, and the first rule that knows a cause there is the answer. Pure.
-const SyntaxCauses = ((Tokens, Habits) => {
+const SyntaxCauses = ((Tokens, Habits, Cures) => {
   "use strict";
 
   const COMPARISONS = new Set(["<", ">", "=<", ">=", "=:=", "=\\="]), OPERATIONS = new Set(["+", "-", "*", "/", "mod"]);
   const IF_THEN_ELSE = ["there is no if-then-else", "write two clauses, each with its guard: p(X,Y) :- X > 0 | ..   p(X,Y) :- X =< 0 | .."];
-  const CLAUSE = "a clause is: head :- guard | body.", GOALS = "a query is goals with commas between them, as append([1],[2],R)";
-  const ARGUMENT = "an argument is a term, and is not computed", COMPUTE_FIRST = "compute it first: N1 := N - 1, fact(N1,F)", PAIR = "a pair is a structure, as pair(A,B), or two arguments";
+  const CLAUSE = "a clause is: head :- guard | body.";
+  const goalsAs = (example) => `a query is goals with commas between them, as ${example}`;
+  const ARGUMENT = "an argument is a term, and is not computed", PAIR = "a pair is a structure, as pair(A,B), or two arguments";
   const BEHIND_NUMBER = "numbers are integers, written in digits alone";
 
   const quoted = (token) => `'${token.text}'`;
@@ -15,15 +16,16 @@ const SyntaxCauses = ((Tokens, Habits) => {
   const endsTerm = (token) => token !== undefined && (["name", "variable", "integer"].includes(token.kind) || [")", "]"].includes(token.text));
   const hasComparison = (tokens) => tokens.some(({ text }) => COMPARISONS.has(text));
 
-  /** What the rules look at: the token at the place, its neighbours, and the tokens of its clause before it. */
-  function surroundings(text, at, isQuery) {
-    const tokens = Tokens.tokensOf(text);
+  /** What the rules look at: the token at the place, its neighbours, its clause's tokens; of a query a goal to show. */
+  function surroundings(text, at, isQuery, program) {
+    const tokens = Tokens.tokensOf(text), example = isQuery ? Cures.exampleOf(Tokens.tokensOf(program)) : undefined;
     const found = tokens.findIndex((token) => token.line === at.line && token.column === at.column);
     const place = found < 0 ? tokens.length - 1 : found, token = tokens[place];
     const stop = tokens.slice(0, place).findLastIndex((other) => other.text === ".");
     const following = tokens.slice(place), end = following.findIndex((other) => other.text === ".");
     return {
-      text, isQuery, tokens, place, token, before: tokens[place - 1], next: tokens[place + 1] ?? token, here: tokens.slice(stop + 1, place),
+      text, isQuery, example, tokens, place, token,
+      before: tokens[place - 1], next: tokens[place + 1] ?? token, here: tokens.slice(stop + 1, place),
       later: end < 0 ? following : following.slice(0, end), rest: text.slice(token.at), depth: Tokens.depthOf(tokens.slice(stop + 1, place)),
     };
   }
@@ -60,9 +62,16 @@ const SyntaxCauses = ((Tokens, Habits) => {
     if (text.startsWith("\ufeff") && token.at <= 1) return cause(
       Habits.MARKS.find(([pattern]) => pattern.test("\ufeff"))[1], "save it as UTF-8 without BOM");
     if (token.text === "\\" && before?.text === "/" && touches(before, token)) return cause(...Habits.PAIRS["/\\"]);
-    const found = Habits.MARKS.find(([pattern]) => pattern.test(rest));
-    if (found === undefined || (token.kind !== "wrong" && !/^\/[*/]/.test(rest))) return undefined;
-    return cause(found[1], found[2]);
+    const found = Habits.MARKS.find(([pattern]) => pattern.test(rest)), isMark = token.kind === "wrong" || rest.startsWith("//");
+    return found === undefined || !isMark ? undefined : cause(found[1], found[2]);
+  }
+
+  /** A comment of another language, in which the place is: it begins before the place, and does not end there. */
+  function blockComment({ text, tokens, place }) {
+    const opens = (token, at) => token.text === "/" && tokens[at + 1]?.text === "*" && touches(token, tokens[at + 1]);
+    const first = tokens.slice(0, place + 1).findLast(opens);
+    if (first === undefined || text.slice(first.end + 1, tokens[place].at).includes("*/")) return undefined;
+    return { ...cause(...Habits.COMMENT), at: { ...first, text: "/*" } };
   }
 
   function badToken({ token }) {
@@ -109,17 +118,17 @@ const SyntaxCauses = ((Tokens, Habits) => {
 
   const OPERATORS = ["+", "-", "*", "/", "mod", "=", ":="];
 
-  function endOfText({ token, here, isQuery, before }) {
+  function endOfText({ token, here, isQuery, before, example }) {
     if (token.kind !== "end") return undefined;
     const open = Tokens.openBrackets(here).at(-1), where = open && `${quoted(open)} of line ${open.line}, column ${open.column} is not closed`;
     if (isQuery && open !== undefined) return cause("the query ends within brackets", where);
     if (isQuery) return cause(
       here.length > 0 ? "the query ends too early" : "the query is empty",
-      OPERATORS.includes(before?.text) ? `something is missing after ${quoted(before)}` : "write goals, as append([1],[2],R); for none: true");
+      OPERATORS.includes(before?.text) ? `something is missing after ${quoted(before)}` : `write goals, as ${example}; for none: true`);
     return { ...cause("the text ends within a clause", where ?? `write a full stop after ${quoted(before)}`), after: before };
   }
 
-  function beginning({ token, here, next, isQuery, before }) {
+  function beginning({ token, here, next, isQuery, before, example }) {
     if (here.length > 0) return undefined;
     if (isQuery && before?.text === ".") return cause("a query is one row of goals", "separate goals by commas");
     if (token.text === ":-") return isQuery ? cause("a query is given without :-", "drop the :-") : cause("a clause begins with a name", "there are no directives and modules: drop this line");
@@ -131,7 +140,7 @@ const SyntaxCauses = ((Tokens, Habits) => {
       `a clause begins with a name, and not with ${quoted(token)}`, "goals stand in a clause's body, or in the query");
     if (token.kind === "variable") return cause(
       `${token.text} is a variable, and no ${isQuery ? "goal" : "clause"} begins with one`, `names of predicates begin with a small letter: ${token.text[0].toLowerCase()}${token.text.slice(1)}`);
-    if (isQuery) return cause(`no goal begins with ${quoted(token)}`, "write goals, as append([1],[2],R)");
+    if (isQuery) return cause(`no goal begins with ${quoted(token)}`, `write goals, as ${example}`);
     return cause(`no clause begins with ${quoted(token)}`, token.kind === "integer" ? "names of predicates begin with a small letter" : CLAUSE);
   }
 
@@ -157,12 +166,12 @@ const SyntaxCauses = ((Tokens, Habits) => {
   }
 
   /** An expression in the place of a term: in a head, or in an argument of a body. */
-  function expressionWithin({ token, before, next, isHead }) {
+  function expressionWithin({ token, before, next, here, later, isHead }) {
     const isNumber = [token, before, next].some(({ kind }) => kind === "integer") && before.kind !== "name";
     if (isHead) return cause("a head has terms, and computes nothing", ...(isNumber ? ["take a variable there, and compute in the body: N1 := N - 1"] : [PAIR]));
     if (before.kind === "name" || next.kind === "name" || next.text === "[") return cause(ARGUMENT, PAIR);
     const mayBePair = !isNumber && endsTerm(before) && ["-", "/"].includes(token.text);
-    return cause(ARGUMENT, COMPUTE_FIRST, ...(mayBePair ? [PAIR] : []));
+    return cause(ARGUMENT, Cures.computeFirst([...here, ...later], here.length), ...(mayBePair ? [PAIR] : []));
   }
 
   const BEFORE_OPERAND = new Set([":=", "<", ">", "=<", ">=", "=:=", "=\\=", "+", "-", "*", "/", "mod", "(", "|"]);
@@ -177,7 +186,8 @@ const SyntaxCauses = ((Tokens, Habits) => {
     const isOperator = OPERATIONS.has(token.text);
     if (token.text === "-" && before?.text !== "(" && BEFORE_OPERAND.has(before?.text)) return cause(
       "there is no minus before a variable or a bracket", "write 0 - X");
-    if (depth > 0 && (isOperator || (token.text.startsWith("-") && token.kind === "integer"))) return expressionWithin({ token, before, next, isHead: !isQuery && !here.some(({ text }) => text === ":-") });
+    const isSigned = token.text.startsWith("-") && token.kind === "integer", isHead = !isQuery && !here.some(({ text }) => text === ":-");
+    if (depth > 0 && (isOperator || isSigned)) return expressionWithin({ token, before, next, here, later, isHead });
     if (isOperator && [...here, ...later].some(({ text }) => text === "=")) return cause("= does not compute", "to compute write :=, as Y := X + 1");
     if (token.text === ":=") return cause("only a variable stands before :=", "turn it round, as X := 3, or compare numbers by =:= in the guard");
     if (token.kind === "name" && isCompared(here)) return cause(
@@ -266,26 +276,15 @@ const SyntaxCauses = ((Tokens, Habits) => {
   }
 
   /** What belongs to clauses stands in a query. */
-  function clauseInQuery({ token, isQuery, depth }) {
+  function clauseInQuery({ token, isQuery, depth, example }) {
     if (!isQuery || depth > 0 || (token.text !== ":-" && token.text !== "|")) return undefined;
-    return cause(token.text === ":-" ? "a clause stands in the place of a query" : "a query has no guard", GOALS);
-  }
-
-  /** The place of the name of the call that ends before a place. */
-  function callBefore(tokens, place) {
-    if (tokens[place - 1]?.text !== ")") return place - 1;
-    let at = place - 1;
-    for (let depth = 0; at > 0; at -= 1) {
-      depth += Tokens.depthOf([tokens[at]]);
-      if (depth === 0) break;
-    }
-    return at - 1;
+    return cause(token.text === ":-" ? "a clause stands in the place of a query" : "a query has no guard", goalsAs(example));
   }
 
   /** A second `:-` where a clause has not ended: most often a comma in the place of a full stop. */
   function secondNeck({ token, here, tokens, place }) {
     if (token.text !== ":-" || !here.some(({ text }) => text === ":-")) return undefined;
-    const at = callBefore(tokens, place), head = tokens[at], mark = tokens[at - 1];
+    const at = Tokens.callBefore(tokens, place), head = tokens[at], mark = tokens[at - 1];
     const cure = mark?.text === "," ? `is a full stop meant in place of the comma before ${quoted(head)} in line ${head.line}?` : "a clause ends with a full stop: is one missing?";
     return cause("a second :- in one clause", cure);
   }
@@ -333,19 +332,8 @@ const SyntaxCauses = ((Tokens, Habits) => {
     const last = here.slice(here.findLastIndex(({ text }) => [",", ":-"].includes(text)) + 1), hasBar = Tokens.barOutside(here) >= 0 || Tokens.barOutside(later) >= 0;
     if (!isQuery && !hasBar && Tokens.depthOf(here) === 0 && hasComparison(last)) return `is the bar missing after ${quoted(before)}? ${CLAUSE}`;
     if (before.line === token.line || isQuery) return "a comma or an operator is missing";
-    const isGoal = token.column > here[0].column && tokens[endOfCall(tokens, place) + 1]?.text !== ":-";
+    const isGoal = token.column > here[0].column && tokens[Tokens.endOfCall(tokens, place) + 1]?.text !== ":-";
     return `is there a ${isGoal ? "comma" : "full stop"} missing after ${quoted(before)} in line ${before.line}?`;
-  }
-
-  /** The place of the last token of the call that begins at a place. */
-  function endOfCall(tokens, place) {
-    if (tokens[place + 1]?.text !== "(") return place;
-    let at = place + 1;
-    for (let depth = 0; at < tokens.length - 1; at += 1) {
-      depth += Tokens.depthOf([tokens[at]]);
-      if (depth === 0) break;
-    }
-    return at;
   }
 
   function variableAsGoal({ token, before, tokens, place, depth }) {
@@ -361,7 +349,7 @@ const SyntaxCauses = ((Tokens, Habits) => {
     return end < 0 ? tokens : tokens.slice(0, end);
   }
 
-  function afterMark({ token, before, isQuery, later }) {
+  function afterMark({ token, before, isQuery, later, example }) {
     if (before?.text === ",") return cause(
       `a goal or a term is expected after the comma, and ${quoted(token)} is none`, "drop the comma, or write what is missing");
     if (token.text === "(" && hasArrow(later)) return cause(...IF_THEN_ELSE);
@@ -370,22 +358,24 @@ const SyntaxCauses = ((Tokens, Habits) => {
     if (token.text === "(" && before?.text === "=") return cause("brackets group expressions alone", "a pair is a structure, as pair(1,2)");
     if (["=", ":="].includes(before?.text)) return cause(
       `${quoted(token)} cannot stand after ${quoted(before)}`, before.text === "=" ? "a term stands there, as [A|X]" : "an expression stands there, as X + 1; to name a term write =");
-    if ([":-", "|"].includes(before?.text)) return cause(`no goal begins with ${quoted(token)}`, isQuery ? GOALS : CLAUSE);
+    if ([":-", "|"].includes(before?.text)) return cause(`no goal begins with ${quoted(token)}`, isQuery ? goalsAs(example) : CLAUSE);
     return undefined;
   }
 
-  function anything({ token, before, isQuery }) {
-    return cause(`${quoted(token)} cannot stand here${before === undefined ? "" : `, after ${quoted(before)}`}`, isQuery ? GOALS : CLAUSE);
+  function anything({ token, before, isQuery, example }) {
+    return cause(`${quoted(token)} cannot stand here${before === undefined ? "" : `, after ${quoted(before)}`}`, isQuery ? goalsAs(example) : CLAUSE);
   }
 
   const RULES = [
-    declaration, badToken, splitMark, semicolon, markInPlace, foreignMark, arrow, foreignPair, hyphen, commentInExpression, numbers, equationInGuard, comparisonAfterBar, comparison, variableAsGoal, endOfText, streams, beginning, foreignWord,
+    declaration, blockComment, badToken, splitMark, semicolon, markInPlace, foreignMark, arrow, foreignPair, hyphen,
+    commentInExpression, numbers, equationInGuard, comparisonAfterBar, comparison, variableAsGoal, endOfText, streams,
+    beginning, foreignWord,
     clauseInQuery, secondNeck, bars, arithmetic, brackets, afterHead, withinBrackets, neighbours, afterMark, anything,
   ];
 
   /** The cause of a refusal at a place of a text: its title, its hints, and the token at which it stands. */
-  function causeOf(text, at, isQuery) {
-    const where = surroundings(text, at, isQuery);
+  function causeOf(text, at, isQuery, program = text) {
+    const where = surroundings(text, at, isQuery, program);
     for (const rule of RULES) {
       const found = rule(where);
       if (found === undefined) continue;
@@ -397,5 +387,5 @@ const SyntaxCauses = ((Tokens, Habits) => {
   }
 
   return { causeOf };
-})(...(typeof require === "undefined" ? [Tokens, Habits] : [require("./tokens.js"), require("./habits.js")]));
+})(...(typeof require === "undefined" ? [Tokens, Habits, Cures] : [require("./tokens.js"), require("./habits.js"), require("./cures.js")]));
 if (typeof module !== "undefined") module.exports = SyntaxCauses;

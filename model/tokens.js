@@ -124,6 +124,28 @@ const Tokens = (() => {
     return commas + 1;
   }
 
-  return { tokensOf, clausesOf, arityAt, depthOf, openBrackets, barOutside };
+  /** The place of the name of the call that ends before a place. */
+  function callBefore(tokens, place) {
+    if (tokens[place - 1]?.text !== ")") return place - 1;
+    let at = place - 1;
+    for (let depth = 0; at > 0; at -= 1) {
+      depth += depthOf([tokens[at]]);
+      if (depth === 0) break;
+    }
+    return at - 1;
+  }
+
+  /** The place of the last token of the call that begins at a place. */
+  function endOfCall(tokens, place) {
+    if (tokens[place + 1]?.text !== "(") return place;
+    let at = place + 1;
+    for (let depth = 0; at < tokens.length - 1; at += 1) {
+      depth += depthOf([tokens[at]]);
+      if (depth === 0) break;
+    }
+    return at;
+  }
+
+  return { tokensOf, clausesOf, arityAt, callBefore, endOfCall, depthOf, openBrackets, barOutside };
 })();
 if (typeof module !== "undefined") module.exports = Tokens;

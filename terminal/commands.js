@@ -3,8 +3,7 @@
 
 const { nearest } = require("../model/nearest.js");
 
-// `own` are those that the terminal answers itself; all others are lines of the console. One that `isNewer` is answered by the terminal
-// where the console does not know it.
+// `own` are those that the terminal answers itself; all others are lines of the console.
 const COMMANDS = [
   { name: "step", form: "step [G [C]]", tells: "reduce goal G, by clause C; alone: the first goal that is ready" },
   { name: "leap", form: "leap [K]", tells: "run on, for K steps at most" },
@@ -13,21 +12,21 @@ const COMMANDS = [
   { name: "undo", form: "undo [N]", tells: "take back step N alone; alone: the last step" },
   { name: "roll", form: "roll N", tells: "take back step N with all that depends on it" },
   { name: "redo", form: "redo N", tells: "put step N there again" },
-  { name: "keep", form: "keep X or G", tells: "take back all but what variable X, or goal G, rests on", isNewer: true },
+  { name: "keep", form: "keep X or G", tells: "take back all but what variable X, or goal G, rests on" },
   { name: "shelf", form: "shelf", tells: "list what was taken back" },
   { name: "arrange", form: "arrange N ..", tells: "put the kept steps into another lawful order" },
   { name: "goals", form: "goals", tells: "list the goals, each with its status" },
   { name: "show", form: "show [X]", tells: "the value of variable X; alone: of all variables of the query" },
   { name: "stuck", form: "stuck", tells: "why nothing goes on: who waits for whom", own: true },
   { name: "holders", form: "holders X", tells: "the goals that have X, and so could bind it", own: true },
-  { name: "clauses", form: "clauses G", tells: "what each clause says to goal G: yes, waits, or no and why", isNewer: true },
+  { name: "clauses", form: "clauses G", tells: "what each clause says to goal G: yes, waits, or no and why" },
   { name: "records", form: "records [P]", tells: "list the kept steps; those of predicate P, as price/2, alone" },
-  { name: "goal", form: "goal N", tells: "the goal that step N took, and its clause", isNewer: true },
+  { name: "goal", form: "goal N", tells: "the goal that step N took, and its clause" },
   { name: "why", form: "why N", tells: "on which steps step N depends" },
   { name: "who", form: "who X", tells: "which steps bound X" },
-  { name: "since", form: "since N", tells: "list the kept steps from step N on", isNewer: true },
-  { name: "causes", form: "causes", tells: "which step depends on which, all of it", isNewer: true },
-  { name: "explain", form: "explain X or G", tells: "where the value of X comes from, all the way; why goal G waits or has failed", isNewer: true },
+  { name: "since", form: "since N", tells: "list the kept steps from step N on" },
+  { name: "causes", form: "causes", tells: "which step depends on which, all of it" },
+  { name: "explain", form: "explain X or G", tells: "where the value of X comes from, all the way; why goal G waits or has failed" },
   { name: "list", form: "list [P]", tells: "the program's clauses, with their numbers; those of predicate P alone", own: true },
   { name: "watch", form: "watch X", tells: "run until X is bound", own: true },
   { name: "stat", form: "stat", tells: "how many steps of which predicate, and the longest chain of causes", own: true },
@@ -114,8 +113,18 @@ function suggestionFor(typed) {
   return GOAL.test(text) ? `no such command; ask adds goals: ask ${text.replace(/\.$/, "")}` : suggestion(text.split(/\s+/)[0]);
 }
 
+// Words of the console's replies: G is a goal, N a step's number, V a variable. Ports stand in capitals.
+const REPLIES = new Map(Object.entries({
+  REDU: "N G ACT: step N took goal G; ACT is by C for clause C, eq for =, is for :=, in T or end for an input",
+  CALL: "G TEXT: the step made goal G", RESU: "G: the step bound what goal G waited for",
+  SUSP: "G V,..: goal G waits until one of these variables is bound", FAIL: "G F10: goal G has failed, as help F10 tells",
+  reads: "V,..: the bound variables at which the step looked", binds: "V=TERM;..: what the step bound",
+  makes: "G,..: the goals that the step made",
+}));
+
 /** Which word was meant, in words. */
 function suggestion(word) {
+  if (REPLIES.has(word)) return `${word}: no such command; it stands in replies: help ${word}`;
   if (Object.hasOwn(ELSEWHERE, word)) return `${word}: no such command; ${ELSEWHERE[word]}`;
   const other = nearest(word, [...NAMES, ...OTHER_NAMES.keys()].filter((known) => known.length > 2));
   const name = other && (OTHER_NAMES.get(other) ?? other);
@@ -152,13 +161,14 @@ const REFUSALS = {
   F26: "reading or writing failed",
 };
 
-/** The lines of help: of all commands, of one, or of a refusal. */
+/** The lines of help: of all commands, of one, of a word of the replies, or of a refusal. */
 function helpLines(words) {
   const [word] = words, name = word && commandOf(word), refusal = word?.toUpperCase();
+  if (REPLIES.has(word)) return [`${word} ${REPLIES.get(word)}`];
   if (REFUSALS[refusal]) return [`${refusal}: ${REFUSALS[refusal]}`];
   if (name !== undefined) return [helpLine(byName.get(name))];
   if (word !== undefined) return [suggestion(word)];
   return [...COMMANDS.map(helpLine), "A beginning of a word will do where it is clear; G is a goal, as 1.2, N a step's number, X a variable, P a predicate."];
 }
 
-module.exports = { COMMANDS, NAMES, REFUSALS, commandOf, meaningOf, helpLines, usageOf, suggestionFor, isNewer: (name) => byName.get(name)?.isNewer === true };
+module.exports = { COMMANDS, NAMES, REFUSALS, commandOf, meaningOf, helpLines, usageOf, suggestionFor };

@@ -11,7 +11,6 @@ const Graph = require("../../web/graph.js");
 const Kept = require("../kept.js");
 const Reader = require("../reader.js");
 const Run = require("../run.js");
-const Slice = require("../slice.js");
 const Stuck = require("../stuck.js");
 const { engineOfPage } = require("../../web/tests/engine_of_page.js");
 
@@ -91,27 +90,6 @@ test("a rollback takes the consequences that were told", async () => {
       assert.strictEqual(kept.steps.has(number), false);
     }
   }
-});
-
-test("what a variable or a goal rests on gives it alone", async () => {
-  const { engine } = await engineOfPage();
-  let compared = 0;
-  for (const given of programs()) {
-    const first = begin(engine, given);
-    first.type("leap 40");
-    first.look();
-    const variables = [...first.run.binders.keys()].filter((name, place) => place % 9 === 0), goals = Graph.readGoals(first.session.line("goals")).slice(0, 2);
-    const wanted = [...variables.map((name) => [name, Slice.ofVariable(first.run, name)]), ...goals.map(({ name }) => [name, Slice.ofGoal(first.run, name)])];
-    for (const [name, slice] of wanted) {
-      const { session, kept, type } = begin(engine, given), tell = (of) => (name.startsWith("_") ? of.line(`show ${name}`)[0] : of.line("goals").find((line) => line.startsWith(`${name} `)));
-      type("leap 40");
-      for (let number = kept.firstBeside(slice); number !== undefined; number = kept.firstBeside(slice)) type(`roll ${number}`);
-      assert.strictEqual(tell(session), tell(first.session), `${given.query}: ${name}`);
-      assert.deepStrictEqual([...kept.steps.keys()].sort(), [...slice].sort(), `${given.query}: ${name}`);
-      compared += 1;
-    }
-  }
-  assert.ok(compared > 60, `${compared} slices`);
 });
 
 test("nothing is computed of a run that has changed since it was told", async () => {
