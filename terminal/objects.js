@@ -3,6 +3,7 @@
 
 const Graph = require("../web/graph.js");
 const { isRefusal } = require("./session.js");
+const { NO_MEMORY } = require("./way_back.js");
 
 const CHANGES = new Set(["step", "leap", "skip", "in", "end", "ask", "undo", "roll", "redo", "arrange", "keep"]);
 
@@ -15,16 +16,20 @@ function port(line) {
   return name === "FAIL" ? { port: name, goal: second, refusal: third } : { port: name, goal: second };
 }
 
+/** The port that a line of the reply to a change tells; `told` gets what it tells else. */
+function portOrElse(line, told) {
+  if (/^(REDU|CALL|RESU|SUSP|FAIL) /.test(line)) return port(line);
+  const [, numbers] = /^undone (.*)$/.exec(line) ?? [];
+  if (numbers !== undefined) told.undone = (told.undone ?? []).concat(numbers.split(",").map(Number));
+  else if (line.startsWith("stopped ")) told.stopped = line.slice("stopped ".length);
+  else told.told = line;
+  return undefined;
+}
+
 /** What the reply to a line that changes the session tells. */
 function change(reply) {
-  const told = { ports: [] };
-  for (const line of reply) {
-    if (line.startsWith("undone ")) told.undone = [...(told.undone ?? []), ...line.slice("undone ".length).split(",").map(Number)];
-    else if (line.startsWith("stopped ")) told.stopped = line.slice("stopped ".length);
-    else if (/^(REDU|CALL|RESU|SUSP|FAIL) /.test(line)) told.ports.push(port(line));
-    else told.told = line;
-  }
-  return told;
+  const told = {}, ports = reply.map((line) => portOrElse(line, told)).filter(Boolean);
+  return { ports, ...told };
 }
 
 /** A kept step, with the text of the goal that it consumed. */
@@ -97,12 +102,64 @@ const REPLIES = {
   shelf: (reply) => ({ steps: Graph.readShelf(reply).map(({ number, goal: name, act }) => ({ step: number, goal: name, act })) }),
 };
 
-/** The object of a line and its reply. `textOf` gives the text of a goal by its name. */
-function objectOf(line, reply, textOf) {
-  const [word] = line.trim().split(/ +/), start = { command: line, ok: !isRefusal(reply) };
-  if (!start.ok) return { ...start, refused: reply[0] };
-  if (CHANGES.has(word)) return { ...start, ...change(reply) };
-  return { ...start, ...(REPLIES[word]?.(reply, textOf) ?? { lines: reply }) };
+const firstWord = (line) => line.trim().split(/ +/)[0];
+
+/** How many lines of a listing are not there, for memory was refused for them. */
+function holesIn(reply) {
+  const { length } = reply.filter((line) => line === NO_MEMORY);
+  return length > 0 && { holes: length };
 }
 
-module.exports = { objectOf };
+/** The object of a line and its reply. `textOf` gives the text of a goal by its name. */
+function objectOf(line, reply, textOf) {
+  const word = firstWord(line), start = { command: line, ok: !isRefusal(reply) };
+  if (!start.ok) return { ...start, refused: reply[0] };
+  if (CHANGES.has(word)) return { ...start, ...change(reply) };
+  return { ...start, ...(REPLIES[word]?.(reply, textOf) ?? { lines: reply }), ...holesIn(reply) };
+}
+
+// The text of a line's object, made as the reply comes: of a change the ports are told at once, of other lines all at
+// the end.
+class ObjectText {
+  /** `line` is null where the program ended at no line. */
+  constructor(line, textOf) {
+    Object.assign(this, { line, textOf, parts: [], told: {}, isOpen: false });
+  }
+
+  /** What can be told of the first lines of a reply, or of others that come after them. */
+  hear(lines) {
+    if (this.isOpen) return this.ports(lines);
+    this.isOpen = CHANGES.has(firstWord(this.line)) && !isRefusal(lines);
+    if (!this.isOpen) {
+      this.parts.push(lines);
+      return "";
+    }
+    const start = JSON.stringify({ command: this.line, ok: true }).slice(0, -1);
+    return `${start},"ports":[${this.ports(lines)}`;
+  }
+
+  ports(lines) {
+    const texts = lines.map((line) => portOrElse(line, this.told)).filter(Boolean).map((it) => JSON.stringify(it));
+    const start = this.hasPorts && texts.length > 0 ? "," : "";
+    this.hasPorts ||= texts.length > 0;
+    return start + texts.join(",");
+  }
+
+  close() {
+    return `]${JSON.stringify(this.told).replace("{", Object.keys(this.told).length > 0 ? "," : "")}\n`;
+  }
+
+  /** The rest of it, with the last lines of the reply. */
+  end(lines) {
+    if (this.isOpen) return this.ports(lines) + this.close();
+    return `${JSON.stringify(objectOf(this.line, [...this.parts.flat(), ...lines], this.textOf))}\n`;
+  }
+
+  /** The rest of it where the program has ended: what it said last, and its status. */
+  ended(text, status) {
+    Object.assign(this.told, { ended: text, status });
+    return this.isOpen ? this.close() : `${JSON.stringify({ command: this.line, ok: false, ...this.told })}\n`;
+  }
+}
+
+module.exports = { objectOf, ObjectText };

@@ -6,21 +6,14 @@ const { execFileSync, spawnSync } = require("node:child_process");
 const fs = require("node:fs");
 const os = require("node:os");
 const path = require("node:path");
-const { Readable } = require("node:stream");
 const test = require("node:test");
-const { play } = require("../scripted.js");
 const { readWords, isSession, wordsFrom } = require("../words.js");
+const { played } = require("./playing.js");
 
 const ROOT = path.join(__dirname, "..", "..");
 const example = (name) => path.join(ROOT, "examples", name);
 const ONE_OF = Number(process.env.ROWS_ONE_OF ?? 8); // which part of the rows is played
 const hasPython = spawnSync("python3", ["--version"]).status === 0;
-
-async function played(words, input) {
-  let out = "", errors = "";
-  const status = await play(words, Readable.from([Buffer.from(input, "latin1")]), (line, reply) => { out += reply.map((told) => `${told}\n`).join(""); }, (text) => { errors += text; });
-  return { out, errors, status };
-}
 
 /** The rows of tests/rows and the manuals that are sessions on the standard streams. */
 function rows() {
