@@ -8,12 +8,15 @@ const { readWords } = require("./words.js");
 const encode = (text) => new TextEncoder().encode(text);
 const decode = (bytes) => Buffer.from(bytes).toString("latin1");
 
-/** The files that the words name, as far as they can be read; the engine tells which cannot. */
-function filesOf(words) {
-  const { file, load } = readWords(words), files = new Map();
+// Of a device nobody knows whether it ends.
+const bytesOf = (name) => (fs.statSync(name).isCharacterDevice() ? Buffer.alloc(0) : fs.readFileSync(name));
+
+/** The files that the words name, where they can be read; the engine tells which cannot. `handed` are those known. */
+function filesOf(words, handed) {
+  const { file, load } = readWords(words), files = new Map(handed);
   for (const name of [file, load]) {
     try {
-      if (name !== undefined) files.set(name, fs.readFileSync(name));
+      if (name !== undefined && !files.has(name)) files.set(name, bytesOf(name));
     } catch {
       continue;
     }
@@ -22,8 +25,8 @@ function filesOf(words) {
 }
 
 function main() {
-  const { words, scripts, compiled } = workerData, Engine = new Function(`${scripts}\nreturn Engine;`)();
-  const run = new Engine(compiled).start({ words: words.map(encode), files: filesOf(words) });
+  const { words, files, scripts, compiled } = workerData, Engine = new Function(`${scripts}\nreturn Engine;`)();
+  const run = new Engine(compiled).start({ words: words.map(encode), files: filesOf(words, files) });
   const tellEnd = () => {
     const errors = decode(run.takeErrors()) + (run.broken === undefined ? "" : `the engine stopped: ${run.broken}\n`);
     parentPort.postMessage({ errors, status: run.status ?? 70 });

@@ -2,28 +2,31 @@
 // others are the console's own, as it told them.
 "use strict";
 
-const fs = require("node:fs");
 const Causes = require("../model/causes.js");
 const { Ended } = require("./program.js");
-const { NotTold, Session, formOf, isRefusal } = require("./session.js");
-const { helpLines, isNewer, meaningOf, suggestionFor, usageOf } = require("./commands.js");
+const { NotTold, Session, isRefusal } = require("./session.js");
+const { isNoFile } = require("./files.js");
+const { helpLines, meaningOf, suggestionFor, usageOf } = require("./commands.js");
 const Own = require("./own.js");
+const { plain } = require("./plain.js");
 const { whyRefused } = require("./refused.js");
+const Saving = require("./saving.js");
 const { notesAfter, plural } = require("./telling.js");
+const Unsaved = require("./unsaved.js");
 
 const MARK = "% ";
 const MOST_NOTES = 6; // on a program that are shown
 const FIRST = 20, LAST = 10, LONG = 40; // lines of a long run that are shown, and how many a run has that is shown whole
 const AT_ONCE = 500; // lines that are shown before keys are heard again
-const PROMPT_STEPS = 1000; // a run of so many steps ends soon: it is not prepared for being ended
+const PROMPT_STEPS = 1000; // a run of so many steps ends soon
+const HEARD_LATE = 300; // milliseconds after ^C in which a line that is no long run may still answer
+const LEFT_LATE = 60_000; // milliseconds in which the last line is ended when the terminal is closed
 const MOST_WATCHED = 1_000_000;
 const ASK_AGAIN = { quit: "quit again ends", restart: "restart again begins anew" };
 
-const NOT_WRITTEN = { ENOENT: "its folder is not there", EACCES: "writing it is not allowed", EISDIR: "it is a folder", EROFS: "writing it is not allowed", ENOSPC: "the disk is full" };
 const RUN_ENDED = "the run was ended; the session stands as before it. leap 1000 runs for 1000 steps at most";
-
-// What is thrown where ^C came before a run was begun.
-class Interrupted extends Error {}
+const LINE_ENDED = "the line was ended; the session stands as before it";
+const ASKING_ENDED = "the line was ended; the session stands";
 
 const isLongRun = (meaning) => meaning.name === "skip" || (meaning.name === "leap" && !(Number(meaning.words[0]) <= PROMPT_STEPS));
 
@@ -31,10 +34,11 @@ class Front {
   /** `out` and `errors` take whole lines for standard output and standard error. */
   constructor({ words, native, out, errors }) {
     this.session = new Session(words, native);
-    this.out = out;
-    this.errors = errors;
+    this.out = (line) => out(plain(line));
+    this.errors = (line) => errors(plain(line));
     this.hasEnded = false;
     this.status = 0;
+    this.isBusy = false; // with a line
     this.isRunning = false; // a run is being made that may be long
     this.isInterrupted = false;
     this.warned = undefined; // for which command and number of changes it warned of unsaved steps
@@ -47,13 +51,22 @@ class Front {
   /** Starts the program; where it is refused, says why. Afterwards it has ended, or has greeted. */
   async begin() {
     try {
-      await this.session.begin();
+      await this.start(this.session);
     } catch (error) {
       if (!(error instanceof Ended)) throw error;
-      this.end(error);
+      this.finish(error);
       return;
     }
     this.greet();
+    for (const { place, file, query } of Unsaved.left(this.session.given.load)) {
+      this.note(`a session of ${file} --query '${query}' was not saved: --load ${place} goes on from it`);
+    }
+  }
+
+  async start(session) {
+    await session.begin();
+    await session.keepWayBack();
+    if (Unsaved.isLeft(session.given.load)) session.savedAt = undefined; // it stands in no file of the user's yet
   }
 
   greet() {
@@ -64,10 +77,23 @@ class Front {
   }
 
   /** Tells why the program has ended, and ends with it. */
-  end(ended) {
+  finish(ended) {
     this.hasEnded = true;
     this.status = ended.status;
     this.tellRefusal(ended, this.session, this.errors);
+  }
+
+  /** Nobody asked for the program's end: another one begins where the session stood before the line. */
+  async comeBack(ended) {
+    try {
+      await this.session.endRun();
+    } catch (error) {
+      this.finish(ended);
+      this.note(error.message);
+      return this.leave();
+    }
+    this.tellRefusal(ended, this.session, this.errors);
+    return this.note("the program was started again; the session stands as before the last line");
   }
 
   tellRefusal({ errors }, session, tell) {
@@ -77,20 +103,47 @@ class Front {
     }
   }
 
+  /** Where steps are kept and not saved, they are left for the next start. */
+  async leave() {
+    this.isInterrupted = true;
+    if (this.session.isSaved) return undefined;
+    const { session } = this, wait = new Promise((resolve) => { setTimeout(resolve, LEFT_LATE).unref(); });
+    const whole = await Promise.race([session.history(), wait]).catch(() => undefined);
+    const history = whole ?? session.way?.history;
+    const place = history === undefined ? undefined : Unsaved.leave(session.given, history);
+    if (place === undefined) return this.note("what was not saved is lost");
+    this.forgetLeft();
+    const what = whole === undefined ? "the last lines are lost" : `${plural(session.kept.steps.size, "step")} not saved`;
+    return this.note(`${what}: --load ${place} goes on from what was kept`);
+  }
+
+  /** The session stands elsewhere now, or was given up: the history that was left, if it began from one, goes. */
+  forgetLeft() {
+    const { load } = this.session.given;
+    if (Unsaved.isLeft(load)) Unsaved.forget(load);
+  }
+
   /** Does what a typed line asks for. One line at a time. */
   async answer(typed) {
     if (typed.trim() === "") return;
     const meaning = meaningOf(typed, this.session.variables);
+    this.isBusy = true;
     this.isInterrupted = false;
     try {
       if (meaning.name !== undefined) await this.act(meaning, typed);
       else await this.passOn(meaning, typed);
     } catch (error) {
-      if (error instanceof Ended) await this.afterEnd(error);
-      else if (error instanceof Interrupted) this.note(RUN_ENDED);
-      else if (error instanceof NotTold) this.note(`${error.message}; step and leap go on`);
-      else this.note(`the terminal can tell no more of it (${error.message}); the session stands`);
+      await this.tellWhyNot(error);
+    } finally {
+      clearTimeout(this.endsLate);
+      this.isBusy = false;
     }
+  }
+
+  async tellWhyNot(error) {
+    if (error instanceof Ended) await this.afterEnd(error);
+    else if (error instanceof NotTold) this.note(`${error.message}; step and leap go on`);
+    else this.note(`the terminal can tell no more of it (${error.message}); the session stands`);
   }
 
   /** What no command of the terminal is goes to the console, which may know more. */
@@ -101,7 +154,6 @@ class Front {
   }
 
   async act(meaning, typed) {
-    if (isNewer(meaning.name)) return this.askNewer(meaning, typed);
     const own = this[`on_${meaning.name}`];
     if (own !== undefined && await own.call(this, meaning, typed) !== false) return undefined;
     return this.send(meaning, typed);
@@ -119,11 +171,13 @@ class Front {
     return this.note(...await notesAfter(this.session, meaning, reply));
   }
 
+  /** Sends lines one after another, until ^C. */
+  async sendAll(meanings) {
+    for (const meaning of meanings) if (!this.isInterrupted) await this.send(meaning);
+  }
+
   async run(meaning) {
-    if (!isLongRun(meaning)) return this.session.ask(meaning.line);
-    await this.session.prepareForEnding();
-    if (this.isInterrupted) throw new Interrupted();
-    this.isRunning = true;
+    this.isRunning = isLongRun(meaning);
     try {
       return await this.session.ask(meaning.line);
     } finally {
@@ -144,26 +198,45 @@ class Front {
   async showAll(lines) {
     for (let at = 0; at < lines.length; at += AT_ONCE) {
       if (at > 0) await new Promise((resolve) => { setImmediate(resolve); });
-      if (this.isInterrupted) return this.note(`.. ${plural(lines.length - at, "line")} more ..`);
+      if (at > 0 && this.isInterrupted) return this.note(`.. ${plural(lines.length - at, "line")} more ..`);
       lines.slice(at, at + AT_ONCE).forEach((line) => this.out(line));
     }
     return undefined;
   }
 
-  /** What ^C asks for. True where it ends something. */
+  noteAll(lines) {
+    return this.showAll(lines.map((line) => MARK + line));
+  }
+
+  /**
+   * What ^C asks for: a row of lines ends after the one that is asked; that one ends, too, if it does not answer soon.
+   * Where the way back takes long, a second ^C leaves the line as it is.
+   */
   interrupt() {
+    if (this.ending !== undefined) this.session.stopBeginning();
     if (this.isInterrupted) return;
     this.isInterrupted = true;
-    if (this.isRunning) this.ending = this.session.endRun();
+    const end = () => this.session.program.isBusy && this.endLine();
+    if (this.isRunning) end();
+    else this.endsLate = setTimeout(end, HEARD_LATE);
+  }
+
+  /** Ends the line that the program is at. */
+  endLine() {
+    const told = this.isRunning ? RUN_ENDED : this.session.isChanging ? LINE_ENDED : ASKING_ENDED;
+    this.ending = this.session.endRun().then(() => told, (error) => {
+      this.ending = undefined;
+      this.isInterrupted = false;
+      this.note(`${error.message}; the line goes on`);
+    });
   }
 
   /** The program has ended beneath a line: by ^C, or by itself. */
   async afterEnd(error) {
-    if (this.ending === undefined) return this.end(error);
-    const ending = this.ending;
+    if (this.ending === undefined) return this.comeBack(error);
+    const told = await this.ending;
     this.ending = undefined;
-    await ending;
-    return this.note(RUN_ENDED);
+    return this.note(told);
   }
 
   // ---- commands that the terminal answers itself, or completes. A reply of `false` leaves the line to the console.
@@ -201,14 +274,15 @@ class Front {
   async on_show({ words }) {
     if (words.length > 0) return false;
     if (this.session.variables.length === 0) this.note("the query has no variables");
-    for (const name of this.session.variables) await this.send({ name: "show", words: [name], line: `show ${name}` });
+    await this.sendAll(this.session.variables.map((name) => ({ name: "show", words: [name], line: `show ${name}` })));
     return true;
   }
 
   /** A predicate may be named without the number of its arguments. */
   async on_spy(meaning) {
     const [word, more] = meaning.words, named = this.session.predicates.filter((predicate) => more === undefined && predicate.split("/")[0] === word);
-    for (const predicate of named) await this.send({ ...meaning, words: [predicate], line: `${meaning.name} ${predicate}` });
+    const lineOf = (predicate) => ({ ...meaning, words: [predicate], line: `${meaning.name} ${predicate}` });
+    await this.sendAll(named.map(lineOf));
     return named.length > 0;
   }
 
@@ -217,7 +291,7 @@ class Front {
   }
 
   on_list({ words }) {
-    this.note(...Own.list(this.session, words));
+    return this.noteAll(Own.list(this.session, words));
   }
 
   async on_stuck() {
@@ -226,7 +300,7 @@ class Front {
 
   async on_holders({ words }) {
     if (words.length !== 1) return this.note(usageOf("holders"));
-    return this.showAll((await Own.holders(this.session, words)).map((line) => MARK + line));
+    return this.noteAll(await Own.holders(this.session, words));
   }
 
   async on_stat() {
@@ -235,34 +309,18 @@ class Front {
 
   async on_records({ words }) {
     if (words.length !== 1) return false;
-    await this.showAll((await Own.records(this.session, words)).map((line) => MARK + line));
+    await this.noteAll(await Own.records(this.session, words));
     return true;
   }
 
-  /** A newer command of the console: where the console does not know it, it is answered from the run. */
-  async askNewer({ name, words: given }, typed) {
-    if (given.length !== (name === "causes" ? 0 : 1)) return this.note(usageOf(name));
-    const words = given.map((word) => this.variableFor(name, word)), line = [name, ...words].join(" ");
-    if (formOf(line) === undefined) return this.note(usageOf(name));
-    const reply = await this.session.askNewer(line);
-    if (reply === undefined) return this.note(...await Own[name](this.session, words, (roll) => this.rolled(roll)));
-    if (typed.trim() !== line) this.note(`sent: ${line}`);
-    await this.show(reply);
-    return this.note(...await notesAfter(this.session, { name, words, line }, reply));
+  /** The console knows a variable of a step as `_n_m` alone; here it may have the name that the text gives it. */
+  async on_explain(meaning, typed) {
+    const words = meaning.words.map((word) => (this.session.variables.includes(word) ? word : Own.variablesOf(this.session, word)[0] ?? word));
+    return this.send({ ...meaning, words, line: [meaning.name, ...words].join(" ") }, typed);
   }
 
-  /** A variable as the console knows it: by its name in the query, else as `_n_m`, where the text gives the name to one of a step. */
-  variableFor(name, word) {
-    const isOfQuery = this.session.variables.includes(word) || !["explain", "keep"].includes(name);
-    return isOfQuery ? word : Own.variablesOf(this.session, word)[0] ?? word;
-  }
-
-  /** A rollback that stands for a part of what was typed. */
-  async rolled(line) {
-    this.note(`sent: ${line}`);
-    const reply = await this.session.ask(line);
-    await this.show(reply);
-    return reply;
+  async on_keep(meaning, typed) {
+    return this.on_explain(meaning, typed);
   }
 
   async on_watch({ words: [name] }) {
@@ -285,15 +343,20 @@ class Front {
   async on_save({ words }) {
     const version = words[0] === "1" ? "1" : "", file = words.slice(version === "" ? 0 : 1).join(" ");
     if (file === "") return false;
-    if (isOtherFile(file)) return this.note(`${file} is there and is no history: name another file`);
+    if (Saving.isOtherFile(file)) return this.note(`${file} is there and is no history: name another file`);
+    let refusal;
     try {
-      const refusal = await this.session.save(file, version);
-      if (refusal !== undefined) this.out(refusal);
-      return this.note(refusal === undefined ? `saved in ${file}; --load ${file} goes on from it` : "save alone writes a history with what was asked for");
+      refusal = await this.session.save(file, version);
     } catch (error) {
       if (error instanceof Ended) throw error;
-      return this.note(`${file}: ${NOT_WRITTEN[error.code] ?? error.message}; nothing was saved`);
+      return this.note(Saving.whyNotWritten(file, error));
     }
+    if (refusal === undefined) {
+      if (version === "") this.forgetLeft();
+      return this.note(`saved in ${file}; --load ${file} goes on from it`);
+    }
+    this.out(refusal);
+    return this.note(Saving.whyRefused(refusal));
   }
 
   /** Warns once that steps would be lost; true where it does so now. */
@@ -307,23 +370,24 @@ class Front {
 
   /** A new session; where the file is refused now, the old one stands. */
   async on_restart() {
-    if (this.warnsOfLoss("restart")) return;
-    const { words, native } = this.session, next = new Session(words, native);
+    if (this.warnsOfLoss("restart")) return undefined;
+    const { words, native, given: { file } } = this.session, next = new Session(words, native);
+    if (isNoFile(file)) return this.note(`${file} is no file that can be read again; the session stands`);
     try {
-      await next.begin();
+      await this.start(next);
     } catch (error) {
       if (!(error instanceof Ended)) throw error;
       this.tellRefusal(error, next, this.out);
-      this.note("the session before stands");
-      return;
+      return this.note("the session before stands");
     }
     await this.session.end();
     this.session = next;
-    this.greet();
+    return this.greet();
   }
 
   async on_quit() {
     if (this.warnsOfLoss("quit")) return;
+    this.forgetLeft();
     this.status = await this.session.end();
     this.hasEnded = true;
   }
@@ -331,15 +395,5 @@ class Front {
 
 /** Does a reply to `show` tell a variable that nothing has bound? */
 const isUnbound = ([line]) => / = _\d+_\d+$/.test(line);
-
-/** Is it a file that holds something else than a history? */
-function isOtherFile(file) {
-  try {
-    const text = fs.readFileSync(file, "latin1");
-    return text !== "" && !text.startsWith("ghc-history ");
-  } catch {
-    return false;
-  }
-}
 
 module.exports = { Front, MARK };

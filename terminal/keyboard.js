@@ -1,45 +1,39 @@
 // The keyboard: lines are edited, kept for later sessions, and completed by Tab; ^C and ^D go to those who know what they mean.
 "use strict";
 
+const { EventEmitter } = require("node:events");
 const fs = require("node:fs");
 const os = require("node:os");
 const path = require("node:path");
 const readline = require("node:readline");
+const tty = require("node:tty");
+const { isFile, tried, writeWhole } = require("./files.js");
+const { plain } = require("./plain.js");
 
 const HISTORY = path.join(os.homedir(), ".ghcdb_history");
 const MOST_LINES = 1000;
+const STANDARD_INPUT = 0;
 
-/** Writes the file of history anew with these lines alone. */
-function shorten(lines) {
-  const made = `${HISTORY}.${process.pid}`;
-  fs.writeFileSync(made, `${lines.join("\n")}\n`, { mode: 0o600 });
-  fs.renameSync(made, HISTORY);
-}
+const MINE = 0o600; // nobody else may read it
 
 /** The last lines of earlier sessions, the last one first. A file that has more than twice as many is cut to these. */
 function oldLines() {
-  let last = [];
-  try {
-    const lines = fs.readFileSync(HISTORY, "utf8").split("\n").filter(Boolean);
-    last = lines.slice(-MOST_LINES);
-    if (lines.length > 2 * MOST_LINES) shorten(last);
-  } catch {
-    // a session goes on without what cannot be read or written
-  }
-  return last.reverse();
+  if (!isFile(HISTORY)) return []; // one that is no file might never end
+  const lines = tried(() => fs.readFileSync(HISTORY, "utf8"), "").split("\n").filter(Boolean);
+  const last = lines.slice(-MOST_LINES);
+  if (lines.length > 2 * MOST_LINES) tried(() => writeWhole(HISTORY, `${last.join("\n")}\n`, MINE));
+  return last.map(plain).reverse();
 }
 
+/** Keeps a line for later sessions, where that can be done. */
 function keep(line) {
-  try {
-    fs.appendFileSync(HISTORY, `${line}\n`, { mode: 0o600 });
-  } catch {
-    // a session goes on without its history
-  }
+  if (isFile(HISTORY) || !fs.existsSync(HISTORY)) tried(() => fs.appendFileSync(HISTORY, `${line}\n`, { mode: MINE }));
 }
 
-class Keyboard {
-  /** `complete` gives the words for a line; `interrupt` and `end` hear of ^C and ^D. */
+class Keyboard extends EventEmitter {
+  /** `complete` gives words for a line; `interrupt` and `end` hear of ^C and ^D. An `error`: the terminal is gone. */
   constructor({ input, output, complete, interrupt, end }) {
+    super();
     Object.assign(this, { input, output, complete, interrupt, end });
     this.lines = [];
     this.history = oldLines();
@@ -56,6 +50,7 @@ class Keyboard {
     this.reader.on("history", (history) => { this.history = history; });
     this.reader.on("SIGINT", () => this.interrupt());
     this.reader.on("SIGCONT", () => this.reader.resume()); // after ^Z and `fg` the reader stands still until somebody wakes it
+    this.reader.on("error", (error) => this.emit("error", error));
     this.reader.on("close", () => { if (!this.isClosing) this.end(); });
   }
 
@@ -86,9 +81,15 @@ class Keyboard {
     this.reader.prompt();
   }
 
-  /** After ^D the keyboard can be opened again. */
+  /** After ^D the keyboard can be opened again: where no lines are edited, the terminal's own input has ended by it. */
   reopen() {
-    this.open();
+    this.hasEnded = false;
+    try {
+      if (this.input.readableEnded) this.input = new tty.ReadStream(STANDARD_INPUT);
+      this.open();
+    } catch (error) {
+      this.emit("error", error);
+    }
   }
 
   close() {

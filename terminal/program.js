@@ -1,8 +1,10 @@
-// A session of ghcdb, to which lines are given one by one: of the native program, which runs beside Node, or of the engine of
-// web/ghcdb.html, which runs in a thread of its own. Both answer alike, and both can be ended while they are at work.
+// A session of ghcdb, to which lines are given one by one: of the native program, which runs beside Node, or of the
+// engine of web/ghcdb.html, which runs in a thread of its own. Both answer alike, and both can be ended while they
+// are at work.
 "use strict";
 
 const fs = require("node:fs");
+const os = require("node:os");
 const path = require("node:path");
 const { spawn } = require("node:child_process");
 const { Worker } = require("node:worker_threads");
@@ -19,30 +21,157 @@ class Ended extends Error {
   }
 }
 
-// A line after each other line, whose reply ends the other's. No session has such a variable, and each line has a reply of a line
-// at least: so the first line of a reply is never the mark.
+// A line after each other line, whose reply ends the other's. No session has such a variable, and each line has a
+// reply of a line at least: so the first line of a reply is never the mark.
 const MARK = "show _4294967295_9", MARK_REPLY = "F23 no variable\n";
+const LINE_FEED = 10;
 
-class NativeSession {
-  constructor(program, words) {
-    this.child = spawn(program, words, { stdio: ["pipe", "pipe", "pipe"], detached: true }); // away from the terminal's ^C
+const KILLED = 70; // the status where a signal ended the program
+
+// The names by which a program opens texts that are handed to it, so that no folder is wanted for them.
+const HANDED = { history: "/dev/fd/3", program: "/dev/fd/4" };
+
+// Node's pipes are sockets, which nobody can open by a name: `cat` makes pipes of them, and the program starts then.
+const HAND_OVER = "exec 8>&2 9<&0 2>/dev/null; cat <&3 3<&- 4<&- 8>&- 9<&- | "
+  + "{ exec 3<&0; cat <&4 3<&- 4<&- 8>&- 9<&- | { exec 4<&0 <&9 2>&8 8>&- 9<&-; exec \"$@\"; }; }";
+const SIGNALLED = 128; // the status of a shell whose program a signal ended: the signal's number more than this
+
+// Ends a group of processes when its own input ends, which Node alone holds open: so when Node ends, even by SIGKILL.
+const WATCH = 'read -r line; kill -9 "-$1"';
+
+/** Starts a program in a group of its own, away from the terminal's ^C. It opens `files` by the names of `HANDED`. */
+function start(program, words, files) {
+  if (files.size === 0) return spawn(program, words, { stdio: ["pipe", "pipe", "pipe"], detached: true });
+  const options = { stdio: Array(5).fill("pipe"), detached: true };
+  const child = spawn("sh", ["-c", HAND_OVER, "sh", program, ...words], options);
+  for (const [stream, name] of [[3, HANDED.history], [4, HANDED.program]]) {
+    child.stdio[stream]?.on("error", () => {}); // it was not read to its end
+    child.stdio[stream]?.end(files.get(name) ?? "");
+  }
+  return child;
+}
+
+/** Starts who ends a group when Node ends. Where there is no `sh` the program ends when it reads its next line. */
+function startWatcher(group) {
+  const options = { stdio: ["pipe", "ignore", "ignore"], detached: true };
+  const watcher = spawn("sh", ["-c", WATCH, "sh", String(group)], options);
+  watcher.on("error", () => {});
+  watcher.unref();
+  watcher.stdin?.unref();
+  return watcher;
+}
+
+/** The name of the signal that ended a program; undefined where none did. */
+function signalOf(status, signal) {
+  if (signal !== null) return signal;
+  const found = Object.entries(os.constants.signals).find(([, number]) => number === status - SIGNALLED);
+  return found?.[0];
+}
+
+// What both kinds of sessions do: one line at a time is asked, and what comes of it can be held back for a while.
+class Talk {
+  constructor() {
+    this.before = Promise.resolve(); // what was asked before
+  }
+
+  /**
+   * The lines of the reply to a line, a text or bytes, which has a word at least; to several lines, all their replies.
+   * `hear` may take the first lines of a long reply as they come, and is waited for; then the reply is what comes after
+   * them.
+   */
+  ask(line, hear) {
+    const asked = this.before.then(() => this.askNow(line, hear));
+    this.before = asked.catch(() => {});
+    return asked;
+  }
+
+  askNow(line, hear) {
+    if (this.ended) return Promise.reject(this.ended);
+    return new Promise((resolve, reject) => {
+      this.waiting = { resolve, reject, hear };
+      this.send(line);
+    });
+  }
+
+  get isBusy() {
+    return this.waiting !== undefined;
+  }
+
+  /** Tells who waits what came of the line. */
+  settle(tell) {
+    if (this.isHeld) this.heldBack = tell;
+    else if (this.isBusy) {
+      const { waiting } = this;
+      this.waiting = undefined;
+      tell(waiting);
+    }
+  }
+
+  close(ended) {
+    this.ended ??= ended;
+    this.settle(({ reject }) => reject(this.ended));
+  }
+
+  /** Nothing that comes of the line is told any more. */
+  giveUp() {
+    this.isHeld = false;
+    this.close(new Ended("the session was ended", 0));
+  }
+
+  /** Holds back what comes of the line that is asked, until `release`. */
+  hold() {
+    this.isHeld = true;
+  }
+
+  release() {
+    this.isHeld = false;
+    const { heldBack } = this;
+    this.heldBack = undefined;
+    if (heldBack !== undefined) this.settle(heldBack);
+  }
+}
+
+class NativeSession extends Talk {
+  constructor(program, words, files) {
+    super();
+    this.child = start(program, words, files);
     this.pieces = [];
     this.errors = "";
-    this.waiting = undefined;
     this.child.stdout.on("data", (piece) => this.gather(piece));
     this.child.stderr.on("data", (piece) => { this.errors += piece; });
     this.child.stdin.on("error", () => {}); // told by the end of the program
     this.ending = new Promise((resolve) => {
       this.child.on("error", (error) => resolve(new Ended(`${program}: ${error.message}`, 127)));
-      this.child.on("close", (status) => resolve(new Ended(this.errors, status)));
+      this.child.on("close", (status, signal) => resolve(this.endedBy(status, signalOf(status, signal))));
     });
     this.ending.then((ended) => this.close(ended));
+    this.endWithNode();
   }
 
-  close(ended) {
-    this.ended = ended;
-    this.waiting?.reject(ended);
-    this.waiting = undefined;
+  endedBy(status, signal) {
+    if (signal === undefined) return new Ended(this.errors, status);
+    return new Ended(`${this.errors}ghcdb was ended by ${signal}\n`, KILLED);
+  }
+
+  /** Nobody else ends the program when Node ends, since it is in a group of its own. */
+  endWithNode() {
+    if (this.child.pid === undefined) return;
+    const watcher = startWatcher(this.child.pid), end = () => this.signal("SIGKILL");
+    process.once("exit", end);
+    this.ending.then(() => {
+      watcher.kill("SIGKILL");
+      process.removeListener("exit", end);
+    });
+  }
+
+  /** Sends a signal to the program, and to those who hand it its texts. */
+  signal(name) {
+    if (this.ended || this.child.pid === undefined) return;
+    try {
+      process.kill(-this.child.pid, name);
+    } catch {
+      // they have ended by now
+    }
   }
 
   /** Is the reply whole? Its last line is the mark's, and it has another one. */
@@ -57,24 +186,44 @@ class NativeSession {
 
   gather(piece) {
     this.pieces.push(piece);
-    if (this.waiting === undefined || !this.isWhole()) return;
-    const { pieces, waiting: { resolve, reject } } = this;
-    this.pieces = [];
-    this.waiting = undefined;
-    try {
-      resolve(Buffer.concat(pieces).toString("latin1").slice(0, -MARK_REPLY.length - 1).split("\n"));
-    } catch (error) {
-      reject(error); // the reply is longer than any text can be
+    if (!this.isBusy) return;
+    if (!this.isWhole()) {
+      this.handOn(this.waiting);
+      return;
     }
+    const { pieces } = this;
+    this.pieces = [];
+    this.settle(({ resolve, reject }) => {
+      try {
+        resolve(Buffer.concat(pieces).toString("latin1").slice(0, -MARK_REPLY.length - 1).split("\n"));
+      } catch (error) {
+        reject(error); // the reply is longer than any text can be
+      }
+    });
   }
 
-  /** The lines of the reply to a line, a text or bytes, which has a word at least. One line at a time. */
-  ask(line) {
-    if (this.ended) return Promise.reject(this.ended);
-    return new Promise((resolve, reject) => {
-      this.waiting = { resolve, reject };
-      this.child.stdin.write(Buffer.concat([Buffer.from(line), Buffer.from(`\n${MARK}\n`)]));
-    });
+  /** Hands on the lines that are whole, but for the last: the mark may follow it. It reads on when they are taken. */
+  handOn({ hear, reject }) {
+    if (hear === undefined || !this.pieces.at(-1).includes(LINE_FEED)) return;
+    const bytes = Buffer.concat(this.pieces), end = bytes.lastIndexOf(LINE_FEED, bytes.lastIndexOf(LINE_FEED) - 1);
+    this.pieces = [bytes.subarray(end + 1)];
+    if (end < 0) return;
+    this.child.stdout.pause();
+    hear(bytes.toString("latin1", 0, end).split("\n")).then(() => this.child.stdout.resume(), reject);
+  }
+
+  send(line) {
+    this.child.stdin.write(Buffer.concat([Buffer.from(line), Buffer.from(`\n${MARK}\n`)]));
+  }
+
+  hold() {
+    super.hold();
+    this.signal("SIGSTOP");
+  }
+
+  release() {
+    this.signal("SIGCONT");
+    super.release();
   }
 
   /** Ends the session as the end of its input does. */
@@ -85,7 +234,8 @@ class NativeSession {
 
   /** Ends the program, whatever it is at. */
   async kill() {
-    this.child.kill("SIGKILL");
+    this.signal("SIGKILL");
+    this.giveUp();
     await this.ending;
   }
 }
@@ -102,10 +252,10 @@ const ofPage = (() => {
   };
 })();
 
-class EngineSession {
-  constructor(words) {
-    this.worker = new Worker(path.join(__dirname, "engine_thread.js"), { workerData: { words, ...ofPage() } });
-    this.waiting = undefined;
+class EngineSession extends Talk {
+  constructor(words, files) {
+    super();
+    this.worker = new Worker(path.join(__dirname, "engine_thread.js"), { workerData: { words, files, ...ofPage() } });
     this.worker.on("message", (told) => this.hear(told));
     this.worker.on("error", (error) => this.close(new Ended(error.message, 70)));
     this.worker.on("exit", () => this.close(new Ended("the engine ended", 70)));
@@ -114,25 +264,13 @@ class EngineSession {
 
   hear({ reply, errors, status }) {
     if (status !== undefined) return this.close(new Ended(errors, status));
-    const { resolve } = this.waiting;
-    this.waiting = undefined;
     this.worker.unref();
-    return resolve(reply);
+    return this.settle(({ resolve }) => resolve(reply));
   }
 
-  close(ended) {
-    this.ended ??= ended;
-    this.waiting?.reject(this.ended);
-    this.waiting = undefined;
-  }
-
-  ask(line) {
-    if (this.ended) return Promise.reject(this.ended);
-    return new Promise((resolve, reject) => {
-      this.waiting = { resolve, reject };
-      this.worker.ref();
-      this.worker.postMessage(line);
-    });
+  send(line) {
+    this.worker.ref();
+    this.worker.postMessage(line);
   }
 
   async end() {
@@ -142,7 +280,7 @@ class EngineSession {
   }
 
   async kill() {
-    this.close(new Ended("the session was ended", 0));
+    this.giveUp();
     await this.worker.terminate();
   }
 }
@@ -162,9 +300,12 @@ function nativeProgram(named = process.env.GHCDB) {
   return named || (isProgram(NATIVE) ? NATIVE : undefined);
 }
 
-/** A session begun with the words of a command line; it ends at once where these are refused. */
-function open(words, native = nativeProgram()) {
-  return native === undefined ? new EngineSession(words) : new NativeSession(native, words);
+/**
+ * A session begun with the words of a command line; it ends at once where these are refused. `files` has texts as
+ * bytes, by the names of `HANDED`, by which the words name them.
+ */
+function open(words, native = nativeProgram(), files = new Map()) {
+  return native === undefined ? new EngineSession(words, files) : new NativeSession(native, words, files);
 }
 
-module.exports = { open, nativeProgram, Ended };
+module.exports = { open, nativeProgram, Ended, HANDED };

@@ -3,14 +3,16 @@
 
 const fs = require("node:fs");
 const Causes = require("../model/causes.js");
+const { isFile, lineOf, tried } = require("./files.js");
 
+const MOST_SHOWN = 200; // letters of a line of a history
 const NOT_READ = { ENOENT: "no such file", EACCES: "reading it is not allowed", EISDIR: "it is a folder" };
 
-/** Why a file cannot be read; nothing where it can. */
+/** Why a file cannot be read; nothing where it can. It is not read: it may never end, or be a pipe. */
 function whyNotRead(file) {
   try {
-    fs.readFileSync(file);
-    return [];
+    fs.accessSync(file, fs.constants.R_OK);
+    return fs.statSync(file).isDirectory() ? [`${file}: ${NOT_READ.EISDIR}`] : [];
   } catch (error) {
     return [`${file}: ${NOT_READ[error.code] ?? error.message}`];
   }
@@ -20,7 +22,8 @@ function whyNotRead(file) {
 function whyNotLoaded(file, refusal) {
   const [, number] = /^F24 history line (\d+)$/.exec(refusal) ?? [];
   if (number === undefined) return [];
-  const line = fs.readFileSync(file, "latin1").split("\n")[number - 1];
+  if (!isFile(file)) return [`${file}: line ${number} is wrong`];
+  const line = tried(() => lineOf(file, Number(number), MOST_SHOWN));
   return [`${file}:${number}: ${line ?? "the file ends before this line"}`, "the line is not of its form, or its step cannot be taken: is it of this program and query?"];
 }
 

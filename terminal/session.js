@@ -2,42 +2,34 @@
 // which is taken only when something has changed and somebody asks.
 "use strict";
 
-const fs = require("node:fs");
-const os = require("node:os");
-const path = require("node:path");
-const Choices = require("../model/choices.js");
 const Graph = require("../web/graph.js");
 const Kept = require("../model/kept.js");
 const Reader = require("../model/reader.js");
+const Replies = require("../model/replies.js");
 const Run = require("../model/run.js");
 const Program = require("./program.js");
-const { readWords, wordsFrom } = require("./words.js");
+const { beginningOf, isNoFile, tried, writeWhole } = require("./files.js");
+const { NO_MEMORY, NOT_BEGUN, NotEnded, WayBack, isWhole } = require("./way_back.js");
+const { readWords, wordsFrom, wordsOfProgram } = require("./words.js");
 
-const isRefusal = (reply) => /^F\d+ (?!= )/.test(reply[0] ?? ""); // `F1 = 2` is the value of a variable
+const { HANDED } = Program;
+const isRefusal = ([first]) => Replies.isRefusal(first);
 
-// Commands that not every console knows, each with the forms of its words: a console may know a command for variables and not for goals.
-const GOAL = /^\d+\.\d+$/, VARIABLE = /^([A-Z]\w*|_\d+_\d+)$/, NUMBER = /^[1-9]\d*$/;
-const NEWER = { explain: [GOAL, VARIABLE], keep: [GOAL, VARIABLE], goal: [NUMBER], clauses: [GOAL], since: [NUMBER], causes: [/^$/] };
-
-/** A newer command with the form of its words, as a name; undefined where the words are of no form. */
-function formOf(line) {
-  const [name, ...words] = line.trim().split(/ +/), place = NEWER[name].findIndex((form) => words.length < 2 && form.test(words.join(" ")));
-  return place < 0 ? undefined : `${name} ${place}`;
-}
-
-// What is thrown where the console refuses to list the goals, since one of them is too long to print.
+// What is thrown where the console does not list the goals: one is too long to print, or memory was refused for it.
 class NotTold extends Error {}
 
-const TOO_LONG = { "F6 limit: print": "a goal is longer than 1,048,576 bytes, so that no goal can be listed" };
+const WHY_NOT_TOLD = {
+  "F6 limit: print": "a goal is longer than 1,048,576 bytes, so that no goal can be listed",
+  [NO_MEMORY]: "memory was refused for the line of a goal",
+};
 
-/** What a file holds; nothing where it cannot be read, which ghcdb tells. */
-function bytesOf(file) {
-  try {
-    return fs.readFileSync(file);
-  } catch {
-    return Buffer.alloc(0);
-  }
-}
+const MOST_BYTES = 1_048_576; // of a program: ghcdb reads one byte further to see that it is longer
+
+/** The bytes of a program, which is read once; undefined where it cannot be read, which ghcdb tells. */
+const bytesOf = (file) => tried(() => beginningOf(file, MOST_BYTES + 1));
+
+/** A history, as its lines are in a file. */
+const textOf = (lines) => `${lines.join("\n")}\n`;
 
 class Session {
   /** A session for the words of a command line, which is not begun yet. */
@@ -46,21 +38,28 @@ class Session {
     this.native = native;
     this.given = readWords(words);
     this.savedAt = 0; // the number of changes when the session was saved last
-    this.unknown = new Set(); // forms of newer commands that the console has been found not to know
   }
 
   /** Begins anew with the files as they are now. Throws `Program.Ended` where ghcdb refuses them. */
   async begin() {
     this.bytes = bytesOf(this.given.file);
-    this.text = this.bytes.toString("utf8");
-    this.program = Program.open(this.words, this.native);
+    this.text = (this.bytes ?? "").toString("utf8");
+    this.program = this.open();
     const goals = await this.program.ask("goals");
     this.clauses = Reader.readProgram(this.text);
     this.kept = new Kept();
     if (this.given.load !== undefined) this.kept.begin(await this.program.ask("records"));
     this.run = new Run(this.clauses, this.given.query, this.kept);
-    this.seen = { records: -1, goals: 0, reply: goals, list: Graph.readGoals(goals) };
+    this.seen = { records: -1, goals: isWhole(goals) ? 0 : -1, reply: goals, list: Graph.readGoals(goals) };
     this.savedAt = 0;
+    this.way = undefined; // the way back to it, where somebody may end a line
+  }
+
+  /** The program, begun with the words; a native one reads the program's file itself, where that can be read twice. */
+  open() {
+    const { words, native, bytes } = this;
+    if (bytes === undefined || (native !== undefined && !isNoFile(this.given.file))) return Program.open(words, native);
+    return Program.open(wordsOfProgram(words, HANDED.program), native, new Map([[HANDED.program, bytes]]));
   }
 
   /** The names of the query's variables, as far as they are written. */
@@ -78,43 +77,46 @@ class Session {
 
   /** The lines of the reply to a line. */
   async ask(line) {
-    const reply = await this.program.ask(line);
-    this.kept.learn(String(line), reply);
+    if (this.way?.isHeavy) await this.prepareForEnding();
+    const text = this.asked = String(line), reply = await this.program.ask(line);
+    this.way?.note(text, reply);
+    this.kept.learn(text, reply);
     return reply;
   }
 
-  /** The reply to a line of a newer command; undefined where the console does not know it so. For each form it is asked for that once. */
-  async askNewer(line) {
-    const form = formOf(line);
-    if (form === undefined || this.unknown.has(form)) return undefined;
-    const reply = await this.ask(line);
-    if (reply[0] !== "F25 command") return reply;
-    this.unknown.add(form);
-    return undefined;
+  /** Are runs made by several workers, so that no run is made alike again? */
+  get isByMany() {
+    return this.given.workers !== undefined && this.given.workers !== "1" && this.native !== undefined;
+  }
+
+  /** May the line that was asked last have been about to change the session? */
+  get isChanging() {
+    return Kept.mayChange(this.asked);
   }
 
   /** The numbers of the clauses that say yes to a goal. */
   async clausesSayingYes(goal) {
-    const reply = await this.askNewer(`clauses ${goal}`);
-    if (reply !== undefined) return reply.map((line) => /^(\d+) yes$/.exec(line)).filter(Boolean).map(([, number]) => Number(number));
-    return Choices.choicesOf(await this.look(), goal).filter(({ says }) => says === "yes").map(({ clause }) => clause.number);
+    const reply = await this.ask(`clauses ${goal}`);
+    return reply.map((line) => /^(\d+) yes$/.exec(line)).filter(Boolean).map(([, number]) => Number(number));
   }
 
   /** The goal that a kept step took, as it was written then. */
   async goalTaken({ number, goal }) {
-    const [line] = await this.askNewer(`goal ${number}`) ?? [], [, text] = /^\d+ \d+\.\d+ (?:by \d+|eq|is|end|in \S+) (.*)$/.exec(line) ?? [];
+    const [line] = await this.ask(`goal ${number}`), [, text] = /^\d+ \d+\.\d+ (?:by \d+|eq|is|end|in \S+) (.*)$/.exec(line) ?? [];
     return text ?? (await this.look()).textOf(goal);
   }
 
   /** The goals as they stand. Throws `NotTold` where the console lists none. */
   async goals() {
-    if (this.seen.goals !== this.kept.changes) {
-      this.seen.reply = await this.program.ask("goals");
-      this.seen.list = Graph.readGoals(this.seen.reply);
-      this.seen.goals = this.kept.changes;
+    const { seen, kept } = this;
+    if (seen.goals !== kept.changes) {
+      seen.reply = await this.ask("goals");
+      if (!isWhole(seen.reply)) throw new NotTold(WHY_NOT_TOLD[NO_MEMORY]);
+      seen.list = Graph.readGoals(seen.reply);
+      seen.goals = kept.changes;
     }
-    if (isRefusal(this.seen.reply)) throw new NotTold(TOO_LONG[this.seen.reply[0]] ?? `goals: ${this.seen.reply[0]}`);
-    return this.seen.list;
+    if (isRefusal(seen.reply)) throw new NotTold(WHY_NOT_TOLD[seen.reply[0]] ?? `goals: ${seen.reply[0]}`);
+    return seen.list;
   }
 
   /** The goals as they stand; undefined where the console lists none. */
@@ -137,7 +139,7 @@ class Session {
     const { run, kept } = this;
     run.forget(kept.takeRemoved());
     const first = kept.firstBeside(run.records);
-    const since = run.records.size === 0 || first === undefined ? undefined : await this.askNewer(`since ${first}`);
+    const since = run.records.size === 0 || first === undefined ? undefined : await this.ask(`since ${first}`);
     if (first === undefined) run.learnMore([]);
     else if (since !== undefined && !isRefusal(since)) run.learnMore(since);
     else run.learn(await this.ask("records"));
@@ -145,30 +147,77 @@ class Session {
     return run;
   }
 
-  /** Keeps what brings the session back where a run has to be ended. */
-  async prepareForEnding() {
-    this.before = await this.program.ask("save");
+  /** From now on each line can be ended, and the session comes back as it stood before. */
+  async keepWayBack() {
+    this.way = new WayBack(this.isByMany);
+    if (this.given.load !== undefined) await this.prepareForEnding();
   }
 
-  /** Ends the program in the midst of a run, and goes on from where it stood before: by the text as it was, whatever its file holds now. */
-  async endRun() {
-    await this.program.kill();
-    const folder = fs.mkdtempSync(path.join(os.tmpdir(), "ghcdb-")), [history, program] = ["session.history", "program.ghc"].map((name) => path.join(folder, name));
+  /** Keeps a history that brings the session back. Without memory for it, the one before and the lines since do. */
+  async prepareForEnding() {
+    this.way ??= new WayBack(this.isByMany);
+    this.asked = "save";
+    const saved = await this.program.ask("save");
+    if (isWhole(saved)) this.way.begin(textOf(saved), saved.length);
+    else this.way.wait();
+  }
+
+  /** The words with which the session is begun again, and the texts that they name: the program's is as it was. */
+  wordsAgain() {
+    const { words, bytes, way: { history } } = this, files = new Map([[HANDED.program, bytes]]);
+    if (history === undefined) return { words: wordsOfProgram(words, HANDED.program), files };
+    return { words: wordsFrom(words, HANDED), files: files.set(HANDED.history, Buffer.from(history, "latin1")) };
+  }
+
+  /** Another program, at which the session stands as before the line that is asked. */
+  async beginAgain() {
+    const { words, files } = this.wordsAgain(), program = this.beginning = Program.open(words, this.native, files);
     try {
-      fs.writeFileSync(history, `${this.before.join("\n")}\n`);
-      fs.writeFileSync(program, this.bytes);
-      this.program = Program.open(wordsFrom(this.words, { history, program }), this.native);
-      await this.program.ask("goals");
-    } finally {
-      fs.rmSync(folder, { recursive: true });
+      await program.ask("goals");
+      await this.way.play(program);
+      return program;
+    } catch (error) {
+      await program.kill();
+      throw error instanceof Program.Ended ? new NotEnded(`${NOT_BEGUN}: ${error.message}`) : error;
     }
   }
 
-  /** Writes the session into a file, as a history; `version` is "1" for that of the kept steps alone. The refusal, where there is one. */
+  /** Ends what `beginAgain` is at. */
+  stopBeginning() {
+    return this.beginning?.kill();
+  }
+
+  /** Ends the program in the midst of a line: another one goes on. Throws where none can: then the line goes on. */
+  async endRun() {
+    const { program } = this;
+    program.hold();
+    try {
+      this.program = await this.beginAgain();
+    } catch (error) {
+      program.release();
+      throw error;
+    }
+    await program.kill();
+  }
+
+  /** The session as a history, as it stands between two lines; undefined where none is to be had. */
+  async history() {
+    const { program } = this, isFree = !program.isBusy && program.ended === undefined;
+    if (!isFree) program.hold();
+    const saved = await (isFree ? program : await this.beginAgain()).ask("save");
+    return isWhole(saved) ? textOf(saved) : this.way.history;
+  }
+
+  /**
+   * Writes the session into a file, as a history; `version` is "1" for that of the kept steps alone. The refusal, where
+   * there is one. Throws what the system says where the file cannot be written.
+   */
   async save(file, version = "") {
-    const reply = await this.program.ask(`save ${version}`.trim());
+    const reply = await this.ask(`save ${version}`.trim());
     if (isRefusal(reply)) return reply[0];
-    fs.writeFileSync(file, `${reply.join("\n")}\n`);
+    if (!isWhole(reply)) return NO_MEMORY;
+    if (version === "") this.way?.begin(textOf(reply), reply.length);
+    writeWhole(file, Buffer.from(textOf(reply), "latin1"));
     this.savedAt = this.kept.changes;
     return undefined;
   }
@@ -178,4 +227,4 @@ class Session {
   }
 }
 
-module.exports = { Session, NotTold, formOf, isRefusal };
+module.exports = { Session, NotTold, NotEnded, isRefusal };

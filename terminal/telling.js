@@ -6,7 +6,7 @@ const Choices = require("../model/choices.js");
 const Print = require("../model/print.js");
 const Reader = require("../model/reader.js");
 const Stuck = require("../model/stuck.js");
-const { nearest } = require("../model/nearest.js");
+const { nearest, predicatesNamed } = require("../model/nearest.js");
 const { REFUSALS } = require("./commands.js");
 const { isRefusal } = require("./session.js");
 const { causeInTerm } = require("./terms.js");
@@ -113,8 +113,8 @@ function noVariable(session, [name = ""]) {
 }
 
 function noPredicate(session, words, reply) {
-  const [, wanted] = /^F5 undefined (\S+)$/.exec(reply[0]), near = nearest(wanted, session.predicates);
-  return [near === undefined ? `the program's predicates: ${some(session.predicates).join(", ")}` : `${near}?`];
+  const [, wanted] = /^F5 undefined (\w+)\/\d+$/.exec(reply[0]), near = predicatesNamed(wanted, session.predicates);
+  return [near.length === 0 ? `the program's predicates: ${some(session.predicates).join(", ")}` : `${some(near).join(", ")}?`];
 }
 
 /** Why the text after `ask` or `in` is refused. */
@@ -263,4 +263,4 @@ async function notesAfter(session, meaning, reply) {
   return afterSettling(session, reply);
 }
 
-module.exports = { notesAfter, clauseLines, whyNoClause, whyFailed, plural, some };
+module.exports = { notesAfter, whyNoClause, plural };

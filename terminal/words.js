@@ -32,4 +32,7 @@ function wordsFrom(words, { history, program }) {
   return [...kept, "--load", history];
 }
 
-module.exports = { readWords, isSession, wordsFrom };
+/** The words with the program in another file. */
+const wordsOfProgram = (words, program) => words.map((word, at) => (at === readWords(words).fileAt ? program : word));
+
+module.exports = { wordsOfProgram, readWords, isSession, wordsFrom };

@@ -10,7 +10,6 @@ The last line is `N passed, M failed`; the exit status is 1 where a test failed.
 """
 
 import json
-import multiprocessing
 import os
 import re
 import signal
@@ -18,36 +17,19 @@ import subprocess
 import sys
 import tempfile
 import time
-import traceback
 from pathlib import Path
 
 sys.path[:0] = [str(Path(__file__).resolve().parent), str(Path(__file__).resolve().parents[2] / "tests")]
 import run_rows  # noqa: E402
+import trying  # noqa: E402
 from pseudo_terminal import Terminal  # noqa: E402
+from trying import FRONT, is_met, start, wait_until, wants  # noqa: E402
 from typed import SESSIONS  # noqa: E402
 
 ROOT = Path(__file__).resolve().parents[2]
-FRONT = str(ROOT / "terminal" / "ghcdb")
 MARK = "% "
-PROGRAM = os.environ.get("GHCDB", "")
-PROGRAM = os.path.abspath(PROGRAM) if os.sep in PROGRAM else PROGRAM
 BLOCK = re.compile(r"^```\n(\$.*?)^```$", re.M | re.S)
 ENDLESS = "p(N) :- true | M := N + 1, p(M).\n"
-
-
-def start(home, *words, wait=30.0, folder=None, kind="xterm"):
-    environment = {"HOME": home, "COLUMNS": "220", "GHCDB": PROGRAM}
-    return Terminal(["node", FRONT, *words], environment, wait, folder, kind)
-
-
-def wants(condition, told):
-    if not condition:
-        raise AssertionError(told)
-
-
-def is_met(pattern, lines):
-    """Does a line match? A pattern is text that the line has; with a leading = it is the whole line."""
-    return any(line == pattern[1:] if pattern.startswith("=") else pattern in line for line in lines)
 
 
 def play_typed(home, name):
@@ -160,10 +142,10 @@ def test_interrupt_in_a_run(home):
     with tempfile.TemporaryDirectory() as folder:
         program = Path(folder, "endless.ghc")
         program.write_text(ENDLESS)
-        terminal = start(home, str(program), "--query", "p(0)", wait=60.0)
+        terminal = start(home, str(program), "--query", "p(0)")
         terminal.type("leap 3")
         before = terminal.type("records")
-        terminal.press("leap\r")
+        terminal.send("leap")
         time.sleep(0.1)
         terminal.press("\x03")
         shown = terminal.read()
@@ -177,11 +159,11 @@ def test_interrupt_of_a_long_list(home):
     with tempfile.TemporaryDirectory() as folder:
         program = Path(folder, "endless.ghc")
         program.write_text(ENDLESS)
-        terminal = start(home, str(program), "--query", "p(0)", wait=60.0)
+        terminal = start(home, str(program), "--query", "p(0)")
         terminal.type("leap 20000")
-        for listing in ("records", "records p/1", "causes"):
+        for listing, first in (("records", "1 0.1 by 1"), ("records p/1", "1 p(0) by 1"), ("causes", "2 1 made")):
             terminal.press(f"{listing}\r")
-            time.sleep(0.3)  # nobody reads, so that the terminal is full, and the rest is not shown yet
+            terminal.read_until(first)  # nobody reads on, so that the terminal is full, and the rest is not shown yet
             terminal.press("\x03")
             shown = terminal.read()
             wants(shown.count("\n") < 9000 and re.search(r"% \.\. \d+ lines more \.\.\n", shown), f"{listing}: {shown[-200:]}")
@@ -193,9 +175,9 @@ def test_interrupt_drops_the_lines_that_wait(home):
     with tempfile.TemporaryDirectory() as folder:
         program = Path(folder, "endless.ghc")
         program.write_text(ENDLESS)
-        terminal = start(home, str(program), "--query", "p(0)", wait=60.0)
-        terminal.press("leap\rleap 7\r")
-        time.sleep(0.5)
+        terminal = start(home, str(program), "--query", "p(0)")
+        terminal.send("leap")
+        terminal.send("leap 7")
         terminal.press("\x03")
         wants("% the run was ended; the session stands as before it" in terminal.read(), "no end")
         wants(is_met("=0.1 ready p(0)", terminal.type("goals")), "the next line was played")
@@ -206,7 +188,7 @@ def test_goals_that_are_too_long_to_print(home):
     with tempfile.TemporaryDirectory() as folder:
         program = Path(folder, "double.ghc")
         program.write_text("d(0,T,R) :- true | R = T.\nd(N,T,R) :- N > 0 | M := N - 1, d(M,f(T,T),R).\n")
-        terminal = start(home, str(program), "--query", "d(24,a,R)", wait=60.0)
+        terminal = start(home, str(program), "--query", "d(24,a,R)")
         wants(terminal.type("leap 45")[-2:] == ["stopped limit", "% leap goes on"], "no note")
         wants(is_met("% a goal is longer than 1,048,576 bytes, so that no goal can be listed; step and leap go on", terminal.type("stuck")), "no reason")
         wants(terminal.type("R") == ["% sent: show R", "R = _0_1", "% _0_1 (R of the query) is unbound"], "no value")
@@ -224,11 +206,11 @@ def test_interrupt_where_the_file_has_changed(home):
         with tempfile.TemporaryDirectory() as folder:
             program = Path(folder, "endless.ghc")
             program.write_text(ENDLESS)
-            terminal = start(home, str(program), "--query", "p(0)", wait=60.0)
+            terminal = start(home, str(program), "--query", "p(0)")
             terminal.type("leap 3")
             before = terminal.type("records")
             program.unlink() if text is None else program.write_text(text)
-            terminal.press("leap\r")
+            terminal.send("leap")
             time.sleep(0.1)
             terminal.press("\x03")
             shown = terminal.read()
@@ -241,7 +223,7 @@ def test_interrupt_where_the_file_has_changed(home):
 def test_stopped_by_the_shell(home):
     terminal = start(home, str(ROOT / "examples/bill.ghc"), "--query", "bill(12,3,T)")
     terminal.press("\x1a")
-    time.sleep(0.5)
+    wait_until(terminal.reads_lines, "the end of reading keys")
     os.kill(terminal.child, signal.SIGCONT)
     terminal.read()
     wants(is_met("=REDU 1 0.1 by 1", terminal.type("step")), "no key is heard after fg")
@@ -252,14 +234,14 @@ def test_interrupt_of_what_takes_many_lines(home):
     with tempfile.TemporaryDirectory() as folder:
         program = Path(folder, "endless.ghc")
         program.write_text("p(N,_) :- true | M := N + 1, p(M,_).\n")
-        terminal = start(home, str(program), "--query", "p(0,X)", wait=60.0)
-        terminal.press("watch X\r")
+        terminal = start(home, str(program), "--query", "p(0,X)")
+        terminal.send("watch X")
         time.sleep(0.3)
         terminal.press("\x03")
         shown = terminal.read()
         wants("% ended: it is not bound" in shown, shown[-500:])
         wants(is_met("stopped limit", terminal.type("leap 2000")), "no run after it")
-        terminal.press("back 100000\r")
+        terminal.send("back 100000")
         time.sleep(0.05)
         terminal.press("\x03")
         terminal.read()
@@ -413,9 +395,7 @@ def test_on_a_pipe_nothing_is_added(home):
 
 def tests():
     """All tests, each with its name."""
-    for name, test in sorted(globals().items()):
-        if name.startswith("test_"):
-            yield name, test
+    yield from trying.tests_of(globals())
     for name in SESSIONS:
         yield f"typed: {name}", lambda home, name=name: play_typed(home, name)
     for page, block in shown_sessions():
@@ -424,30 +404,10 @@ def tests():
         yield name, lambda home, name=name, row=row: play_row(home, json.loads(run_rows.told(name, row)))
 
 
-def try_one(place):
-    """Plays a test, by its place: what is wrong, or nothing."""
-    name, test = CHOSEN[place]
-    with tempfile.TemporaryDirectory() as home:
-        try:
-            test(home)
-            return ""
-        except AssertionError as error:
-            return f"failed: {name}: {error}"
-        except (TimeoutError, OSError):
-            return f"failed: {name}: {traceback.format_exc()}"
-
-
-CHOSEN = [(name, test) for name, test in tests() if re.search(sys.argv[1] if len(sys.argv) > 1 else "", name)]
-
-
 def main():
     if sys.argv[1:2] == ["--write"]:
         return write_page(sys.argv[2])
-    with multiprocessing.get_context("fork").Pool(os.cpu_count()) as pool:
-        told = pool.map(try_one, range(len(CHOSEN)), chunksize=1)
-    failed = [line for line in told if line]
-    print("\n".join([*failed, f"{len(told) - len(failed)} passed, {len(failed)} failed"]))
-    sys.exit(1 if failed or not told else 0)
+    trying.main(tests())
 
 
 if __name__ == "__main__":
