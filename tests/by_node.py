@@ -6,11 +6,12 @@ the program that the page carries, by Node, with the system's own streams and fi
 
 Each row starts Node, so the rows of the tables, which differ in a text alone, are left out without --all: web/test plays them on the
 same program in one process. So it takes half a minute, with --all two. Left out are the lines of a shell that limit the memory, for
-Node takes more. Where there is no Node, that is said and nothing is tried. The last line is `N passed, M failed`; the exit status is 1
-where one failed.
+Node takes more. Last a session is played where bash, coreutils and Node are all that is there. The last line is
+`N passed, M failed`; the exit status is 1 where one failed, and where there is no Node.
 """
 import os
 import shutil
+import subprocess
 import sys
 import tempfile
 from concurrent.futures import ThreadPoolExecutor
@@ -30,6 +31,24 @@ def copy_launcher(folder):
     return folder / "ghcdb"
 
 
+def said_with(path):
+    """What the launcher says of its program, and the last reply of a session, where nothing else is on the PATH."""
+    words = [os.environ["GHCDB"], ROOT / "examples" / "append.ghc", "--query", "append([1],[2],R)"]
+    given = {"env": {"PATH": path}, "input": "leap\nshow R\n", "timeout": 300}
+    ended = subprocess.run(words, capture_output=True, text=True, **given)
+    return ended.stderr, ended.stdout.splitlines()[-1:]
+
+
+def few_tools(folder):
+    """With bash, coreutils and Node alone all is said and told as elsewhere; without sha256sum, too."""
+    for name in ("bash", "cat", "dirname", "env", "node", "readlink", "sort"):
+        (folder / name).symlink_to(shutil.which(name))
+    without, wanted = said_with(str(folder)), said_with(os.environ["PATH"])
+    (folder / "sha256sum").symlink_to(shutil.which("sha256sum"))
+    told = [without, said_with(str(folder))]
+    return [f"{it} in place of {wanted}" for it in told if it != wanted or it[1] != ["R = [1,2]"]]
+
+
 def play(with_tables):
     """What is wrong with the rows and the lines of a shell: of each its name, and a list of lines."""
     import devices
@@ -45,11 +64,13 @@ def play(with_tables):
 def main():
     if not shutil.which("node"):
         print("by_node: there is no Node here, so nothing was tried")
-        return 0
+        return 1
     with tempfile.TemporaryDirectory(prefix="ghcdb-by-node-") as folder:
         os.environ["GHCDB"] = str(copy_launcher(Path(folder)))
         os.environ["GHCDB_QUIET"] = "1"
         judged = play(with_tables="--all" in sys.argv[1:])
+        with tempfile.TemporaryDirectory(prefix="ghcdb-by-node-") as tools:
+            judged.append(("a session with few tools", few_tools(Path(tools))))
     failed = [(name, wrong) for name, wrong in judged if wrong]
     for name, wrong in failed:
         print("\n".join([f"failed: {name}", *wrong]))

@@ -3,8 +3,8 @@
 
     python3 tests/launcher.py
 
-Nothing is proved, and nothing of the repository is run but the launcher and its tools. The last line is `N passed, M failed`; the
-exit status is 1 where a case failed.
+Nothing is proved, and nothing of the repository is run but the launcher, its tools, and terminal/test where it tries nothing. The last
+line is `N passed, M failed`; the exit status is 1 where a case failed.
 """
 
 import os
@@ -20,9 +20,7 @@ ROOT = Path(__file__).resolve().parent.parent
 SECONDS = 20
 TABLE = (ROOT / "tools" / "proof-seconds.txt").read_text()
 SECONDS_OF = {name: int(seconds) for name, seconds in re.findall(r"^(\w+) (\d+)$", TABLE, re.MULTILINE)}
-TOOLS = (
-    "bash", "basename", "cat", "cp", "cut", "dirname", "env", "find", "mkdir", "mv", "readlink", "sed", "sha256sum", "sort", "touch",
-)
+TOOLS = ("bash", "basename", "cp", "dirname", "env", "mkdir", "mv", "readlink", "sha256sum", "sort", "touch")  # no find, sed or awk
 
 PROGRAM = """#!/usr/bin/env bash
 printf '%s\\n' "the program: $*"
@@ -39,6 +37,7 @@ echo "what rt says of $here"
 [ "$1" = lib ] || { mkdir -p out; cp "$STUB" out/ghcdb; }
 """
 NODE = """#!/usr/bin/env bash
+[ -z "${READING:-}" ] || cat # what it finds of the input
 [ "$*" != --version ] || { echo "${NODE_VERSION:-v18.0.0}"; exit; }
 printf '%s\\n' "node: ${1##*/} ${*:2}${GHCDB:+, on ${GHCDB##*/}}${GHCDB_CLOSED:+, closed: $GHCDB_CLOSED}"
 [ "$2" = --version ] || exit 4
@@ -57,10 +56,10 @@ RLWRAP = """#!/usr/bin/env bash
 printf '%s\\n' "rlwrap: $*"
 exit 5
 """
-# Tells that 8 times 2 GB of memory are free; all else is awk's.
-AWK = f"""#!/usr/bin/env bash
-[[ $* != *meminfo* ]] || {{ echo 8; exit; }}
-exec {shutil.which("awk")} "$@"
+# Tells that 8 times 2 GB of memory are free; all else is cat's.
+CAT = f"""#!/usr/bin/env bash
+[[ $* != *meminfo* ]] || {{ printf '%s kB\\n' 'MemTotal: 1' "MemAvailable: ${{FREE:-16000000}}" 'Cached: 2'; exit; }}
+exec {shutil.which("cat")} "$@"
 """
 
 
@@ -84,9 +83,11 @@ class Copy:
         for name in TOOLS:
             self.tool("tools", name).symlink_to(shutil.which(name))
         self.write(self.folder / "stub", PROGRAM)
-        stubs = {"awk": AWK, "nproc": "#!/bin/sh\necho 4\n", "rt": RT, "node": NODE, "python3": PYTHON, "rlwrap": RLWRAP, "git": GIT}
+        stubs = {"cat": CAT, "nproc": "#!/bin/sh\necho 4\n", "rt": RT, "node": NODE, "python3": PYTHON, "rlwrap": RLWRAP, "git": GIT}
         for name, text in stubs.items():
-            self.write(self.tool("tools" if name in ("awk", "nproc") else name, name), text)
+            self.write(self.tool("tools" if name in ("cat", "nproc") else name, name), text)
+        shutil.copytree(self.folder / "bin" / "tools", self.folder / "bin" / "no sums", symlinks=True)
+        self.tool("no sums", "sha256sum").unlink()
 
     def source(self, crate):
         """The root file of a crate."""
@@ -123,9 +124,9 @@ class Copy:
         later = self.program.stat().st_mtime + 10
         os.utime(source, (later, later))
 
-    def run(self, *words, path=(), terminal="xterm", settings=(), **streams):
+    def run(self, *words, path=(), tools="tools", terminal="xterm", settings=(), **streams):
         """What the launcher writes to pipes, and its status; `streams` puts others in the place of pipes."""
-        places = [str(self.folder / "bin" / name) for name in ("tools", *path)]
+        places = [str(self.folder / "bin" / name) for name in (tools, *path)]
         known = {"PATH": ":".join(places), "ASKED": str(self.folder / "asked"), "STUB": str(self.folder / "stub"), "TERM": terminal}
         streams = {"stdin": subprocess.DEVNULL, "stdout": subprocess.PIPE, "stderr": subprocess.PIPE} | streams
         environment = known | dict(settings)
@@ -155,6 +156,7 @@ def commands():
 ESTIMATE = f"about {(sum(SECONDS_OF.values()) + 30) // 60} minutes on four processors"
 PROVE = "; ./ghcdb --prove proves and builds the native one here ({})\n"
 ENGINE = "ghcdb: this is the proved program of {}, compiled for WebAssembly and run by Node"
+UNKNOWN = "UNKNOWN SOURCES (to compare them, sha256sum, shasum or node has to be on the PATH)"
 HERE, OTHER = "the sources that stand here", "OTHER SOURCES than those here, of commit 0abc"
 NATIVE_OF_OTHER = "ghcdb: this is the native proved program of OTHER SOURCES than those here; ./ghcdb --prove proves and builds it of these ({})\n"
 SCREEN = """ghcdb: no program can run here yet. Do one of these:
@@ -284,6 +286,55 @@ def with_a_native_program(copy):
     tests.unlink()
 
 
+def with_less_memory(copy):
+    """A case of --prove where there is memory for two jobs."""
+    copy.run("--prove", path=["rt"], settings={"FREE": "5000000"})
+    jobs = re.findall(r"--jobs (\d+)", (copy.folder / "asked").read_text())
+    yield "two jobs, for there is no memory for more", jobs, ["2"] * 4
+
+
+def without_sums(copy):
+    """Cases where nothing makes a sum, with a native program of which a source is newer, and without one."""
+    copy.noted.write_text(f"sources {copy.sum()}\n")
+    copy.change(copy.crates[0])
+    native = NATIVE_OF_OTHER.format(ESTIMATE)
+    unknown = native.replace("OTHER SOURCES than those here", UNKNOWN)
+    yield "nobody knows of which sources it is", copy.run("a", "b c", tools="no sums"), ("the program: a b c\n", unknown, 3)
+    copy.noted.unlink()
+    yield "it is noted of none", copy.run("a", "b c", tools="no sums"), ("the program: a b c\n", native, 3)
+    copy.program.unlink()
+    copy.put_page(copy.sum())
+    page = engine_line(f"{UNKNOWN}, of commit 0abc")
+    yield "nor of which the page is", copy.run("a", tools="no sums", path=["node"]), ("node: console a\n", page, 4)
+    node = shutil.which("node")
+    if node:
+        places = {"PATH": f"{copy.folder / 'bin' / 'no sums'}:{copy.folder / 'bin' / 'true node'}"}
+        copy.tool("true node", "node").symlink_to(node)
+        words = [copy.folder / "tools" / "sources-sum"]
+        ended = subprocess.run(words, env=places, capture_output=True, text=True, timeout=SECONDS)
+        yield "Node makes the same sum", (ended.stdout, ended.stderr), (f"{copy.sum()}\n", "")
+
+
+def with_input(copy):
+    """Cases in which what is asked before a session would read its input."""
+    lines = copy.folder / "lines"
+    lines.write_text("leap\n")
+    for tools, sources in (("tools", HERE), ("no sums", f"{UNKNOWN}, of commit 0abc")):
+        with lines.open() as given:
+            ended = copy.run("a", tools=tools, path=["node"], settings={"READING": "1"}, stdin=given)
+        yield f"with {tools} the session gets its whole input", ended, ("leap\nnode: console a\n", engine_line(sources), 4)
+
+
+def without_what_tests_need(copy):
+    """Cases of terminal/test, which is red where it could try nothing."""
+    words = [ROOT / "terminal" / "test"]
+    for there, missing in ([], "node"), (["node"], "python3"):
+        places = {"PATH": ":".join(str(copy.folder / "bin" / name) for name in ("tools", *there))}
+        ended = subprocess.run(words, env=places, capture_output=True, text=True, timeout=SECONDS)
+        said = f"terminal/test: {missing} is not on the PATH, so nothing was tried\n"
+        yield f"tests without {missing}", (ended.stdout, ended.stderr, ended.returncode), (said, "", 1)
+
+
 def with_words_for_scripts(copy):
     """Cases of --check and --json, which a command of terminal/ serves by Node, on the program that would run."""
     told = "node: {} a --query q, on ghcdb\n"
@@ -328,15 +379,22 @@ def texts(copy):
     yield "the words that are completed", (copy.folder / "commands.txt").read_text().split(), commands()
 
 
-def cases(copy):
-    """The cases in their order: a name, what came, what is wanted."""
-    for group in (without_a_native_program, proving, with_a_native_program, with_words_for_scripts, at_a_terminal, versions, texts):
-        yield from group(copy)
+# The cases in their order; those of a row follow each other on one copy.
+GROUPS = (
+    (without_a_native_program, proving, with_a_native_program, with_words_for_scripts, at_a_terminal, versions, texts),
+    (with_less_memory, without_sums, with_input, without_what_tests_need),
+)
+
+
+def cases(groups):
+    """The cases of groups on a copy: of each a name, what came, what is wanted."""
+    with tempfile.TemporaryDirectory(prefix="ghcdb-launcher-") as folder:
+        copy = Copy(folder)
+        return [case for group in groups for case in group(copy)]
 
 
 def main():
-    with tempfile.TemporaryDirectory(prefix="ghcdb-launcher-") as folder:
-        tried = [(name, got, wanted) for name, got, wanted in cases(Copy(folder))]
+    tried = [case for groups in GROUPS for case in cases(groups)]
     failed = [case for case in tried if case[1] != case[2]]
     for name, got, wanted in failed:
         print(f"failed: {name}\n  is to be {wanted!r}\n  is       {got!r}")
