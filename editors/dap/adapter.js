@@ -1,7 +1,8 @@
 // The debug adapter: it answers an editor's requests, in the Debug Adapter Protocol, by lines of ghcdb's console and nothing else. So
 // every state that an editor sees is one that a session has.
 //
-// The requests stand in files by what they are for: beginning.js, looking.js, stepping.js, changing.js; runs are in running.js.
+// The requests stand in files by what they are for: beginning.js, setting.js (breakpoints), looking.js, stepping.js,
+// changing.js; runs are in running.js.
 "use strict";
 
 const { Breakpoints } = require("./breakpoints.js");
@@ -15,7 +16,7 @@ const MOST_THREAD_EVENTS = 200; // of one stop; an editor asks for all threads i
 
 const ENDS_RUN = new Set(["pause", "disconnect", "terminate", "restart"]);
 
-const answerTo = (request) => ({ type: "response", request_seq: request.seq, command: request.command, success: true });
+const answerTo = ({ seq, command }) => ({ type: "response", request_seq: seq, command: String(command), success: true });
 
 class Adapter {
   /** `send` takes messages; `leave` ends the adapter; `native` is the program to use, or undefined for the page's engine. */
@@ -57,7 +58,7 @@ class Adapter {
   // ---- messages
 
   hear(message) {
-    if (message.type !== "request") return;
+    if (message?.type !== "request") return;
     if (this.isRunning && ENDS_RUN.has(message.command)) this.stopRun();
     if (this.isRunning && message.command === "pause") return this.send(answerTo(message));
     this.inbox.push(message);
@@ -105,7 +106,7 @@ class Adapter {
   }
 
   request(command, given) {
-    const handler = this[`on_${command.replace("/", "_")}`];
+    const handler = this[`on_${String(command).replace("/", "_")}`];
     if (handler === undefined) throw new Refused(`${command} is not known here`);
     if (this.session === undefined && !WITHOUT_SESSION.has(command)) throw new Refused(`${command}: no program was launched`);
     if (this.isRunning && RUNS.has(command)) throw new Refused("a run goes on: pause it first");
@@ -173,11 +174,6 @@ class Adapter {
     this.tell(reply);
     return reply;
   }
-
-  stopRun() {
-    this.wantsPause = true;
-    if (this.isSkipping) this.ending = this.session.endRun();
-  }
 }
 
 const WITHOUT_SESSION = new Set(["initialize", "launch", "attach", "disconnect", "terminate"]);
@@ -186,6 +182,8 @@ const WITHOUT_SESSION = new Set(["initialize", "launch", "attach", "disconnect",
 const RUNS = new Set(["continue", "next", "stepIn", "stepOut", "stepBack", "reverseContinue", "goto", "restartFrame", "setVariable", "setExpression", "evaluate",
   "ghcdb/undo", "ghcdb/roll", "ghcdb/redo"]);
 
-Object.assign(Adapter.prototype, require("./beginning.js"), require("./looking.js"), require("./stepping.js"), require("./changing.js"), require("./running.js"));
+const FIRST = [require("./beginning.js"), require("./setting.js"), require("./looking.js")];
+const THEN = [require("./stepping.js"), require("./changing.js"), require("./running.js")];
+Object.assign(Adapter.prototype, ...FIRST, ...THEN);
 
 module.exports = { Adapter };

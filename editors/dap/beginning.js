@@ -1,4 +1,4 @@
-// Requests with which a session begins and ends, and those that set breakpoints.
+// Requests with which a session begins and ends.
 "use strict";
 
 const fs = require("node:fs");
@@ -6,13 +6,13 @@ const path = require("node:path");
 const Causes = require("../../model/causes.js");
 const { Ended } = require("../../terminal/program.js");
 const { whyNotRead, whyRefused } = require("../../terminal/refused.js");
-const { Session } = require("../../terminal/session.js");
+const { FILTERS } = require("./breakpoints.js");
 const { Inside } = require("./inside.js");
 const { Places, queryOf } = require("./places.js");
 const { Processes } = require("./processes.js");
 const { refused } = require("./refused.js");
+const { EditorSession } = require("./session.js");
 
-const FILTERS = [{ filter: "stuck", label: "Goals wait, and none is ready", default: true }];
 const CAN = ["ConfigurationDoneRequest", "FunctionBreakpoints", "ConditionalBreakpoints", "HitConditionalBreakpoints", "LogPoints", "DataBreakpoints", "EvaluateForHovers",
   "StepBack", "RestartFrame", "RestartRequest", "GotoTargetsRequest", "StepInTargetsRequest", "CompletionsRequest", "SetVariable", "SetExpression", "LoadedSourcesRequest",
   "ExceptionInfoRequest", "TerminateRequest", "SingleThreadExecutionRequests", "BreakpointLocationsRequest"];
@@ -24,20 +24,27 @@ function wordsOf({ load, workers }, program, query) {
   return [program, "--query", query, ...(load ? ["--load", load] : []), ...(workers ? ["--workers", String(workers)] : [])];
 }
 
+/** Is it a device or a pipe, which might be read without end? */
+function isEndless(file) {
+  try {
+    const stat = fs.statSync(file);
+    return !stat.isFile() && !stat.isDirectory();
+  } catch {
+    return false; // reading it tells why
+  }
+}
+
+/** Refuses a name at which no file stands, but a device or a pipe. */
+function refuseEndless(file) {
+  if (isEndless(file)) throw refused(`${file}: it is a device or a pipe, and no file`);
+}
+
 /** The text of a program's file. */
 function textOf(file) {
+  refuseEndless(file);
   const [why] = whyNotRead(file);
   if (why !== undefined) throw refused(why);
   return fs.readFileSync(file, "utf8");
-}
-
-/** The breakpoints of an editor's list, each made by `make`, which gives none or why there is none. */
-function answers(adapter, list, make) {
-  return (list ?? []).map((given) => {
-    const made = make(given);
-    if (typeof made !== "string") return made;
-    return { id: adapter.breakpoints.last += 1, verified: false, message: made };
-  });
 }
 
 module.exports = {
@@ -56,7 +63,9 @@ module.exports = {
     if (typeof given.program !== "string") throw refused("no program: give `program` in the launch configuration");
     const file = path.resolve(given.program), program = textOf(file), query = given.query || queryOf(program);
     if (query === undefined) throw refused("no query: give `query` in the launch configuration, or a comment `% Query: ..` in the program");
-    const session = new Session(wordsOf(given, file, query), this.native), places = new Places(file, program, query, this.first);
+    if (given.load) refuseEndless(given.load);
+    const session = new EditorSession(wordsOf(given, file, query), this.native);
+    const places = new Places(file, program, query, this.first);
     try {
       await session.begin();
     } catch (error) {
@@ -94,64 +103,8 @@ module.exports = {
 
   async on_restart({ arguments: given }) {
     await this.launch(given ?? this.given);
-    await this.breakpoints.spy(this.session);
+    await this.setAgain();
     this.later(() => this.stopped("entry", "begun anew"));
-  },
-
-  clauseAt(line) {
-    return this.session.clauses.find((clause) => clause.line <= line && line <= clause.endLine);
-  },
-
-  on_breakpointLocations({ line, endLine = line }) {
-    const [from, to] = [line, endLine].map((number) => this.places.meant(number));
-    const found = this.session.clauses.filter((clause) => clause.line <= to && clause.endLine >= from);
-    return { breakpoints: found.map((clause) => ({ line: this.places.shown(clause.line) })) };
-  },
-
-  async on_setBreakpoints({ source, breakpoints }) {
-    const isOurs = source.path !== undefined && path.resolve(source.path) === this.places.file, points = [];
-    const answered = answers(this, breakpoints, (given) => {
-      const clause = isOurs ? this.clauseAt(this.places.meant(given.line)) : undefined;
-      if (clause === undefined) return "no clause stands here";
-      const point = this.breakpoints.made("clause", { ...given, own: { predicate: clause.predicate, clause: clause.number } });
-      points.push(point);
-      const message = `stops before a goal to which clause ${clause.number} says yes`;
-      return { id: point.id, verified: true, line: this.places.shown(clause.line), source: this.places.source(), message };
-    });
-    if (isOurs) this.breakpoints.clauses = points;
-    await this.breakpoints.spy(this.session);
-    return { breakpoints: answered };
-  },
-
-  async on_setFunctionBreakpoints({ breakpoints }) {
-    const points = [], { predicates } = this.session;
-    const answered = answers(this, breakpoints, (given) => {
-      const found = predicates.filter((predicate) => predicate === given.name || predicate.split("/")[0] === given.name);
-      if (found.length === 0) return `no such predicate; there are: ${predicates.join(", ")}`;
-      const made = found.map((predicate) => this.breakpoints.made("predicate", { ...given, own: { predicate } }));
-      points.push(...made);
-      return { id: made[0].id, verified: true };
-    });
-    this.breakpoints.predicates = points;
-    await this.breakpoints.spy(this.session);
-    return { breakpoints: answered };
-  },
-
-  on_setExceptionBreakpoints({ filters }) {
-    this.breakpoints.stopsWhereStuck = filters.includes("stuck");
-    return { breakpoints: filters.map(() => ({ verified: true })) };
-  },
-
-  async on_dataBreakpointInfo({ name, variablesReference, frameId }) {
-    const term = await this.inside.termNamed(name, variablesReference ?? frameId) ?? await this.termShown(name, variablesReference);
-    if (term?.variable === undefined) return { dataId: null, description: `${name} is no variable of the run` };
-    const description = `${term.variable}: forwards, where it is bound; backwards, before the step that bound it`;
-    return { dataId: term.variable, description, accessTypes: ["write"], canPersist: false };
-  },
-
-  on_setDataBreakpoints({ breakpoints }) {
-    this.breakpoints.variables = (breakpoints ?? []).map(({ dataId }) => ({ id: this.breakpoints.last += 1, variable: dataId }));
-    return { breakpoints: this.breakpoints.variables.map(({ id }) => ({ id, verified: true })) };
   },
 
   async on_disconnect() {

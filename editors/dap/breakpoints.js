@@ -2,32 +2,15 @@
 // predicate alone (`spy`); the rest is found out at each such stop.
 "use strict";
 
-const Print = require("../../model/print.js");
-const Reader = require("../../model/reader.js");
+const { fits } = require("./options.js");
 
-const leastHits = (text) => Number(/\d+/.exec(text ?? "")?.[0] ?? 1);
-
-/** Does a goal fit a pattern, as `price(3,_)`? A variable of the pattern fits everything. */
-function fits(pattern, term, run) {
-  if (pattern.variable !== undefined) return true;
-  const end = run.endOf(term);
-  if (pattern.integer !== undefined || end.arguments === undefined) return pattern.integer === end.integer && pattern.arguments === end.arguments;
-  if (pattern.name !== end.name || pattern.arguments.length !== end.arguments.length) return false;
-  return pattern.arguments.every((argument, place) => fits(argument, end.arguments[place], run));
-}
-
-/** The pattern of a condition; undefined where the text is no term. */
-function patternOf(text) {
-  try {
-    return Reader.readTerm(text);
-  } catch {
-    return undefined;
-  }
-}
+// The filters of exceptions that an editor may set.
+const FILTERS = [{ filter: "stuck", label: "Goals wait, and none is ready", default: true }];
 
 class Breakpoints {
   constructor() {
     this.last = 0;
+    this.asked = new Map(); // the editor's last request of each kind, by the method that sets its breakpoints
     this.clauses = [];
     this.predicates = [];
     this.variables = [];
@@ -35,11 +18,10 @@ class Breakpoints {
     this.stopsWhereStuck = true;
   }
 
-  /** A breakpoint with a number of its own and the options that the editor gave. */
-  made(kind, options) {
+  /** A number for a breakpoint. */
+  number() {
     this.last += 1;
-    const { condition, hitCondition, logMessage } = options;
-    return { id: this.last, kind, hits: 0, condition: condition ? patternOf(condition) : undefined, least: leastHits(hitCondition), logMessage, ...options.own };
+    return this.last;
   }
 
   /** Makes the console spy just the predicates at which a run may have to stop. */
@@ -55,37 +37,33 @@ class Breakpoints {
    * is called with the message of a breakpoint that only tells something.
    */
   async met(session, name, log) {
-    const run = await session.look(), predicate = run.predicateOf(name), call = run.goalOf(name)?.call;
+    const run = await session.look(), predicate = run.predicateOf(name);
     const saysYes = new Set(await session.clausesSayingYes(name));
     for (const point of [...this.clauses, ...this.predicates]) {
       if (point.predicate !== predicate || (point.clause !== undefined && !saysYes.has(point.clause))) continue;
-      if (point.condition !== undefined && (call === undefined || !fits(point.condition, call, run))) continue;
+      if (!fitsGoal(point, name, run)) continue;
       point.hits += 1;
       if (point.hits < point.least) continue;
-      if (!point.logMessage) return point;
-      log(messageOf(point.logMessage, name, run));
+      if (point.messageOf === undefined) return point;
+      log(point.messageOf(run, name));
     }
     return undefined;
   }
 
   /** The breakpoint before which a kept step lies, for a run backwards. A clause's stops where the step took that clause. */
   before(step, run) {
-    const predicate = run.predicateOf(step.goal), call = run.goalOf(step.goal)?.call;
+    const predicate = run.predicateOf(step.goal);
     return [...this.clauses, ...this.predicates].find((point) => {
       const isItsPlace = point.predicate === predicate && (point.clause === undefined || point.clause === step.clause);
-      return isItsPlace && !point.logMessage && (point.condition === undefined || (call !== undefined && fits(point.condition, call, run)));
+      return isItsPlace && point.messageOf === undefined && fitsGoal(point, step.goal, run);
     });
   }
 }
 
-/** A log message: {goal} is the goal's text, {name} its name, {X} a variable of the query. */
-function messageOf(text, name, run) {
-  return text.replace(/\{(.*?)\}/g, (all, word) => {
-    if (word === "goal") return run.textOf(name);
-    if (word === "name") return name;
-    const [variable] = /^_\d+_\d+$/.test(word) ? [word] : run.variablesNamed(word);
-    return variable === undefined ? all : Print.term({ variable }, { store: run, most: 200 });
-  });
+/** Does a goal fit the condition of a breakpoint, where it has one? */
+function fitsGoal({ pattern }, name, run) {
+  const call = run.goalOf(name)?.call;
+  return pattern === undefined || (call !== undefined && fits(pattern, call, run));
 }
 
-module.exports = { Breakpoints };
+module.exports = { Breakpoints, FILTERS };

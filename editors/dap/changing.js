@@ -4,8 +4,11 @@
 const { isRefusal } = require("../../terminal/session.js");
 const { notesAfter } = require("../../terminal/telling.js");
 const { suggestionFor, NAMES } = require("../../terminal/commands.js");
+const { termOf } = require("./options.js");
 const { goalsMade } = require("./told.js");
 const { refused } = require("./refused.js");
+
+const NO_VALUE = ": a value is one term, as 3, red or [1,2]; nothing is computed";
 
 module.exports = {
   /** A line of the console as it was typed; where it changed the session, the editor hears of a stop. */
@@ -37,6 +40,7 @@ module.exports = {
     const run = await this.session.look(), end = term && run.endOf(term);
     if (term?.variable === undefined) throw refused("this is no variable");
     if (end.variable === undefined) throw refused(`${run.labelOf(term.variable)} is bound: take back the step that bound it (who ${term.variable}), then set it`);
+    if (termOf(value) === undefined) throw refused(`${value}${NO_VALUE}`);
     const asked = await this.change(`ask ${end.variable} = ${value}`), [goal] = goalsMade(asked);
     const reply = await this.session.ask(`step ${goal}`);
     if (isRefusal(reply)) {
@@ -45,7 +49,7 @@ module.exports = {
     }
     this.tell(reply);
     this.later(() => this.stoppedAnew(`${run.labelOf(end.variable)} was bound by hand`));
-    return { value };
+    return { value: String(value) };
   },
 
   on_ghcdb_undo({ step }) {

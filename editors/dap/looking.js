@@ -4,9 +4,9 @@
 const path = require("node:path");
 const Own = require("../../terminal/own.js");
 const Stuck = require("../../model/stuck.js");
-const { NAMES, commandOf, helpLines, isNewer } = require("../../terminal/commands.js");
+const { NAMES, commandOf, helpLines } = require("../../terminal/commands.js");
 const { completionsOf } = require("../../terminal/complete.js");
-const { whyNoClause } = require("../../terminal/telling.js");
+const { plural, whyNoClause } = require("../../terminal/telling.js");
 const { QUERY, STEPS, SHELF } = require("./places.js");
 const { refused } = require("./refused.js");
 
@@ -22,17 +22,27 @@ module.exports = {
       if (!threads.has(id) && threads.size < MOST_THREADS) threads.set(id, { id, name: `${goal.name} ${goal.text.slice(0, 60)}   ${statusOf(goal)}` });
     }
     const all = [...threads.values()].sort((one, other) => one.id - other.id);
-    return { threads: all.length > 0 ? all : [{ id: 1, name: "all is done" }] };
+    return { threads: all.length > 0 ? all : [{ id: 1, name: await this.whyNoGoal() }] };
   },
 
   async on_stackTrace({ threadId, startFrame = 0, levels }) {
     const goal = await this.goalOf(threadId), { run } = this.session;
-    if (goal === undefined) return { stackFrames: [{ id: this.inside.reference("done"), name: "all is done", ...this.places.spotOf(undefined) }], totalFrames: 1 };
+    if (goal === undefined) {
+      const id = this.inside.reference("done"), name = await this.whyNoGoal();
+      return { stackFrames: [{ id, name, ...this.places.spotOf(undefined) }], totalFrames: 1 };
+    }
     const steps = [];
     for (let step = run.makerOf(goal.name); step !== undefined; step = step.goal === null ? undefined : run.makerOf(step.goal)) steps.push(step);
     const shown = [goal, ...steps].slice(startFrame, startFrame + (levels || MOST_FRAMES));
     for (const one of shown) if (one !== goal && one.goal !== null && this.frameText(one.goal) === undefined) this.frameTexts.set(one.goal, await this.session.goalTaken(one));
     return { stackFrames: shown.map((one) => (one === goal ? this.frameOfGoal(goal) : this.frameOfStep(one))), totalFrames: steps.length + 1 };
+  },
+
+  /** Why a process has no goal, in words: it alone has ended, or all have. */
+  async whyNoGoal() {
+    const goals = await this.session.goalsTold();
+    if (goals === undefined) return "no goal is shown: one is too long";
+    return goals.length === 0 ? "all is done" : `this process has ended; others have ${plural(goals.length, "goal")}`;
   },
 
   frameOfGoal(goal) {
@@ -119,20 +129,8 @@ module.exports = {
     if (commandOf(word) === "help") return helpLines(words);
     if (["stuck", "stat"].includes(name)) return Own[name](this.session, words);
     if (["holders", "list"].includes(name) && words.length < 2) return Own[name](this.session, words);
-    if (isNewer(name) && words.length === (name === "causes" ? 0 : 1)) return this.askNewer(name, line, words);
+    const version = words[0] === "1" ? "1" : "", file = words.slice(version.length).join(" ");
+    if (name === "save" && file !== "") return this.session.saveInto(file, version);
     return this.typed(line, word);
-  },
-
-  /** A newer command of the console: where the console does not know it, it is answered from the run. */
-  async askNewer(name, line, words) {
-    const before = this.session.kept.changes, reply = await this.session.askNewer(line), rolls = [];
-    if (reply !== undefined) return this.answered(line, name, reply, before);
-    const lines = await Own[name](this.session, words, async (roll) => {
-      const rolled = await this.session.ask(roll);
-      rolls.push(...rolled);
-      return rolled;
-    });
-    if (this.session.kept.changes !== before) this.later(() => this.stoppedAnew(line));
-    return [...rolls, ...lines];
   },
 };

@@ -23,7 +23,10 @@ module.exports = {
 
   /** Runs on to a reason to stop. */
   async forward() {
-    const stop = await this.running(() => this.runSlices());
+    const stop = await this.running(() => this.runSlices()).catch((error) => {
+      if (error instanceof Ended) throw error;
+      return ["pause", error.message]; // a breakpoint could not be looked at, as where a value is too long
+    });
     await this.stopped(...stop);
   },
 
@@ -49,15 +52,21 @@ module.exports = {
     return lines.length;
   },
 
+  /** What the console shows of a variable; of one that a step is yet to make as of one that nothing has bound. */
+  async shownValue(variable) {
+    const [line] = await this.session.ask(`show ${variable}`);
+    return line.startsWith("F23 ") ? `${variable} = ${variable}` : line;
+  },
+
   async watchedValues() {
     const values = new Map();
-    for (const point of this.breakpoints.variables) values.set(point, (await this.session.ask(`show ${point.variable}`))[0]);
+    for (const point of this.breakpoints.variables) values.set(point, await this.shownValue(point.variable));
     return values;
   },
 
   /** The data breakpoint whose variable has another value than before; undefined where none has. */
   async boundNow(watched) {
-    for (const [point, before] of watched) if ((await this.session.ask(`show ${point.variable}`))[0] !== before) return point;
+    for (const [point, before] of watched) if (await this.shownValue(point.variable) !== before) return point;
     return undefined;
   },
 
@@ -73,6 +82,7 @@ module.exports = {
 
   async atEnd(reason, name) {
     const goals = await this.goalsTold();
+    if (goals.length === 0 && await this.session.goalsTold() === undefined) return ["pause", `stopped ${reason}`];
     if (reason === "clash") return ["exception", `${name} ${goals.find((goal) => goal.name === name)?.text} has failed`, { thread: this.processes.of(name) }];
     if (reason !== "quiet") return ["pause", reason];
     const waiting = goals.filter(({ status }) => status === "waits");
@@ -111,6 +121,21 @@ module.exports = {
       }
     });
     await this.stopped(...stop);
+  },
+
+  /** Asks a run to stop: in slices it does so after one, in one piece it is ended. */
+  stopRun() {
+    this.wantsPause = true;
+    if (!this.isSkipping || this.ending !== undefined) return;
+    this.ending = this.session.endRun();
+    this.ending.catch((error) => this.goesOn(error));
+  },
+
+  /** Tells that a run could not be ended, and goes on. Where the program has ended, the run hears of it. */
+  goesOn(error) {
+    if (error instanceof Ended) return;
+    this.ending = undefined;
+    this.tell([`${error.message}; the run goes on`], "important");
   },
 
   /** Backwards: to before the step that bound a watched variable, else to before a step at a breakpoint, else to the beginning. */

@@ -15,7 +15,7 @@ module.exports = {
   /** The goal to be stepped; refuses where the process is done. */
   async goalToStep(thread) {
     const goal = await this.goalOf(thread);
-    if (goal === undefined) throw refused("all is done: step back, or end");
+    if (goal === undefined) throw refused(`${await this.whyNoGoal()}: step back, or end`);
     return goal;
   },
 
