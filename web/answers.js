@@ -4,11 +4,11 @@ const Answers = (() => {
 
   const { find, make, linkedLine } = Elements;
   const MOST_SHOWN = 8; // lines
-  const isRefusal = (line) => /^F\d+ /.test(line);
   let shown = 0;
 
   const wordsOf = (line) => line.trim().replace(/ +/g, " ");
-  const isRefused = (entry) => entry.length === 1 && isRefusal(entry.reply[0]);
+  const isRefused = (entry) => entry.length === 1 && Replies.isRefusal(entry.reply[0]);
+  const isBroken = (entry) => entry.length > 1 && Files.isBroken(entry);
 
   function put(isBad, ...parts) {
     const area = find("answer"), close = make("button", { class: "small", id: "close-answer", title: "Closes this line", "aria-label": "Close the answer" }, "×");
@@ -82,6 +82,10 @@ const Answers = (() => {
     put(true, make("code", null, Terms.cut(line, 60)), ` ${note}.`, note.startsWith("stopped") && /^(leap|skip)\b/.test(line) ? " With a number, as in leap 10000, a run ends by itself." : "");
   }
 
+  /** A history that is not whole. */
+  const tellBroken = ({ line }) => put(true, make("code", null, wordsOf(line)),
+    ` told no whole history: ${Files.HOLE}. ${Files.AGAIN}.`);
+
   /** After lines: what was not taken, else the last refusal among them, else the answer to a question. */
   function show(what) {
     const fresh = what === "lines" ? Talk.entries.slice(shown) : [], refused = fresh.filter(isRefused).pop(), last = fresh[fresh.length - 1];
@@ -91,6 +95,7 @@ const Answers = (() => {
     const asked = refused ? partsOfAsked(refused) : [];
     if (last && last.note) tellNote(last);
     else if (refused) put(true, make("code", null, wordsOf(refused.line)), " was refused: ", ...linkedLine(refused.reply[0]), make("div", null, ...(asked.length > 0 ? asked : partsOfLimit(refused))));
+    else if (last && isBroken(last)) tellBroken(last);
     else if (last && last.slice) Resting.tell(wordsOf(last.line).split(" ")[1], last.slice);
     else if (last && /^(why|who) /.test(wordsOf(last.line)) && last.reply[0] !== "none") {
       tellReply(last);

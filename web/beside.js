@@ -41,7 +41,7 @@ const Beside = (() => {
   function swap() {
     const { kept } = beside, now = frozen();
     Page.begin(kept.given);
-    if (kept.lines.length > 0) Talk.send(...kept.lines);
+    if (kept.lines.length > 0) Talk.sendAll(kept.lines);
     beside.kept = now;
   }
 
@@ -99,5 +99,7 @@ const Beside = (() => {
     } else Answers.put(false, `Only in the run that was kept: ${Terms.cut(Picture.tellStep(beside.kept, beside.kept.graph.byNumber.get(number)).split("\n").join(", "), 300)}`);
   }
 
-  return Object.assign(beside, { isOn, keep, drop, swap, tryClause, follow, draw, columns, noteParts, onClick });
+  return Object.assign(beside, {
+    MOST_STEPS, isOn, keep, drop, swap, tryClause, follow, draw, columns, noteParts, onClick,
+  });
 })();

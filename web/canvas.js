@@ -15,6 +15,7 @@ const Canvas = (() => {
   function draw() {
     if (Talk.refusal || !Talk.session) {
       find("canvas").textContent = "";
+      canvas.view = null;
       return;
     }
     if (!Talk.run.isWhole) return; // when all of a change is read, it is drawn
@@ -31,7 +32,8 @@ const Canvas = (() => {
     if (canvas.chosen || canvas.slice || canvas.way.size > 0 || Overview.hits.length > 0) showChosen();
   }
 
-  const isThere = (chosen) => (chosen.step !== undefined ? Talk.run.graph.byNumber.has(chosen.step) : Talk.run.goals.some((goal) => goal.name === chosen.goal));
+  const isGoalThere = (name) => Overview.run().goals.some((goal) => goal.name === name);
+  const isThere = ({ step, goal }) => (step !== undefined ? Talk.run.graph.byNumber.has(step) : isGoalThere(goal));
   const placeOf = (chosen) => (chosen.step !== undefined ? canvas.view.marks.get(chosen.step) : canvas.view.goals.get(chosen.goal));
 
   /** The element of a step or goal in the picture. */
@@ -50,7 +52,7 @@ const Canvas = (() => {
 
   /** Lights up the chosen step with all its causes and effects, or a slice; all else is faint. */
   function showChosen() {
-    const svg = find("canvas").querySelector("svg"), { chosen } = canvas, { graph } = Talk.run;
+    const svg = find("canvas").querySelector("svg"), { chosen } = canvas, { graph } = Overview.run();
     if (!svg) return;
     const step = chosen && graph.byNumber.has(chosen.step) ? chosen.step : undefined;
     const reach = step ? Overview.reachOf(step) : null, amongst = (found) => ({ has: (number) => found.isIn[graph.indexOf(number)] === 1 });
@@ -152,8 +154,9 @@ const Canvas = (() => {
   function scrollTo(chosen) {
     const hasMoved = chosen.step !== undefined && Overview.show(chosen.step);
     if (hasMoved) draw();
-    const area = find("canvas"), place = placeOf(chosen), left = canvas.view.left;
+    const area = find("canvas"), place = canvas.view && placeOf(chosen);
     if (!place) return;
+    const { left } = canvas.view;
     let { scrollLeft: toLeft, scrollTop: toTop } = area;
     if (hasMoved) toLeft = 0;
     if (place.x - left < toLeft) toLeft = Math.max(0, place.x - left - 60);
@@ -164,14 +167,18 @@ const Canvas = (() => {
   }
 
   /** All that can be chosen of what is shown, in the order of the picture: the steps, then the goals. */
-  const choices = () => [...[...canvas.view.marks.keys()].map((step) => ({ step })), ...[...canvas.view.goals.keys()].map((goal) => ({ goal }))];
+  function choices() {
+    if (canvas.view === null) return [];
+    const { marks: steps, goals } = canvas.view;
+    return [...[...steps.keys()].map((step) => ({ step })), ...[...goals.keys()].map((goal) => ({ goal }))];
+  }
 
   /** What the picture says of a step or of an arrow. */
   function wordsFor(element) {
-    const { graph } = Talk.run, { step, from, to } = element.dataset;
-    if (step !== undefined) return Picture.tellStep(Talk.run, graph.byNumber.get(Number(step)));
+    const run = Overview.run(), { graph } = run, { step, from, to } = element.dataset;
+    if (step !== undefined) return Picture.tellStep(run, graph.byNumber.get(Number(step)));
     const edge = to === undefined ? undefined : graph.causes.get(Number(to)).find((one) => one.from === Number(from));
-    return edge && edge.kind !== "made" ? Picture.tellArrow(Talk.run, edge) : "";
+    return edge && edge.kind !== "made" ? Picture.tellArrow(run, edge) : "";
   }
 
   /** Puts words on what one points at. A picture that is drawn with all its words takes longer to show. */
@@ -191,7 +198,7 @@ const Canvas = (() => {
     if (at < 0) return key === "ArrowLeft" ? all[all.length - 1] : all[0];
     if (key === "ArrowLeft" || key === "ArrowRight") return all[at + (key === "ArrowLeft" ? -1 : 1)];
     if (canvas.chosen.step === undefined) return undefined;
-    const edges = key === "ArrowUp" ? Talk.run.graph.causes : Talk.run.graph.effects;
+    const edges = key === "ArrowUp" ? Overview.run().graph.causes : Overview.run().graph.effects;
     const [edge] = edges.get(canvas.chosen.step).slice(-1);
     return edge && { step: key === "ArrowUp" ? edge.from : edge.to };
   }

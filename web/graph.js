@@ -127,7 +127,6 @@ const Graph = (() => {
   const KINDS = ["reduce", "unify", "assign", "input", "close", "ask"];
   const MOST_WITH_IMPLIED = 3000; // steps; of a longer run it is not looked for which edges others imply
   const MOST_KEPT = 20000; // steps and lists of causes that are kept after they were read
-  const MOST_WAITING_EDGES = 20000;
   const NONE = -1, MOVED = 4096; // no index; steps that are moved up without a pause
   const MADE = 0, READ = 1, NAMED = 2, WAYS = 3, WOKE = 4; // how a step depends on another one
   const WORDS = ["made", "read", "named"];
@@ -466,7 +465,10 @@ const Graph = (() => {
      * that stays depends on one that goes. All that comes later moves up; yields now and then.
      */
     *remove(to, first) {
-      for (let index = first; index < this.count; index++) if (to[index] === NONE) this.forgetStep(index);
+      for (let index = first; index < this.count; index++) {
+        if (index % MOVED === 0) yield index;
+        if (to[index] === NONE) this.forgetStep(index);
+      }
       this.forget();
       const end = this.count, perStep = [this.numbers, this.kinds, this.clauses, this.makers, this.places, this.depths];
       let step = first, made = this.firstMade.at(first), edge = this.firstCause.at(first);
@@ -487,6 +489,7 @@ const Graph = (() => {
       this.shorten(step, made, edge);
       for (let at = 0; at < made; at++) if (this.consumers.at(at) >= first) this.consumers.all[at] = to[this.consumers.at(at)];
       for (const [place, index] of this.queryConsumers) this.queryConsumers.set(place, to[index]);
+      yield step;
       this.chainEffects();
     }
 
@@ -645,63 +648,9 @@ const Graph = (() => {
     return order;
   }
 
-  /** The goals that have each variable in their text. */
-  function holdersOf(goals) {
-    const holders = new Map();
-    for (const goal of goals) {
-      for (const variable of variablesIn(goal.text)) {
-        if (!holders.has(variable)) holders.set(variable, []);
-        holders.get(variable).push(goal);
-      }
-    }
-    return holders;
-  }
-
-  /**
-   * For each waiting goal and each variable that it waits for: the goals that have that variable, and do not wait for it too. Of more
-   * edges than a picture or a sentence can use the first are found.
-   */
-  function waitingEdges(goals) {
-    const holders = holdersOf(goals), edges = [];
-    for (const goal of goals) {
-      for (const variable of goal.waitsFor) {
-        const others = (holders.get(variable) || []).filter((other) => other !== goal && !other.waitsFor.includes(variable));
-        for (const other of others) edges.push({ from: goal.name, to: other.name, variable });
-      }
-      if (edges.length > MOST_WAITING_EDGES) break;
-    }
-    return edges;
-  }
-
-  /** The names of goals that wait for each other in a circle, in its order; none where there is no circle. */
-  function circleOf(goals) {
-    const next = new Map(goals.filter((goal) => goal.status === "waits").map((goal) => [goal.name, []]));
-    for (const edge of waitingEdges(goals)) if (next.has(edge.to)) next.get(edge.from).push(edge.to);
-    const done = new Set();
-    for (const start of next.keys()) {
-      const way = [], onWay = new Map(), left = done.has(start) ? [] : [{ name: start, at: 0 }];
-      while (left.length > 0) {
-        const top = left[left.length - 1];
-        if (top.at === 0) {
-          onWay.set(top.name, way.length);
-          way.push(top.name);
-        }
-        const others = next.get(top.name), other = others[top.at];
-        top.at += 1;
-        if (other !== undefined && onWay.has(other)) return way.slice(onWay.get(other));
-        if (other !== undefined && !done.has(other)) left.push({ name: other, at: 0 });
-        if (top.at <= others.length) continue;
-        done.add(top.name);
-        onWay.delete(way.pop());
-        left.pop();
-      }
-    }
-    return [];
-  }
-
   return {
     splitOutside, variablesIn, wordsOf, readRecords, readShelf, readGoals, readClauses, predicateOf, sortOfText, graphOf, partOf, MADE, READ, NAMED, WOKE,
-    allCauses, allEffects, whyLines, tidyOrder, waitingEdges, circleOf, RunGraph, causesReached, effectsReached, nameParts, readRecord, NONE,
+    allCauses, allEffects, whyLines, tidyOrder, RunGraph, causesReached, effectsReached, nameParts, readRecord, NONE,
   };
 })();
 if (typeof module !== "undefined") module.exports = Graph;

@@ -3,15 +3,20 @@ const Keeping = (() => {
   "use strict";
 
   const { find, make } = Elements;
-  const NAME = "ghcdb.session", MOST = 5; // sessions that are kept
+  const NAME = "ghcdb.session", MOST = 5, MOST_OF_ONE = 3; // sessions of one's own programs that are kept; of one text
   const PAUSE = 400; // milliseconds after a letter was typed
-  let name = null; // of this session in the storage; null before anything of it is kept
-  let before = [], timer = null;
+  let name = null; // of this session in the storage, where no other one writes; null before anything of it is kept
+  let source = null; // the name of the session that was kept, and that this one went on from
+  let origin = null; // the name of the first session of this text, which was changed since, and started again
+  let left = null; // what was given to the session that was left, until another one has begun
+  let before = [], timer = null, isKept = true;
+  let asked = null; // what is to begin once one has said that what stands here may go
 
   const warn = (event) => event.preventDefault();
 
   /** Whether the browser keeps the lines; where it does not, it asks before the page is left. */
-  function setKept(isKept) {
+  function setKept(isSo) {
+    isKept = isSo;
     if (isKept) window.removeEventListener("beforeunload", warn);
     else window.addEventListener("beforeunload", warn);
   }
@@ -20,6 +25,7 @@ const Keeping = (() => {
   const linesText = () => SessionText.write({ ...Talk.given, entries: Talk.typedLines().map((line) => ({ line, reply: [] })) });
 
   const isExample = (program) => EXAMPLES.some((example) => example.program === program);
+  const isOwn = () => !Guide.isOn() && !(isExample(Page.typed().program) && isExample(Talk.given.program));
 
   /** What there is to be kept: the session, and what was typed since its Start; null where all of it stands in an example. */
   function now() {
@@ -31,9 +37,10 @@ const Keeping = (() => {
   /** What was kept under a name; null where nothing can be read there. */
   function read(key) {
     try {
-      const kept = localStorage.getItem(key), { text, draft = null, at = 0 } = kept.startsWith("{") ? JSON.parse(kept) : { text: kept };
+      const kept = localStorage.getItem(key), found = kept.startsWith("{") ? JSON.parse(kept) : { text: kept };
+      const { text, draft = null, at = 0, isOwn: own, of = key } = found;
       const session = SessionText.read(text, () => undefined);
-      return session === null ? null : { ...session, draft, at, key };
+      return session === null ? null : { ...session, draft, at, key, of, isOwn: own ?? !isExample(session.program) };
     } catch {
       return null;
     }
@@ -49,22 +56,66 @@ const Keeping = (() => {
     }
   }
 
-  /** Whether a session that is kept has all of this one, which is none yet. */
-  function isWithin({ program, query, history, lines, draft }) {
-    const { given } = Talk, typed = Talk.typedLines();
-    return !Page.isChanged() && draft === null && program === given.program && query === given.query && history === given.history && typed.every((line, at) => line === lines[at]);
+  const isOfGiven = (session) => ["program", "query", "history"].every((part) => session[part] === Talk.given[part]);
+
+  /** Whether a session that is kept has all of this one. */
+  function isWithin(session) {
+    if (Page.isChanged() || session.draft !== null || !isOfGiven(session)) return false;
+    return Talk.typedLines().every((line, at) => line === session.lines[at]);
   }
 
-  /** Keeps the session as it is; where the browser refuses that, it warns before the page is left. */
+  /** Whether this session has all lines of one that is kept. */
+  function holdsAll(session) {
+    const typed = Talk.typedLines();
+    return isOfGiven(session) && session.lines.every((line, at) => line === typed[at]);
+  }
+
+  /** Is a session one too many of its text? The newest ones come first. */
+  const isOneTooMany = ({ of }, at, own) => own.slice(0, at).filter((other) => other.of === of).length >= MOST_OF_ONE;
+
+  /** Forgets the oldest sessions. Examples have the places that one's own programs leave, and one at least. */
+  function forgetOldest() {
+    const kept = all(), own = kept.filter((session) => session.isOwn), many = own.filter(isOneTooMany);
+    const stay = own.filter((session) => !many.includes(session)), others = kept.filter((session) => !session.isOwn);
+    const gone = [...many, ...stay.slice(MOST), ...others.slice(Math.max(1, MOST - stay.length))];
+    for (const { key } of gone) localStorage.removeItem(key);
+  }
+
+  /** Where this session has all that the one had from which it went on, it takes that one's place. */
+  function replaceSource() {
+    const kept = source === null ? null : read(source);
+    if (kept === null || !holdsAll(kept)) return;
+    localStorage.removeItem(source);
+    source = null;
+  }
+
+  /** Writes what is to be kept under the session's own name. */
+  function write(kept) {
+    const isNew = name === null, at = Date.now();
+    name = name || `${NAME}.${at}.${Math.random()}`;
+    origin = origin || name;
+    localStorage.setItem(name, JSON.stringify({ ...kept, at, isOwn: isOwn(), of: origin }));
+    replaceSource();
+    if (isNew) forgetOldest();
+  }
+
+  function isTooLong() {
+    const { program, query, history } = Talk.given;
+    return Talk.entries.length > Links.MOST_LINES || program.length + query.length + history.length > Links.MOST_READ;
+  }
+
+  /** Keeps the session as it is; where it is too long, or the browser refuses it, the page warns before it is left. */
   function keep() {
     clearTimeout(timer);
-    const kept = now(), at = Date.now();
-    if (kept === null || (name === null && all().some((other) => isWithin(other)))) return;
-    const isNew = name === null;
-    name = name || `${NAME}.${at}.${Math.random()}`;
+    if (Talk.given === left) return;
+    if (isTooLong() || Replies.hasHole(Talk.given.history)) {
+      setKept(false);
+      return;
+    }
+    const kept = now();
+    if (kept === null || (name === null && all().some(isWithin))) return;
     try {
-      localStorage.setItem(name, JSON.stringify({ ...kept, at }));
-      if (isNew) for (const { key } of all().slice(MOST)) localStorage.removeItem(key);
+      write(kept);
       setKept(true);
     } catch {
       setKept(false);
@@ -80,18 +131,47 @@ const Keeping = (() => {
   /** Another session begins: this one stays as it is kept. Gives its name where its program is the user's own. */
   function leave() {
     keep();
-    const isOwn = !Guide.isOn() && !(isExample(Page.typed().program) && isExample(Talk.given.program)), left = isOwn ? name : null;
+    const own = isOwn() ? name || source : null;
+    left = Talk.given;
     name = null;
-    return left;
+    source = null;
+    origin = null;
+    return own;
   }
 
-  /** Begins another session than the one that stands here, and offers to bring that one back where its program is the user's own. */
+  /** The same where its text starts again, and something was done; a program that was only typed keeps its name. */
+  function leaveDone() {
+    const first = origin;
+    if (Talk.given === left || (Talk.entries.length === 0 && Talk.given.history === "")) return;
+    leave();
+    origin = first;
+  }
+
+  /** Begins another session than the one that stands here. Where this one is not kept, it asks first. */
   async function beginOther(begins) {
-    const left = leave();
-    begins();
+    keep();
+    if (isKept || now() === null) {
+      await beginNow(begins);
+      return;
+    }
+    asked = begins;
+    const goes = make("button", { class: "small danger", id: "go-without" }, "Go on without it");
+    Answers.put(true, "What stands here is not kept in this browser; Save writes it as a file. ", goes);
+  }
+
+  /** Begins what was asked for, though what stands here is not kept. */
+  function goWithout() {
+    Answers.hide();
+    return beginNow(asked);
+  }
+
+  /** Begins another session, and offers to bring this one back where its program is the user's own. */
+  async function beginNow(begins) {
+    const own = leave();
+    await begins();
     await Talk.settled();
-    if (left === null || !find("answer").hidden) return;
-    before = all().filter(({ key }) => key === left);
+    if (own === null || !find("answer").hidden) return;
+    before = all().filter(({ key }) => key === own);
     if (before.length > 0) Answers.put(false, "Your own program is kept. ", make("button", { class: "small main-button", "data-go-on": 0 }, "Go back to it"));
   }
 
@@ -123,19 +203,26 @@ const Keeping = (() => {
 
   /** Plays a session that was kept, and puts there what was typed since its Start. */
   async function goOn(index) {
-    const { program, query, history, lines, draft, key } = before[index];
+    const { program, query, history, lines, draft, key, of } = before[index];
     leave();
-    name = key;
     Page.begin({ program, query, history });
-    if (lines.length > 0) Talk.send(...lines);
+    if (lines.length > 0) Talk.sendAll(lines);
     await Talk.settled();
+    if (!isOfGiven(before[index])) return;
     if (draft !== null) Page.setTyped(draft);
+    source = key;
+    origin = of;
+    keep();
   }
 
-  /** The address of the page with all of the session in it; null where it would be too long. */
+  /** The address of the page with all of the session in it, or in words by how much it is too long. */
   async function address() {
-    const letters = await Links.pack(linesText());
-    return letters.length > Links.MOST ? { letters: letters.length } : { link: `${location.href.split("#")[0]}#s=${letters}` };
+    const text = linesText(), told = (number) => number.toLocaleString("en"), { MOST, MOST_READ, MOST_LINES } = Links;
+    const isLong = text.length > MOST_READ || Talk.entries.length > MOST_LINES;
+    if (isLong) return { tooLong: `${told(MOST_READ)} bytes and ${told(MOST_LINES)} lines at most` };
+    const letters = await Links.pack(text);
+    if (letters.length > MOST) return { tooLong: `${told(letters.length)} letters, ${told(MOST)} at most` };
+    return { link: `${location.href.split("#")[0]}#s=${letters}` };
   }
 
   /** Puts the session into the address, and shows it to be copied. */
@@ -144,9 +231,9 @@ const Keeping = (() => {
       Answers.put(true, "This browser cannot compress a text for a link. Save writes the session as a file.");
       return;
     }
-    const { link, letters } = await address();
+    const { link, tooLong } = await address();
     if (link === undefined) {
-      Answers.put(true, `This session is too long for a link (${letters.toLocaleString("en")} letters, ${Links.MOST.toLocaleString("en")} at most). Save writes it as a file.`);
+      Answers.put(true, `This session is too long for a link (${tooLong}). Save writes it as a file.`);
       return;
     }
     history.replaceState(null, "", link);
@@ -171,5 +258,5 @@ const Keeping = (() => {
     window.addEventListener("pagehide", keep);
   }
 
-  return { keep, offer, goOn, forget, beginOther, makeLink, copyLink, listenToAll };
+  return { keep, leaveDone, offer, goOn, forget, beginOther, goWithout, makeLink, copyLink, listenToAll };
 })();

@@ -1,9 +1,10 @@
 // Puts a run into lanes, one for each process and each ask, and gives every step and goal its place. Pure functions.
-const Lanes = ((Graph, Terms) => {
+const Lanes = ((Graph, Terms, Stuck) => {
   "use strict";
 
   const between = (least, value, most) => Math.max(least, Math.min(value, most));
   const MOST_CLEAR_ROWS = 5;
+  const MANY = 1024; // steps between two places where one may pause
   const MOST_ARCS = 40;
   const NARROW = 600; // the room below which names are short
   const BOLD_LETTER = 0.62, LETTER = 0.56; // the width of a letter, as a part of the font's size
@@ -126,10 +127,11 @@ const Lanes = ((Graph, Terms) => {
       for (const place of places) this.ofQuery.set(place, this.begin(`0.${place}`, this.ring, -1, null, null));
     }
 
-    /** Takes away what came with the steps from an index on. */
-    cut(graph, count) {
+    /** Takes away what came with the steps from an index on; yields now and then. */
+    *cut(graph, count) {
       if (this.ofStep.length > count) this.ofMade.length = Math.min(this.ofMade.length, count < graph.count ? graph.firstMade.at(count) : graph.consumers.length);
       while (this.ofStep.length > count) {
+        if (this.ofStep.length % MANY === 0) yield this.ofStep.length;
         const lane = this.ofStep.pop();
         lane.count -= 1;
         while (lane.since.length > 0 && lane.since[lane.since.length - 1] >= count) {
@@ -145,12 +147,13 @@ const Lanes = ((Graph, Terms) => {
 
     /**
      * Takes away what came with steps from anywhere, before the graph does: `to` tells for each index where its step stands then, or NONE.
-     * Gives the lanes that stay and had such a step.
+     * Gives the lanes that stay and had such a step; yields now and then.
      */
-    remove(graph, to, first) {
+    *remove(graph, to, first) {
       const touched = new Set(), moved = (index) => (index === null || index < 0 ? index : to[index]);
       let step = first, made = graph.firstMade.at(first);
       for (let index = first; index < this.ofStep.length; index++) {
+        if (index % MANY === 0) yield index;
         if (to[index] === Graph.NONE) {
           touched.add(this.ofStep[index]);
           this.ofStep[index].count -= 1;
@@ -171,10 +174,11 @@ const Lanes = ((Graph, Terms) => {
       return touched;
     }
 
-    /** Finds anew which predicates some lanes were. */
-    nameAnew(lanes, graph, kinds) {
+    /** Finds anew which predicates some lanes were; yields now and then. */
+    *nameAnew(lanes, graph, kinds) {
       for (const lane of lanes) Object.assign(lane, { predicates: [], since: [] });
       for (let index = 0; lanes.size > 0 && index < this.ofStep.length; index++) {
+        if (index % MANY === 0) yield index;
         if (lanes.has(this.ofStep[index]) && graph.makers.at(index) !== Graph.NONE) notePredicate(this.ofStep[index], kinds.ofConsumer(index), index);
       }
     }
@@ -232,7 +236,7 @@ const Lanes = ((Graph, Terms) => {
 
   /** The places of the query's goals, those that are there and those that were consumed. */
   function queryPlaces(run) {
-    const there = run.goals.map((goal) => Graph.nameParts(goal.name)).filter(([maker]) => maker === 0).map(([, place]) => place);
+    const there = run.goals.filter((goal) => goal.name.startsWith("0.")).map((goal) => Graph.nameParts(goal.name)[1]);
     return [...new Set([...there, ...run.graph.queryConsumers.keys()])].sort((one, other) => one - other);
   }
 
@@ -273,7 +277,11 @@ const Lanes = ((Graph, Terms) => {
     const kept = (index) => (index !== null && index >= from && index < to ? graph.stepAt(index) : null);
     const partOf = (own) => {
       const into = foldOf(own), lane = into || own;
-      if (!parts.has(lane)) parts.set(lane, { ...lane, isFolded: into !== null, parent: kept(lane.parent), asked: kept(lane.asked), steps: [], goals: [], predicates: [...lane.predicates] });
+      if (!parts.has(lane)) {
+        const predicates = lane.predicates.filter((none, at) => lane.since[at] < graph.count);
+        const fresh = { isFolded: into !== null, parent: kept(lane.parent), asked: kept(lane.asked), predicates };
+        parts.set(lane, { ...lane, ...fresh, steps: [], goals: [] });
+      }
       return parts.get(lane);
     };
     whole.inOrder();
@@ -395,24 +403,29 @@ const Lanes = ((Graph, Terms) => {
   const arcWidth = (edges) => 10 + Math.max(0, ...edges.map((edge) => edge.variable.length)) * 6;
 
   const MOST_TAKEN = 3; // steps that are shown beside their goal
-  const taken = new WeakMap(); // by lists of goals
+  const taken = new WeakMap(); // by lists of steps that were taken back: those of each goal that is there
+
+  /** Finds the steps that were taken back from each of some goals, by name; yields after each step. */
+  function* gatherTaken(shelf, goals) {
+    const byGoal = new Map(goals.map((goal) => [goal.name, []]));
+    for (const step of shelf) {
+      if (byGoal.has(step.goal)) byGoal.get(step.goal).push(step);
+      yield 0;
+    }
+    taken.set(shelf, byGoal);
+  }
 
   /** The last steps that were taken back from a goal that is there. */
   function takenFrom(run, goal) {
-    const known = taken.get(run.goals);
-    if (known === undefined || known.shelf !== run.shelf) {
-      const byGoal = new Map(run.goals.map((one) => [one.name, []]));
-      for (const step of run.shelf) if (byGoal.has(step.goal)) byGoal.get(step.goal).push(step);
-      taken.set(run.goals, { shelf: run.shelf, byGoal });
-    }
-    return taken.get(run.goals).byGoal.get(goal.name).slice(-MOST_TAKEN);
+    if (!taken.has(run.shelf)) for (const parts = gatherTaken(run.shelf, run.goals); !parts.next().done;);
+    return (taken.get(run.shelf).get(goal.name) || []).slice(-MOST_TAKEN);
   }
 
   /** About how much room the goals that are there take up, with their labels, what was taken back from them, and the arcs of waits. */
   function roomForGoals(run, labels) {
     if (run.goals.length === 0) return 96;
     const widths = run.goals.map((goal) => goalLabel(goal, labels).length * 7 + takenFrom(run, goal).length * 30);
-    const edges = Graph.waitingEdges(run.goals).slice(0, MOST_ARCS);
+    const edges = Stuck.edgesOf(run.goals).slice(0, MOST_ARCS);
     return 70 + Math.max(...widths) + Math.min(3, edges.length) * arcWidth(edges);
   }
 
@@ -460,9 +473,9 @@ const Lanes = ((Graph, Terms) => {
   /** The arcs from waiting goals to the goals that have their variable, beside each other at the right. Gives where they end. */
   function placeWaits(view, run) {
     const right = Math.max(0, ...[...view.goals.values()].map((place) => place.end));
-    const circle = Graph.circleOf(run.goals);
+    const circle = Stuck.circleOf(run.goals);
     const isInCircle = (edge) => circle.includes(edge.from) && circle[(circle.indexOf(edge.from) + 1) % circle.length] === edge.to;
-    const edges = Graph.waitingEdges(run.goals).slice(0, MOST_ARCS);
+    const edges = Stuck.edgesOf(run.goals).slice(0, MOST_ARCS);
     view.waits = edges.map((edge) => {
       const from = view.goals.get(edge.from), to = view.goals.get(edge.to);
       return { ...edge, fromX: from.end + 4, fromY: from.y + 4, toX: to.end + 6, toY: to.y - 4, isInCircle: isInCircle(edge) };
@@ -501,7 +514,7 @@ const Lanes = ((Graph, Terms) => {
     const makerOf = new Map(run.graph.steps.flatMap((step) => step.makes.map((goal) => [goal, step])));
     for (const lane of lanes) {
       placeInLane(lane, kinds, columnOf, makerOf, rows, columns);
-      lane.text = laneText(lane, run, kinds, store, options.room < NARROW ? 13 : run.placed ? 22 : 30);
+      lane.text = laneText(lane, run, kinds, store, options.room < NARROW ? 13 : run.isPart ? 22 : 30);
     }
     const letters = Math.max(8, ...lanes.map((lane) => lane.name.length + lane.text.length + 2));
     const sizes = bestSizes(run, options, columns, lanes.length, letters);
@@ -526,6 +539,7 @@ const Lanes = ((Graph, Terms) => {
     return view;
   }
 
-  return { layout, lanesOf, lanesIn, foldsOf, RunLanes, GoalKinds, queryPlaces, shortName };
-})(typeof require === "undefined" ? Graph : require("./graph.js"), typeof require === "undefined" ? Terms : require("./terms.js"));
+  return { layout, lanesOf, lanesIn, foldsOf, RunLanes, GoalKinds, queryPlaces, gatherTaken, shortName };
+})(typeof require === "undefined" ? Graph : require("./graph.js"), typeof require === "undefined" ? Terms : require("./terms.js"),
+  typeof require === "undefined" ? Stuck : require("../model/stuck.js"));
 if (typeof module !== "undefined") module.exports = Lanes;

@@ -49,13 +49,39 @@ const Looking = (() => {
     else seek();
   }
 
-  /** Shows the record up to so many steps. */
-  function showUntil(steps) {
-    Overview.showUntil(steps);
-    if (Canvas.chosen && Canvas.chosen.step !== undefined && Overview.until !== null && Talk.run.graph.indexOf(Canvas.chosen.step) >= Overview.until) Canvas.choose(null);
+  /** Shows the run as it was after so many steps, wherever something of it is shown. */
+  function showAfter(steps, earlier) {
+    Overview.showUntil(steps, earlier);
+    const { until } = Overview, step = Canvas.chosen ? Canvas.chosen.step : undefined;
+    if (step !== undefined && until !== null && Talk.run.graph.indexOf(step) >= until) Canvas.choose(null);
     Canvas.draw();
-    Panels.showNote();
-    find("until").value = String(Overview.until === null ? Talk.run.graph.count : Overview.until);
+    Panels.showTime();
+    find("until").value = String(until === null ? Talk.run.graph.count : until);
+  }
+
+  /** Shows all steps again. */
+  function showNow() {
+    wanted = null;
+    showAfter(Infinity, null);
+  }
+
+  let wanted = null, isAsking = false;
+
+  /** Shows the record up to so many steps, when the console has told what was there then; the last wish counts. */
+  async function showUntil(steps) {
+    wanted = Math.max(0, steps);
+    if (isAsking) return;
+    isAsking = true;
+    try {
+      for (let shown = null; wanted !== null && shown !== wanted;) {
+        shown = wanted;
+        const earlier = await Earlier.after(shown);
+        if (earlier === undefined) wanted = null;
+        else if (wanted !== null) showAfter(shown, earlier);
+      }
+    } finally {
+      isAsking = false;
+    }
   }
 
   function stopPlaying() {
@@ -83,6 +109,7 @@ const Looking = (() => {
   /** After lines: the slider's length, and no search. */
   function follow(what) {
     stopPlaying();
+    wanted = null;
     const { count } = Talk.run.graph;
     Object.assign(find("until"), { max: String(count), value: String(count), disabled: count === 0 });
     find("play").disabled = count === 0;
@@ -105,5 +132,5 @@ const Looking = (() => {
     find("until").addEventListener("input", () => { stopPlaying(); showUntil(Number(find("until").value)); });
   }
 
-  return { seek, goTo, showUntil, play, fold, follow, listenToAll };
+  return { seek, goTo, showUntil, showNow, play, fold, follow, listenToAll };
 })();

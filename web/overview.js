@@ -9,10 +9,12 @@ const Overview = (() => {
   const EDGE = 10, FOOT = 18, TOP = 8; // points of the strip beside its dots
   const MOST_AT_ONCE = 5000, DOTS = 1024, SLICE = 8; // steps whose dots are drawn at once; dots between two looks at the clock; milliseconds
   const LEVELS = { leaf: 1, reduction: 2, lit: 3, hit: 4, chosen: 5 };
-  // `size` is null until somebody sets it; `until` is how many steps of the record are shown, null for all of them.
-  const overview = { from: 0, size: null, until: null, hits: [], folded: new Set(), wasCount: 0 };
+  // `size` is null until somebody sets it; `until` is how many steps of the record are shown, null for all of them;
+  // `earlier` is the run as it was after these, null where the present one stands for it.
+  const overview = { from: 0, size: null, until: null, earlier: null, hits: [], folded: new Set(), wasCount: 0 };
 
-  const run = () => Talk.run;
+  /** The run at the time that is on the screen. */
+  const run = () => overview.earlier || Talk.run;
   const count = () => (overview.until === null ? run().graph.count : Math.min(overview.until, run().graph.count));
   const isOn = () => count() > LEAST_STEPS;
   const between = (least, value, most) => Math.max(least, Math.min(value, most));
@@ -51,11 +53,17 @@ const Overview = (() => {
     return edges;
   }
 
-  /** Of many goals those that are ready, and then others, as many as a picture can show. */
-  function fewOf(goals) {
-    if (goals.length <= MOST_GOALS) return goals;
-    const ready = goals.filter((goal) => goal.status === "ready");
-    return [...ready, ...goals.filter((goal) => goal.status !== "ready")].slice(0, MOST_GOALS);
+  /** Of goals with a lane of their own those that are ready, and then others, as many as a picture can show. */
+  function fewOf(goals, hasLane) {
+    if (goals.length <= MOST_GOALS) return goals.filter(hasLane);
+    const few = [];
+    for (const isWanted of [(goal) => goal.status === "ready", (goal) => goal.status !== "ready"]) {
+      for (const goal of goals) {
+        if (few.length === MOST_GOALS) return few;
+        if (isWanted(goal) && hasLane(goal)) few.push(goal);
+      }
+    }
+    return few;
   }
 
   /** What the picture shows: the whole run, or the steps in the window, with the goals that are there where it reaches the end. */
@@ -64,22 +72,23 @@ const Overview = (() => {
     if (!isOn() && overview.until === null && whole.goals.length <= MOST_GOALS && overview.folded.size === 0) return whole;
     setFrom(overview.from);
     const from = isOn() ? overview.from : 0, to = isOn() ? Math.min(count(), from + size()) : count();
-    const foldOf = Lanes.foldsOf(whole.lanes, overview.folded), isFolded = (goal) => foldOf(whole.lanes.ofGoal(graph, goal.name)) !== null;
-    const goals = to >= count() ? fewOf(goalsAfter(count()).filter((goal) => whole.lanes.ofGoal(graph, goal.name) && !isFolded(goal))) : [];
-    return {
-      ...whole, graph: Graph.partOf(graph, from, to), goals, shelf: overview.until === null && to >= graph.count ? whole.shelf : [], store: graph.store,
-      placed: Lanes.lanesIn(whole, whole.lanes, from, to, goals, foldOf), before: from, incoming: incoming(from, to),
-    };
+    const foldOf = Lanes.foldsOf(whole.lanes, overview.folded), laneOf = (goal) => whole.lanes.ofGoal(graph, goal.name);
+    const hasLane = (goal) => laneOf(goal) !== undefined && foldOf(laneOf(goal)) === null;
+    const goals = to >= count() ? fewOf(goalsAfter(count()), hasLane) : [];
+    const isNow = overview.until === null, shelf = isNow && to >= graph.count ? whole.shelf : [];
+    const placed = Lanes.lanesIn(whole, whole.lanes, from, to, goals, foldOf), coming = incoming(from, to);
+    const steps = { graph: Graph.partOf(graph, from, to), store: graph.store, before: from, incoming: coming };
+    return { ...whole, ...steps, goals, shelf, placed, isPart: isOn() || isNow };
   }
 
   /** After lines: where steps came, or the window stands beyond the end, it goes to the end. */
   function follow(what) {
+    Object.assign(overview, { until: null, earlier: null });
     const now = run().graph.count;
     if (what === "start") {
       overview.size = null;
       overview.folded = new Set();
     }
-    overview.until = null;
     overview.hits = [];
     if (now !== overview.wasCount && (now > overview.wasCount || overview.from + size() > now)) overview.from = now;
     overview.wasCount = now;
@@ -87,8 +96,8 @@ const Overview = (() => {
 
   /** Moves the window so that a step is in it; says whether it moved. */
   function show(number) {
-    const index = run().graph.indexOf(number);
-    if (overview.until !== null && index >= overview.until) overview.until = null;
+    const index = Talk.run.graph.indexOf(number);
+    if (overview.until !== null && index >= overview.until) Looking.showNow();
     if (!isOn() || index < 0 || (index >= overview.from && index < overview.from + size())) return false;
     setFrom(index - size() / 2);
     return true;
@@ -112,9 +121,10 @@ const Overview = (() => {
     return lanes.lanes.reduce((sum, one) => sum + (foldOf(one) === lane ? one.count : 0), 0);
   }
 
-  /** Shows as many steps of the record, from its beginning; nothing is taken back. */
-  function showUntil(steps) {
-    overview.until = steps >= run().graph.count ? null : Math.max(0, steps);
+  /** Shows as many steps of the record, from its beginning, with the run as it was then; nothing is taken back. */
+  function showUntil(steps, earlier) {
+    overview.until = steps >= Talk.run.graph.count ? null : steps;
+    overview.earlier = overview.until === null ? null : earlier;
     overview.from = count();
   }
 
@@ -343,5 +353,8 @@ const Overview = (() => {
     area.addEventListener("wheel", (event) => { event.preventDefault(); zoom(event.deltaY < 0 ? 1.2 : 1 / 1.2); goTo(overview.from); }, { passive: false });
   }
 
-  return Object.assign(overview, { MOST_SIZE, reachOf, incoming, isOn, count, shownRun, follow, show, showUntil, laneOf, stepsUnder, zoom, fit, draw, settled, hitFlags, listenToAll, sizeNow: size });
+  return Object.assign(overview, {
+    MOST_SIZE, run, reachOf, incoming, isOn, count, shownRun, follow, show, showUntil, laneOf, stepsUnder, zoom, fit,
+    draw, settled, hitFlags, listenToAll, sizeNow: size,
+  });
 })();

@@ -7,9 +7,10 @@ const Panels = (() => {
   const LONGEST_GOAL = 200; // letters
   const MOST_KEPT = 1000000; // steps that the program keeps
   const LONGEST_LINE = 4000; // letters of a reply's line that are shown
+  const MOST_TOLD = 100; // lines that were typed at once, and are shown
   const MOST_LINKED = 60; // lines of a reply in which numbers are links
   const plural = (count, word) => `${count} ${word}${count === 1 ? "" : "s"}`;
-  const isRefusal = (line) => /^F\d+ /.test(line) || /^(program|query|history|session): /.test(line);
+  const isRefusal = (line) => Replies.isRefusal(line) || /^(program|query|history|session): /.test(line);
   let shown = 0, wasChanged = false;
 
   function addTold(entry) {
@@ -34,7 +35,10 @@ const Panels = (() => {
       shown = 0;
       if (Talk.refusal) find("told").append(make("div", { class: "refused" }, Talk.refusal));
     }
-    for (; shown < Talk.entries.length; shown++) addTold(Talk.entries[shown]);
+    const first = Math.max(shown, Talk.entries.length - MOST_TOLD);
+    const more = `(${plural(first - shown, "line")} more, which Save writes)`;
+    if (first > shown) find("told").append(make("div", { class: "dim" }, more));
+    for (shown = first; shown < Talk.entries.length; shown++) addTold(Talk.entries[shown]);
     find("told").scrollTop = find("told").scrollHeight;
   }
 
@@ -43,41 +47,58 @@ const Panels = (() => {
     const failed = goal.refusal ? make("span", { class: "dim" }, ` ${goal.refusal}`) : null;
     const text = make("button", { class: "row", "data-goal": goal.name }, make("span", { class: `status ${goal.status}` }, goal.status),
       make("span", { class: "dim" }, `${goal.name} `), make("span", { title: goal.text.length > LONGEST_GOAL ? Terms.cut(goal.text, 2000) : null }, Terms.cut(goal.text, LONGEST_GOAL)), waits, failed);
-    return make("div", { class: "line-row" }, text, goal.status === "ready" ? lineButton("Step", `step ${goal.name}`, { class: "small" }) : null);
+    const step = lineButton("Step", `step ${goal.name}`, { class: "small" });
+    return make("div", { class: "line-row" }, text, goal.status === "ready" && Overview.until === null ? step : null);
   }
 
   /** Fills a panel with rows, as many as it shows, and says how many more there are. */
-  function fill(panel, rows, empty, count = rows.length) {
+  function fill(panel, rows, empty, count = rows.length, before = []) {
     const more = count - Math.min(rows.length, MOST_ROWS), told = more > 0 ? `and ${more} more` : rows.length === 0 ? empty : "";
-    fillRows(find(panel), [...rows.slice(0, MOST_ROWS), ...(told ? [{ key: null, does: () => make(more > 0 ? "div" : "span", { class: "dim" }, told) }] : [])]);
+    const after = told ? [{ key: null, does: () => make(more > 0 ? "div" : "span", { class: "dim" }, told) }] : [];
+    fillRows(find(panel), [...before, ...rows.slice(0, MOST_ROWS), ...after]);
+  }
+
+  /** Where the picture is of an earlier time and the panels are not: a row that says so. */
+  function timeRows() {
+    if (Overview.until === null || Overview.earlier !== null) return [];
+    const words = `after all ${plural(Talk.run.graph.count, "step")}:`;
+    return [{ key: null, does: () => make("div", { class: "dim" }, words) }];
   }
 
   const showGoals = () => {
-    const { goals, goalsRefused } = Talk.run;
-    fill("goals", goals.slice(0, MOST_ROWS).map((goal) => ({ key: [goal.name, goal.status, goal.waitsFor, goal.refusal, goal.text].join(" "), does: () => goalRow(goal) })),
-      Talk.refusal ? "none" : goalsRefused ? "They are too long to be told." : "none: all is done", goals.length);
+    const { goals, goalsRefused } = Overview.run(), isNow = Overview.until === null;
+    const keyOf = ({ name, status, waitsFor, refusal, text }) => [isNow, name, status, waitsFor, refusal, text].join();
+    const rows = goals.slice(0, MOST_ROWS).map((goal) => ({ key: keyOf(goal), does: () => goalRow(goal) }));
+    const empty = Talk.refusal ? "none" : goalsRefused ? "They are too long to be told." : "none: all is done";
+    fill("goals", rows, empty, goals.length, timeRows());
     const spied = [...Talk.spied].map((predicate) => lineButton(`spied: ${predicate} ×`, `nospy ${predicate}`, { class: "chip" }));
     if (spied.length > 0) find("goals").prepend(make("div", null, ...spied));
   };
 
   function showShelf() {
-    const { shelf } = Talk.run, chipOf = (step) => make("button", { class: "chip taken", "data-line": `redo ${step.number}`, title: `redo ${step.number}: puts it there again` }, `${step.number} ${step.goal || "-"} ${step.act}`);
-    fill("shelf", shelf.slice(0, MOST_ROWS).map((step) => ({ key: `${step.number} ${step.goal} ${step.act}`, does: () => chipOf(step) })), "nothing", shelf.length);
-    find("redo-all").hidden = shelf.length < 2;
+    const isNow = Overview.until === null, shelf = isNow ? Talk.run.shelf : [];
+    const rows = shelf.slice(0, MOST_ROWS).map(({ number, goal, act }) => {
+      const words = `${number} ${goal || "-"} ${act}`, line = `redo ${number}`;
+      const attributes = { class: "chip taken", title: `${line}: puts it there again` };
+      return { key: words, does: () => lineButton(words, line, attributes) };
+    });
+    fill("shelf", rows, isNow ? "nothing" : "shown with all steps", shelf.length);
+    find("redo-all").hidden = !isNow || shelf.length < 2;
   }
 
   /** What the panel says of the step that is chosen. */
   function showDetail(chosen) {
-    const area = find("detail"), step = chosen && Talk.run.graph.byNumber.get(chosen.step);
+    const run = Overview.run(), area = find("detail"), step = chosen && run.graph.byNumber.get(chosen.step);
     if (!step) {
       area.replaceChildren(make("span", { class: "dim" }, "Click a step in the picture."));
       return;
     }
-    const causes = Graph.whyLines(Talk.run.graph, step.number).filter((line) => line !== "none");
-    const effects = Talk.run.graph.effects.get(step.number).map((edge) => edge.to);
-    const isTold = Talk.run.texts.has(step.goal);
+    const causes = Graph.whyLines(run.graph, step.number).filter((line) => line !== "none");
+    const effects = run.graph.effects.get(step.number).map((edge) => edge.to);
+    const isTold = run.texts.has(step.goal);
     Resting.withGoalText(step, () => { if (!isTold && Canvas.chosen && Canvas.chosen.step === step.number) showDetail(Canvas.chosen); });
-    area.replaceChildren(Picture.tellStep(Talk.run, step), ...causes.flatMap((line) => ["\nbecause of ", goTo(line.split(" ")[0], line)]),
+    const because = causes.flatMap((line) => ["\nbecause of ", goTo(line.split(" ")[0], line)]);
+    area.replaceChildren(Picture.tellStep(run, step), ...because,
       ...effects.slice(0, 20).flatMap((number, index) => [index === 0 ? "\nneeded by " : ", ", goTo(number, String(number))]));
   }
 
@@ -97,21 +118,34 @@ const Panels = (() => {
     return [`${start} ${Terms.cut(told.words, 400)}. `, ...withCode(told.isHelped ? "Click a goal that waits, then `Explain`." : "`ask …` adds a goal that binds it.")];
   }
 
+  /** What is said where the record is shown up to an earlier step. */
+  function timeParts() {
+    const others = Overview.earlier === null ? "Goals, values and names are those after all steps. " : "";
+    const back = make("button", { class: "small", id: "show-all-steps" }, "Show all steps");
+    return [`This is the run after ${plural(Overview.until, "step")}: nothing was taken back. `, others, back];
+  }
+
   /** What is said above the picture where there is something that one should know. */
   function noteParts() {
-    const { goals, graph } = Talk.run, isReady = goals.some((goal) => goal.status === "ready");
-    const failed = goals.find((goal) => goal.status === "failed"), stream = goals.find((goal) => goal.status === "stream");
+    const { graph } = Talk.run;
     if (Talk.trouble) return [Talk.trouble, ...(Talk.session && Talk.session.hasEnded ? [" ", make("button", { class: "small", id: "again" }, "Go on without the last line")] : [])];
     if (Talk.refusal) return [`Refused: ${Talk.refusal}. Mend it, then press Start.`];
     if (Talk.session.hasEnded) return ["The session has ended. Start begins a new one."];
-    if (Overview.until !== null) return [`This is the run after ${plural(Overview.until, "step")}: nothing was taken back. `, make("button", { class: "small", id: "show-all-steps" }, "Show all steps")];
+    if (Overview.until !== null) return timeParts();
     if (graph.count >= MOST_KEPT) return ["1,000,000 steps are kept, and there is no room for another one. ", ...withCode("`undo`, `roll` or Start lead back.")];
-    if (Beside.isOn()) return Beside.noteParts();
+    const state = stateParts();
+    return Beside.isOn() ? [...Beside.noteParts(), ...(state.length > 0 ? [make("br"), ...state] : [])] : state;
+  }
+
+  /** What is said of the run as it stands: a failure, a circle, who waits for what. */
+  function stateParts() {
+    const { goals, graph } = Talk.run, isReady = goals.some((goal) => goal.status === "ready");
+    const [failed, stream] = ["failed", "stream"].map((status) => goals.find((goal) => goal.status === status));
     if (Talk.run.goalsRefused) return ["A goal is longer than the console tells (", make("code", null, Talk.run.goalsRefused), "), so none is shown. Press Run to go on, or Undo last to go back."];
     if (failed) return tellFailure(failed);
     if (isReady && graph.count === 0) return ["A green ring is a goal that is ready: click it, or press Run."];
     if (isReady) return [];
-    const circle = Graph.circleOf(goals);
+    const circle = Stuck.circleOf(goals);
     if (circle.length > 0) return [`Nothing is ready: ${Terms.cut([...circle, circle[0]].join(" waits for "), 400)}, in a circle.`];
     if (stream) return [`Nothing is ready. Click the stream ${stream.name} and give it an input.`];
     if (goals.length > 0) return tellWaiting(goals);
@@ -139,8 +173,11 @@ const Panels = (() => {
 
   function showCount() {
     const { graph, goals, goalsRefused } = Talk.run, ready = goals.filter((goal) => goal.status === "ready");
-    find("count").textContent = `${plural(graph.count, "step")}, depth ${graph.deepestChain}`;
-    find("count").title = `${plural(graph.count, "kept step")}; the longest chain of causes has ${graph.deepestChain}; ${plural(ready.length, "goal")} ready`;
+    const { until } = Overview, shownReady = Overview.run().goals.filter((goal) => goal.status === "ready");
+    const count = Overview.count(), deepest = count === 0 ? 0 : graph.deepest.at(count - 1) + 1;
+    const of = until === null ? "" : `${until} of `, chain = `the longest chain of causes has ${deepest}`;
+    find("count").textContent = `${of}${plural(graph.count, "step")}, depth ${deepest}`;
+    find("count").title = `${plural(count, "kept step")}; ${chain}; ${plural(shownReady.length, "goal")} ready`;
     const last = graph.count > 0 ? graph.numbers.at(graph.count - 1) : undefined;
     const isOver = !Talk.session || Talk.session.hasEnded, isFull = graph.count >= MOST_KEPT;
     for (const name of ["step", "leap", "leap-ten"]) find(name).disabled = isOver || isFull || (ready.length === 0 && (name === "step" || !goalsRefused));
@@ -179,16 +216,32 @@ const Panels = (() => {
     (what) => { showDetail(Canvas.chosen); Answers.show(what); },
   ];
 
+  /** What shows the run at the time that is on the screen. */
+  function showTime() {
+    keepFocus("goals", showGoals);
+    keepFocus("store", Store.show);
+    keepFocus("shelf", showShelf);
+    showCount();
+    showDetail(Canvas.chosen);
+  }
+
+  /** How far a line is that takes long. */
+  function howFar({ read, played, memory }) {
+    if (read > 0) return `, ${read.toLocaleString("en")} steps read`;
+    if (played > 0) return `, ${played.toLocaleString("en")} lines played`;
+    return memory > 0 ? `, ${Math.round(memory / 1e6)} MB` : "";
+  }
+
   /** Where a line takes long, this tells how long and lets one stop it. */
   function showBusy() {
     const { busy } = Talk, seconds = busy ? (performance.now() - busy.since) / 1000 : 0, isLong = seconds > 0.3;
     document.body.classList.toggle("busy", isLong);
     find("busy").hidden = !isLong;
     if (!isLong) return;
-    const how = busy.read > 0 ? `, ${busy.read.toLocaleString("en")} steps read` : busy.memory > 0 ? `, ${Math.round(busy.memory / 1e6)} MB` : "";
+    const how = howFar(busy);
     find("busy-words").textContent = `${busy.line ? `${Terms.cut(busy.line, 60)}: ` : ""}at work for ${seconds.toFixed(1)} s${how}`;
     find("stop").hidden = !busy.canStop;
   }
 
-  return { PARTS, showBusy, showNote, followText, showDetail, showLookAt, madeWith };
+  return { PARTS, showTime, timeRows, showBusy, showNote, followText, showDetail, showLookAt, madeWith };
 })();

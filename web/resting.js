@@ -6,9 +6,6 @@ const Resting = (() => {
   const MOST_LINKS = 12;
   const plural = (count, word) => `${count} ${word}${count === 1 ? "" : "s"}`;
 
-  /** Whether the engine knows a command of a goal, too: `explain` or `keep`. */
-  const isOfGoals = (word) => Talk.goalForms.has(word);
-
   /** Lights the steps of a reply to `explain`, and tells what stands in front of them and where another clause could be chosen. */
   function tell(name, { head, numbers, others, last }) {
     Canvas.showSlice(numbers, others.map(([step]) => step));
@@ -50,5 +47,5 @@ const Resting = (() => {
     does(text);
   }
 
-  return { tell, askKeep, withGoalText, isOfGoals };
+  return { tell, askKeep, withGoalText };
 })();

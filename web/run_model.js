@@ -1,5 +1,5 @@
 // What is known of a run: its graph, lanes, goals and the rest, which follow what the console tells. A long run is read in small parts. Pure.
-const RunModel = ((Graph, Lanes) => {
+const RunModel = ((Graph, Lanes, Stuck) => {
   "use strict";
 
   const PART = 64; // lines that are read between two places where the reader may pause
@@ -33,11 +33,18 @@ const RunModel = ((Graph, Lanes) => {
       }
       this.goals = yield* this.inParts(look.goals, Graph.readGoals);
       this.goalsRefused = look.goalsRefused;
+      if (this.goals.some(({ status }) => status === "waits")) yield* this.often(Stuck.study(this.goals));
       yield* this.addLanes();
       for (const [name, text] of look.texts) this.texts.set(name, text);
       this.shelf = yield* this.inParts(look.shelf, Graph.readShelf);
+      yield* this.often(Lanes.gatherTaken(this.shelf, this.goals));
       this.version += 1;
       this.isWhole = true;
+    }
+
+    /** Does what yields after each goal or step; yields now and then. */
+    *often(parts) {
+      for (let count = 1; !parts.next().done; count++) if (count % PART === 0) yield this.graph.count;
     }
 
     /** What lines tell, read one by one. */
@@ -55,7 +62,7 @@ const RunModel = ((Graph, Lanes) => {
     /** Takes away all steps after the first ones. */
     *cut(kept) {
       const { graph, lanes } = this;
-      lanes.cut(graph, kept);
+      yield* lanes.cut(graph, kept);
       while (graph.count > kept) {
         graph.pop();
         if (graph.count % PART === 0) yield graph.count;
@@ -72,24 +79,27 @@ const RunModel = ((Graph, Lanes) => {
 
     /** Takes steps away, on which no step that stays depends. */
     *takeAway(numbers) {
-      const { graph, lanes } = this, gone = Int32Array.from(numbers, (number) => graph.indexOf(number)).sort();
-      const isAtEnd = gone.every((index, at) => index === graph.count - gone.length + at);
-      if (isAtEnd) {
-        yield* this.cut(graph.count - gone.length);
+      const { graph, lanes } = this, to = new Int32Array(graph.count);
+      let first = graph.count, next = 0;
+      for (const number of numbers) {
+        const index = graph.indexOf(number);
+        to[index] = Graph.NONE;
+        first = Math.min(first, index);
+      }
+      if (first === graph.count - numbers.length) {
+        yield* this.cut(first);
         return;
       }
-      const to = new Int32Array(graph.count).fill(0);
-      for (const index of gone) to[index] = Graph.NONE;
-      let next = 0;
       for (let index = 0; index < to.length; index++) if (to[index] !== Graph.NONE) to[index] = next++;
-      const touched = lanes.remove(graph, to, gone[0]);
-      yield* graph.remove(to, gone[0]);
-      lanes.nameAnew(touched, graph, new Lanes.GoalKinds(this));
+      yield 0;
+      const touched = yield* lanes.remove(graph, to, first);
+      yield* graph.remove(to, first);
+      yield* lanes.nameAnew(touched, graph, new Lanes.GoalKinds(this));
     }
 
     *addLanes() {
       const { graph, lanes } = this, kinds = new Lanes.GoalKinds(this);
-      lanes.beginQuery(Lanes.queryPlaces(this));
+      if (lanes.lanes.length === 0) lanes.beginQuery(Lanes.queryPlaces(this));
       while (lanes.ofStep.length < graph.count) {
         lanes.add(graph, kinds);
         if (lanes.ofStep.length % PART === 0) yield graph.count;
@@ -98,5 +108,6 @@ const RunModel = ((Graph, Lanes) => {
   }
 
   return RunModel;
-})(typeof require === "undefined" ? Graph : require("./graph.js"), typeof require === "undefined" ? Lanes : require("./lanes.js"));
+})(...(typeof require === "undefined" ? [Graph, Lanes, Stuck]
+  : [require("./graph.js"), require("./lanes.js"), require("../model/stuck.js")]));
 if (typeof module !== "undefined") module.exports = RunModel;

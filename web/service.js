@@ -25,7 +25,8 @@ const Service = (() => {
     return new Promise((done, failed) => {
       waiting.set(id, { done, failed });
       if (worker !== null) worker.postMessage({ ...message, what, id });
-      else answers({ ...message, what, id });
+      else if (answers !== null) answers({ ...message, what, id });
+      else failAll(STOPPED);
     });
   }
 
@@ -72,6 +73,7 @@ const Service = (() => {
   function stop() {
     if (worker === null) return;
     worker.terminate();
+    worker = null;
     failAll(STOPPED);
   }
 

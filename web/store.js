@@ -11,7 +11,7 @@ const Store = (() => {
 
   /** The end of a chain of bindings. */
   function endOf(term) {
-    const { store } = Talk.run.graph;
+    const { store } = Overview.run().graph;
     let end = term;
     while (isVariable(end) && store.has(end)) end = store.get(end);
     return end;
@@ -48,7 +48,7 @@ const Store = (() => {
 
   /** The values of the query's variables, which are made anew each time; then all bindings, the newest first, each of which stays what it is. */
   function rows() {
-    const { graph } = Talk.run, { query } = Talk.given, values = [], bindings = [];
+    const { graph } = Overview.run(), { query } = Talk.given, values = [], bindings = [];
     for (const [name, variable] of Asking.queryVariables(query)) values.push({ key: null, does: () => row(name, variable, undefined, { parts: MOST_PARTS * 3 }) });
     for (let at = graph.count - 1; at >= 0 && at > graph.count - MOST_LOOKED_AT && bindings.length < MOST_ROWS; at--) {
       const step = graph.stepAt(at);
@@ -59,7 +59,7 @@ const Store = (() => {
 
   /** A binding as it was made, with no binding followed. */
   function bindingRow(variable, by) {
-    const term = Talk.run.graph.termOf(variable);
+    const term = Overview.run().graph.termOf(variable);
     return make("div", { class: "row value" }, make("button", { class: "name", "data-variable": variable, title: "show, who, what it rests on" }, make("b", null, variable)), " = ",
       part(variable, [], Terms.cut(term, 160)), make("span", { class: "dim" }, "  by ", goTo(by)));
   }
@@ -67,16 +67,20 @@ const Store = (() => {
   const unmark = () => { for (const one of find("store").querySelectorAll(".part.told")) one.classList.remove("told"); };
 
   function show() {
-    const { values, bindings } = rows(), all = [...values, ...bindings].slice(0, MOST_ROWS), more = values.length + Talk.run.graph.binders.size - all.length;
-    const words = all.length === 0 ? "nothing is bound" : more > 0 ? `and ${more} more` : "";
-    fillRows(find("store"), [...all, ...(words ? [{ key: null, does: () => make(all.length === 0 ? "span" : "div", { class: "dim" }, words) }] : [])]);
+    const { values, bindings } = rows(), all = [...values, ...bindings].slice(0, MOST_ROWS), before = Panels.timeRows();
+    const left = values.length + Overview.run().graph.binders.size - all.length;
+    const words = all.length === 0 ? "nothing is bound" : left > 0 ? `and ${left} more` : "";
+    const more = { key: null, does: () => make(all.length === 0 ? "span" : "div", { class: "dim" }, words) };
+    fillRows(find("store"), [...before, ...all, ...(words ? [more] : [])]);
     unmark();
-    if (values.length > 0) find("store").children[values.length - 1].classList.add("last-value");
+    const last = before.length + Math.min(values.length, MOST_ROWS) - 1;
+    if (values.length > 0) find("store").children[last].classList.add("last-value");
   }
 
   /** Lights the steps that gave a part of a value, and tells them. */
   function explain(root, path) {
-    const { graph } = Talk.run, { steps, by, part: term } = Explain.explain(graph, root, path), way = [...new Set(steps)].filter((step) => step !== by);
+    const { steps, by, part: term } = Explain.explain(Overview.run().graph, root, path);
+    const way = [...new Set(steps)].filter((step) => step !== by);
     unmark();
     const words = make("code", null, Terms.cut(term === undefined ? root : term, 60));
     if (by === undefined) {

@@ -4,21 +4,29 @@ const Talk = (() => {
   "use strict";
 
   const SLICE = 12; // milliseconds that the page reads without a pause
-  const talk = { session: null, given: { program: "", query: "", history: "" }, entries: [], spied: new Set(), goalForms: new Set(), run: new RunModel(""), refusal: "", busy: null, showing: null };
+  const talk = {
+    session: null, given: { program: "", query: "", history: "" }, entries: [], spied: new Set(), run: new RunModel(""),
+    refusal: "", trouble: "", busy: null, showing: null, asked: 0,
+  };
   const listeners = [];
   let last = Promise.resolve(), ready = null, isStopped = false;
 
   const listen = (listener) => listeners.push(listener);
 
-  /** Tells those who listen; `showing` is done when they have shown what has changed. */
+  const SAVED = "The lines are kept: Save writes them.";
+
+  /** Notes a fault of the page's own, and has it shown, as far as that can be done. The next line is taken. */
+  async function noteFault(error) {
+    talk.trouble = `The page came upon a fault of its own: ${error.message}. ${SAVED}`;
+    for (const listener of listeners) await Promise.resolve("fault").then(listener).catch(() => {});
+  }
+
+  /** Tells those who listen; `showing` is done when they have shown it. A fault of one keeps nothing from others. */
   async function changed(what) {
     let isShown = () => {};
     if (what !== "busy" && what !== "idle") talk.showing = new Promise((done) => { isShown = done; });
-    try {
-      for (const listener of listeners) await listener(what);
-    } finally {
-      isShown();
-    }
+    for (const listener of listeners) await Promise.resolve(what).then(listener).catch(noteFault);
+    isShown();
   }
 
   /** A pause in which the browser can draw and take clicks. */
@@ -63,14 +71,14 @@ const Talk = (() => {
   /** Does one thing after another; while one takes long, the page hears of it. */
   function queued(line, does) {
     last = last.then(async () => {
-      talk.busy = { line, since: performance.now(), memory: 0, read: 0, canStop: line !== "" && Service.canStop() };
+      const canStop = line !== "" && Service.canStop();
+      talk.busy = { line, since: performance.now(), memory: 0, read: 0, played: 0, canStop };
       isStopped = false;
       changed("busy");
       try {
         await does();
       } catch (error) {
-        talk.trouble = `The page came upon a fault of its own: ${error.message}. The lines are kept: Save writes them.`;
-        await changed("lines");
+        await noteFault(error);
       } finally {
         talk.busy = null;
         changed("idle");
@@ -84,7 +92,6 @@ const Talk = (() => {
     await ready;
     const told = await Service.ask("open", { given: talk.given });
     talk.refusal = told.refusal;
-    talk.goalForms = new Set(told.goalForms);
     talk.session = { hasEnded: Boolean(told.refusal) };
     talk.run = new RunModel(told.refusal ? "" : talk.given.program, talk.given.query);
     if (told.look) await take(told.look);
@@ -100,46 +107,68 @@ const Talk = (() => {
     await changed("start");
   });
 
-  function noteSpies(reply) {
-    for (const line of reply.slice(0, 2)) {
+  function noteSpies(entry) {
+    for (const line of entry.reply) {
       const found = /^(not )?spying (\S+)$/.exec(line);
       if (found) talk.spied[found[1] ? "delete" : "add"](found[2]);
     }
   }
 
-  /** A line that was typed, with its reply; a long one is kept as bytes, and read where somebody asks for it. */
-  function newEntry(line, reply, length, slice) {
-    if (Array.isArray(reply)) return { line, reply, slice, length: reply.length, tail: (most) => reply.slice(-most) };
-    const decode = (bytes) => new TextDecoder().decode(bytes).split("\n").slice(0, -1);
-    return {
-      line, length, slice,
-      get reply() { return decode(reply); },
-      tail: (most) => {
-        let at = reply.length;
-        for (let count = 0; count <= most && at > 0; count++) at = reply.lastIndexOf(10, at - 1);
-        return decode(reply.subarray(at + 1));
-      },
-    };
+  /** A line that was typed, with its reply: a list of lines, or bytes where it is long, which are read on demand. */
+  class Entry {
+    constructor(line, told, length, slice) {
+      Object.assign(this, { line, told, slice, length });
+    }
+
+    get reply() {
+      return Array.isArray(this.told) ? this.told : new TextDecoder().decode(this.told).split("\n").slice(0, -1);
+    }
+
+    /** The last lines of the reply. */
+    tail(most) {
+      if (Array.isArray(this.told)) return this.told.slice(-most);
+      let at = this.told.length;
+      for (let count = 0; count <= most && at > 0; count++) at = this.told.lastIndexOf(10, at - 1);
+      return new TextDecoder().decode(this.told.subarray(at + 1)).split("\n").slice(0, -1);
+    }
+  }
+
+  const MOST_AT_ONCE = 1000; // lines that the worker plays before it answers
+
+  /** Plays lines, a part of them at a time; hands on what was told of each part, and takes up where all of them led. */
+  async function play(lines, onTold) {
+    for (let at = 0, hasEnded = false; at < lines.length && !hasEnded; at += MOST_AT_ONCE) {
+      if (isStopped) throw Service.STOPPED;
+      const end = at + MOST_AT_ONCE, part = { lines: lines.slice(at, end), isMore: end < lines.length };
+      const told = await Service.ask("lines", part);
+      if (isStopped) throw Service.STOPPED;
+      onTold(told, at);
+      if (lines.length > MOST_AT_ONCE && talk.busy) talk.busy.played = at + told.replies.length;
+      if (told.look) await take(told.look);
+      ({ hasEnded } = told);
+      talk.session.hasEnded = hasEnded;
+    }
   }
 
   async function type(lines) {
-    const told = await Service.ask("lines", { lines });
-    if (isStopped) throw Service.STOPPED;
-    const { replies, lengths = [], slices = [] } = told, fresh = replies.map((reply, index) => newEntry(lines[index], reply, lengths[index], slices[index] || null));
-    for (const entry of fresh) if (entry.length < 3) noteSpies(entry.reply);
-    if (told.look) await take(told.look);
-    talk.entries.push(...fresh);
-    talk.session.hasEnded = told.hasEnded;
-    const stopped = fresh.flatMap((entry) => entry.tail(1)).find((line) => line.startsWith("the engine stopped"));
-    if (stopped) talk.trouble = `${stopped}. The lines are kept: Save writes them.`;
+    const fresh = [], spying = [];
+    await play(lines, ({ replies, lengths = [], slices = [] }, from) => {
+      for (const [at, reply] of replies.entries()) {
+        const entry = new Entry(lines[from + at], reply, lengths[at] ?? reply.length, slices[at] || null);
+        fresh.push(entry);
+        if (/^(no)?spy /.test(entry.line.trim())) spying.push(entry);
+      }
+    });
+    spying.forEach(noteSpies);
+    talk.entries = talk.entries.concat(fresh);
+    const [stopped = ""] = fresh.length > 0 ? fresh[fresh.length - 1].tail(1) : [];
+    if (stopped.startsWith("the engine stopped")) talk.trouble = `${stopped}. ${SAVED}`;
   }
 
   /** Plays lines without a new entry for each. */
   async function playAgain(lines) {
     await open();
-    if (lines.length === 0) return;
-    const told = await Service.ask("lines", { lines });
-    if (told.look) await take(told.look);
+    await play(lines, () => {});
   }
 
   const typedLines = () => talk.entries.filter((entry) => !entry.note).map((entry) => entry.line);
@@ -148,7 +177,8 @@ const Talk = (() => {
   async function goBack(lines, seconds) {
     ready = Service.start();
     isStopped = false;
-    talk.busy = { ...talk.busy, line: "playing the lines before it again", since: performance.now(), read: 0, canStop: false };
+    const line = "playing the lines before it again";
+    talk.busy = { ...talk.busy, line, since: performance.now(), read: 0, played: 0, canStop: false };
     await playAgain(typedLines());
     noteLine(lines, `stopped by hand after ${seconds} s: not taken; the run stands where it stood`);
   }
@@ -159,14 +189,15 @@ const Talk = (() => {
     return talk.session.hasEnded ? "the session has ended. Press Start for a new one" : "";
   }
 
+  const nameOf = (lines) => (lines.length > 1 ? `${lines[0]} (and ${lines.length - 1} more)` : lines[0]);
+
   /** Notes a line, or the first of some, that was not taken. */
   function noteLine(lines, note) {
-    const line = lines.length > 1 ? `${lines[0]} (and ${lines.length - 1} more)` : lines[0];
-    talk.entries.push({ line, reply: [], length: 0, tail: () => [], note });
+    talk.entries.push(Object.assign(new Entry(nameOf(lines), [], 0, null), { note }));
   }
 
   /** Types lines one after the other, and shows where they led. */
-  const send = (...lines) => queued(lines.join("; "), async () => {
+  const sendAll = (lines) => queued(nameOf(lines), async () => {
     if (!talk.session) return;
     if (whyNot() !== "") {
       noteLine(lines, `not taken: ${whyNot()}`);
@@ -174,7 +205,6 @@ const Talk = (() => {
       return;
     }
     const { since } = talk.busy;
-    talk.typed = lines;
     talk.trouble = "";
     try {
       await type(lines);
@@ -184,6 +214,8 @@ const Talk = (() => {
     }
     await changed("lines");
   });
+
+  const send = (...lines) => sendAll(lines);
 
   /** After the engine has stopped: a new one plays all lines but the last. */
   const again = () => queued("", async () => {
@@ -201,14 +233,33 @@ const Talk = (() => {
     changed("busy");
   });
 
-  /** Asks the console what no line of the user asks for; null where it was stopped, or there is no session. */
-  async function ask(line) {
-    if (!talk.session || talk.refusal || talk.session.hasEnded) return null;
+  /** Asks the worker what no line asks for; null where it was stopped. `asked` counts what is not answered yet. */
+  async function inquire(what, message) {
+    talk.asked += 1;
     try {
-      return await Service.ask("ask", { line });
+      return await Service.ask(what, message);
     } catch {
       return null;
+    } finally {
+      talk.asked -= 1;
     }
+  }
+
+  /** Asks the console; null where it was stopped, or there is no session. */
+  async function ask(line) {
+    return !talk.session || talk.refusal || talk.session.hasEnded ? null : inquire("ask", { line });
+  }
+
+  /** The lines of `goals` after the first steps of the record alone; null where they are not told. */
+  async function askEarlier(count) {
+    const told = await inquire("earlier", { count });
+    return told && told.goals;
+  }
+
+  /** What a console without a step and its consequences would reply to a line; null where that is not told. */
+  async function askWithout(step, line) {
+    const told = await inquire("without", { step, line });
+    return told && told.reply;
   }
 
   /** Stops the line that is at work. */
@@ -218,5 +269,8 @@ const Talk = (() => {
     Service.stop();
   }
 
-  return Object.assign(talk, { pause, trouble: "", typed: [], listen, start, send, ask, stop, again, typedLines, inSlices, settled: () => last });
+  return Object.assign(talk, {
+    pause, listen, start, send, sendAll, ask, askEarlier, askWithout, stop, again, typedLines, inSlices,
+    settled: () => last,
+  });
 })();

@@ -26,7 +26,6 @@ const WorkerSide = ((Graph, Asking, Told, Short) => {
     constructor(engine) {
       this.engine = engine;
       this.session = null;
-      this.goalForms = Asking.goalFormsKnown(engine.open(Asking.TRIAL));
     }
 
     /** Begins a session, from nothing or from a history. */
@@ -36,10 +35,12 @@ const WorkerSide = ((Graph, Asking, Told, Short) => {
       this.texts = new Map();
       this.sent = new Set();
       this.lacksTexts = false; // where steps have come that were too many to ask for their goals
+      this.unseen = []; // the lines played since it was looked last
+      this.second = null; // another session, made where somebody asks what was
       this.session = this.engine.open({ program: given.program, query: given.query, history: given.history || undefined });
       const { refused, start } = this.session;
       if (!refused && !given.history) for (const goal of Graph.readGoals(this.session.line("goals"))) this.texts.set(goal.name, goal.text);
-      return { refusal: refused ? start.trim() : "", look: refused ? null : this.look(), goalForms: [...this.goalForms] };
+      return { refusal: refused ? start.trim() : "", look: refused ? null : this.look() };
     }
 
     /** What is to be shown, by the whole record: how many of its steps stay, the lines of those that have come, and all else that is shown. */
@@ -59,8 +60,35 @@ const WorkerSide = ((Graph, Asking, Told, Short) => {
       return this.changed({ gone: Float64Array.from(gone), come: NOTHING });
     }
 
+    /** Another session that stands where this one does, with the numbers of the kept steps, and how many it has now. */
+    aside() {
+      if (this.unseen.length > 0) throw new Error("lines are at work");
+      const { program, query } = this.given, history = decode(this.session.bytes("save"));
+      const session = this.engine.open({ program, query, history });
+      if (session.refused) throw new Error(session.start);
+      const numbers = linesOf(this.told.bytes).map((line) => Number(line.slice(0, line.indexOf(" "))));
+      return { session, numbers, count: numbers.length };
+    }
+
+    /** The lines of `goals` as a console told them after the first steps alone. */
+    earlier({ count }) {
+      this.second = this.second ?? this.aside();
+      const { second } = this, { session, numbers } = second;
+      for (; second.count > count; second.count--) session.line(`undo ${numbers[second.count - 1]}`);
+      for (; second.count < count; second.count++) session.line(`redo ${numbers[second.count]}`);
+      return { goals: linesOf(Short.lines(session.bytes("goals"), Short.goal)) };
+    }
+
+    /** What a console without a step and its consequences replies to a line. */
+    without({ step, line }) {
+      const { session } = this.aside();
+      session.line(`roll ${step}`);
+      return { reply: session.line(line) };
+    }
+
     /** What has changed, its long terms shortened, with the bytes of the replies to `goals` and `shelf` beside the record. */
     changed({ gone = null, kept = 0, come: all }) {
+      this.second = null;
       const come = Short.lines(all, Short.record), goals = Short.lines(this.session.bytes("goals"), Short.goal);
       return { gone, kept, come, goals, goalsRefused: refusalIn(goals), shelf: this.session.bytes("shelf"), texts: this.newTexts(come) };
     }
@@ -74,30 +102,39 @@ const WorkerSide = ((Graph, Asking, Told, Short) => {
       return fresh;
     }
 
-    /** What is to be shown after lines; null where they have changed nothing. */
-    lookAfter(lines, replies) {
-      const words = lines.map(wordOf), [word] = words;
-      if (words.every((one) => LOOKS.has(one))) return null;
-      if (lines.length > 1) return this.look();
-      if (TAKES.has(word)) return this.takenLook(goneIn(replies[0]));
-      return ADDS.has(word) ? this.addedLook() : this.look();
+    /** What is to be shown after lines, the last of them with this reply; null where they have changed nothing. */
+    lookAfter(lines, reply) {
+      const words = lines.map(wordOf);
+      if (words.every((word) => LOOKS.has(word))) return null;
+      if (words.length === 1 && TAKES.has(words[0])) return this.takenLook(goneIn(reply));
+      return words.every((word) => ADDS.has(word) || LOOKS.has(word)) ? this.addedLook() : this.look();
     }
 
-    /** Plays lines. Each reply is a list of lines, or its bytes where it is long, with how many lines it has; of an `explain` its steps are told, too. */
-    lines({ lines }) {
-      const replies = [], lengths = [], slices = [];
+    /** The reply to a line: a list of lines, or bytes where it is long; how many they are; of `explain` its steps. */
+    reply(line) {
+      const bytes = this.session.bytes(line), isLong = bytes.length > MOST_LINES_READ;
+      const reply = isLong ? bytes : linesOf(bytes);
+      if (!isLong && this.told.count + this.unseen.length <= MOST_WITH_TEXTS) Asking.addCalls(this.texts, reply);
+      const slice = wordOf(line) === "explain" ? Asking.sliceIn(linesOf(bytes)) : null;
+      return { reply, length: Told.countLines(bytes), slice };
+    }
+
+    /** Plays lines, and tells what is to be shown then; `isMore` says that others follow, after which it tells that. */
+    lines({ lines, isMore = false }) {
+      const told = [];
       let last = null;
       for (const line of lines) {
         if (this.session.hasEnded) break;
         if (line.trim() === "quit") last = this.look(); // after it nothing can be asked
-        const bytes = this.session.bytes(line), reply = bytes.length > MOST_LINES_READ ? bytes : linesOf(bytes);
-        if (reply !== bytes) Asking.addCalls(this.texts, reply);
-        replies.push(reply);
-        lengths.push(Told.countLines(bytes));
-        slices.push(wordOf(line) === "explain" ? Asking.sliceIn(linesOf(bytes)) : null);
+        told.push(this.reply(line));
+        this.unseen.push(line);
       }
-      const { hasEnded } = this.session;
-      return { replies, lengths, slices, hasEnded, look: hasEnded ? last : this.lookAfter(lines, replies) };
+      const { hasEnded } = this.session, parts = ["reply", "length", "slice"];
+      const [replies, lengths, slices] = parts.map((part) => told.map((one) => one[part]));
+      if (isMore && !hasEnded) return { replies, lengths, slices, hasEnded, look: null };
+      const unseen = this.unseen.splice(0), reply = replies[replies.length - 1];
+      const look = hasEnded ? last : this.lookAfter(unseen, reply);
+      return { replies, lengths, slices, hasEnded, look };
     }
 
     /** Asks what no line of the user asks for, and what changes nothing: the text of a step's goal, or on what a value or a goal rests. */
@@ -141,6 +178,8 @@ const WorkerSide = ((Graph, Asking, Told, Short) => {
       open: (message) => side.open(message),
       lines: (message) => side.lines(message),
       ask: (message) => side.ask(message),
+      earlier: (message) => side.earlier(message),
+      without: (message) => side.without(message),
     };
     return async (message) => {
       try {

@@ -9,7 +9,8 @@ const Module = require("../../model/causes.js");
 const MISTAKES = require("../../model/tests/mistakes.js");
 const { scriptOf, PAGE } = require("./engine_of_page.js");
 
-const SCRIPTS = ["graph.js", ...["tokens", "habits", "nearest", "reader", "syntax_causes", "checker_causes", "causes"].map((name) => `../model/${name}.js`)];
+const TEXTS = ["tokens", "habits", "cures", "nearest", "reader", "syntax_causes", "checker_causes", "causes"];
+const SCRIPTS = ["graph.js", ...TEXTS.map((name) => `../model/${name}.js`)];
 
 test("the page's scripts say of each mistake what the module says", () => {
   const page = fs.readFileSync(PAGE, "utf8");

@@ -7,6 +7,7 @@ const assert = require("node:assert/strict");
 const { engineOfPage } = require("./engine_of_page.js");
 const { QUERIES, programOf, chance, plainGraph, plainLanes, lineByChance, follow } = require("./chance.js");
 const Graph = require("../graph.js");
+const Stuck = require("../../model/stuck.js");
 const Lanes = require("../lanes.js");
 const RunModel = require("../run_model.js");
 const WorkerSide = require("../worker_side.js");
@@ -42,7 +43,7 @@ test("the order that is tidied is lawful, and goes on in a lane as long as it ca
 
 test("goals that wait for each other in a chain of many thousands are no circle, and are one when the last waits for the first", () => {
   const chain = Array.from({ length: 15000 }, (none, index) => `0.${index + 1} waits _0_${index + 1} after(_0_${index + 1},_0_${index + 2})`);
-  assert.deepEqual(Graph.circleOf(Graph.readGoals(chain)), []);
+  assert.deepEqual(Stuck.circleOf(Graph.readGoals(chain)), []);
   const circle = [...chain.slice(0, 5000), "0.5001 waits _0_5001 after(_0_5001,_0_1)"];
-  assert.equal(Graph.circleOf(Graph.readGoals(circle)).length, 5001);
+  assert.equal(Stuck.circleOf(Graph.readGoals(circle)).length, 5001);
 });

@@ -1,4 +1,4 @@
-// Tests of what the page asks the console: `since`, `goal`, `explain` and `keep`, and the last two of a goal, too, where the engine knows that.
+// Tests of what the page asks the console: `since`, `goal`, `explain` and `keep`.
 "use strict";
 
 const test = require("node:test");
@@ -10,18 +10,11 @@ const RunModel = require("../run_model.js");
 const Told = require("../told.js");
 const WorkerSide = require("../worker_side.js");
 const { engineOfPage } = require("./engine_of_page.js");
-const { teach } = require("./knowing_engine.js");
 const { QUERIES, programOf, chance, plainGraph, lineByChance, follow } = require("./chance.js");
 const { eachPlay } = require("./runs.js");
 
 const LINES = 25, SEEDS = 2;
 const bytes = (text) => new TextEncoder().encode(text);
-
-async function knowingEngine() {
-  const { engine } = await engineOfPage();
-  teach(engine.constructor, Graph);
-  return engine;
-}
 
 /** The words of all lines that a session is asked from now on. */
 function askedOf(session) {
@@ -32,13 +25,6 @@ function askedOf(session) {
   };
   return asked;
 }
-
-test("which commands are known of a goal is found by one trial, and each for itself", async () => {
-  const answers = (told) => ({ lines: (lines) => lines.map((line) => [told(line)]) });
-  assert.deepEqual([...Asking.goalFormsKnown(answers(() => "F25 command"))], []);
-  assert.deepEqual([...Asking.goalFormsKnown(answers((line) => (line.startsWith("keep ") ? "kept 0" : "F25 command")))], ["keep"]);
-  assert.deepEqual([...Asking.goalFormsKnown((await knowingEngine()).open(Asking.TRIAL))], ["explain", "keep"]);
-});
 
 test("after each line the steps and the goals' texts are those of the console, and the whole record is not asked for again", async () => {
   const { engine } = await engineOfPage();
@@ -116,7 +102,7 @@ test("what a value rests on gives the same value when `keep` has taken all the r
 });
 
 test("the page follows `keep` of a value and of a goal", async () => {
-  const knowing = await knowingEngine(), side = new WorkerSide(knowing), model = new RunModel("");
+  const { engine } = await engineOfPage(), side = new WorkerSide(engine), model = new RunModel("");
   follow(model, side.open({ given: { program: programOf("quicksort"), query: "quicksort([3,1,2],R)", history: "" } }).look);
   follow(model, side.lines({ lines: ["leap 12"] }).look);
   const waiting = model.goals.find((goal) => goal.status === "waits"), inner = model.graph.steps.find((step) => step.binds.length > 0).binds[0].variable;

@@ -1,6 +1,5 @@
 // Tests of web/ghcdb.html, in a headless Chromium and a headless Firefox: what a value rests on is lit, other choices are ringed and can be taken,
-// a value is kept alone by one line; a goal, too, with an engine that knows that; and the page asks the console for no more than it needs.
-import fs from "node:fs";
+// a value or a goal is kept alone by one line; and the page asks the console for no more than it needs.
 import assert from "node:assert/strict";
 import { inBrowsers, open, pageWith } from "./in_browsers.mjs";
 
@@ -8,11 +7,13 @@ const text = (id) => `document.getElementById(${JSON.stringify(id)}).textContent
 const numbers = (selector, name = "step") => `[...document.querySelectorAll(${JSON.stringify(selector)})].map((one) => Number(one.dataset.${name}))`;
 const lines = "[...document.querySelectorAll('#told > .typed')].map((one) => one.textContent.slice(2))";
 
-/** A copy of the page whose engine is taught the forms of a goal; in the page itself too, for a browser that refuses workers. */
-function knowingPage({ withoutWorker = false } = {}) {
-  const taught = `${fs.readFileSync(new URL("knowing_engine.js", import.meta.url), "utf8")}\nteach(Engine, Graph);\n`;
-  const refused = 'window.Worker = class { constructor() { throw new Error("refused"); } };';
-  return pageWith((page) => page.replace('<script data-file="worker_side.js">\n', (found) => `${withoutWorker ? `<script>${refused}</script>` : ""}${found}${taught}`));
+/** A copy of the page in a browser that refuses workers, which notes the first word of each line that its engine is asked. */
+function notingPage() {
+  const noting = `window.Worker = class { constructor() { throw new Error("refused"); } };
+  { const { open } = Engine.prototype; Engine.asked = [];
+    Engine.prototype.open = function noted(given) { const session = open.call(this, given), { bytes } = session;
+      session.bytes = (text) => { Engine.asked.push(text.trim().split(/ +/)[0]); return bytes.call(session, text); }; return session; }; }`;
+  return pageWith((page) => page.replace('<script data-file="worker_side.js">\n', (found) => `<script>${noting}</script>${found}`));
 }
 
 inBrowsers("what a value rests on is lit, the other choice is ringed, and a click takes it beside", async (page) => {
@@ -47,9 +48,8 @@ inBrowsers("before a value is kept alone all that would go is ringed, and one li
   assert.ok(await page.value('document.getElementById("menu").hidden'));
 });
 
-inBrowsers("an engine that knows explain and keep of a goal: a goal that waits is explained and kept alone", async (page) => {
-  const { file, remove } = knowingPage();
-  await open(page, "#example=quicksort&query=quicksort([3,1,2],R)&lines=leap 6", [1440, 900], file);
+inBrowsers("a goal that waits is explained and kept alone", async (page) => {
+  await open(page, "#example=quicksort&query=quicksort([3,1,2],R)&lines=leap 6", [1440, 900]);
   const waiting = await page.value('Talk.run.goals.find((goal) => goal.status === "waits").name');
   await page.value(`Menus.open({ goal: "${waiting}" }, document.getElementById("canvas"))`);
   await page.click(`#menu [data-line="explain ${waiting}"]`);
@@ -60,11 +60,10 @@ inBrowsers("an engine that knows explain and keep of a goal: a goal that waits i
   await page.value(`Resting.askKeep("${waiting}")`);
   await page.click("#menu .danger");
   assert.deepEqual(await page.value("Talk.run.graph.steps.map((step) => step.number)"), slice);
-  remove();
 });
 
 inBrowsers("a step asks for no whole record and no second session, also where the page itself has the engine, and goals' texts come when one looks", async (page) => {
-  const { file, remove } = knowingPage({ withoutWorker: true });
+  const { file, remove } = notingPage();
   await open(page, "#example=quicksort&query=quicksort([3,1,2],R)&lines=leap 20", [1440, 900], file);
   await page.value("(Engine.asked.length = 0, true)");
   await page.value('Talk.send("step " + Talk.run.goals.find((goal) => goal.status === "ready").name)');

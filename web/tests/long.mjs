@@ -1,46 +1,13 @@
 // Tests of web/ghcdb.html with runs of any length, in a headless Chromium and a headless Firefox: 100,000 steps are drawn while the page goes on,
 // a step is lit with its causes, a line that is at work is stopped. With GHCDB_LONG=1 a run of 1,000,000 steps is tried, too.
 import fs from "node:fs";
-import os from "node:os";
 import assert from "node:assert/strict";
 import { inBrowsers, open } from "./in_browsers.mjs";
+import { WATCH, measured, quickEnough } from "./watching.mjs";
 
 const LONGEST_FREEZE = 100, LONGEST_STEP = 100, LONGEST_LIGHT = 500; // milliseconds on a machine that does nothing else
 const MOST_MEMORY = 1000; // MB of the browser with all its processes
-const MOST_ROUNDS = 8; // the least time of some rounds counts, for other work may be done on the machine
 const PRIMES = "#example=primes&query=primes(20000,Ps)";
-
-/** Puts up what measures: how long the page stands still, and by how much other work makes this machine slower at this time. */
-const WATCH = `(() => {
-  const channel = new MessageChannel();
-  let last = 0, longest = 0, isOn = false;
-  channel.port1.onmessage = () => {
-    const now = performance.now();
-    longest = Math.max(longest, now - last);
-    last = now;
-    if (isOn) channel.port2.postMessage(0);
-  };
-  const work = () => { const start = performance.now(); let sum = 0; for (let at = 0; at < 8000000; at++) sum += at % 7; return performance.now() - start + sum * 0; };
-  window.slowness = async () => {
-    const times = [];
-    for (let round = 0; round < 16; round++) { times.push(work()); await new Promise((done) => setTimeout(done, 2)); }
-    const sorted = times.slice(4).sort((one, other) => one - other); // the first rounds are slow, for the browser has not compiled them yet
-    return Math.max(1, sorted[9] / sorted[0]);
-  };
-  window.measured = async (does) => {
-    last = performance.now();
-    longest = 0;
-    isOn = true;
-    channel.port2.postMessage(0);
-    const start = performance.now();
-    await does();
-    const took = performance.now() - start;
-    await new Promise((done) => setTimeout(done, 100));
-    isOn = false;
-    return { took: Math.round(took), freeze: Math.round(longest), slowness: await window.slowness() };
-  };
-  return true;
-})()`;
 
 /** The memory of a browser in MB: of each of its processes what it has alone, and its share of what several have. Nothing where the system does not tell. */
 function memoryOf({ browser }) {
@@ -51,24 +18,8 @@ function memoryOf({ browser }) {
   return [...own].reduce((sum, pid) => sum + Number(told(pid, "smaps_rollup", /^Pss: +(\d+)/m) || 0) / 1000, 0);
 }
 
-/** How long something took and the page stood still; `slowness` is at least how many programs want each processor of this machine. */
-async function measured(page, does) {
-  const told = await page.value(`measured(() => ${does})`);
-  return { ...told, slowness: Math.max(told.slowness, os.loadavg()[0] / os.cpus().length) };
-}
-
 /** The number of a step behind step 60,000 on which no other depends. */
 const LEAF = "(() => { const { graph } = Talk.run; let at = graph.indexOf(60000); while (graph.lastEffect.at(at) !== Graph.NONE) at++; return graph.numbers.at(at); })()";
-
-/** Tries something until a round is as quick as it has to be. */
-async function quickEnough(words, isQuick, does) {
-  const told = [];
-  for (let round = 0; round < MOST_ROUNDS; round++) {
-    told.push(await does());
-    if (isQuick(told[told.length - 1])) return;
-  }
-  assert.fail(`${words}: ${JSON.stringify(told)}`);
-}
 
 inBrowsers("a run of 100,000 steps is drawn while the page goes on; a further step and 33,333 causes are shown quickly", async (page) => {
   await quickEnough("the run", ({ freeze, slowness }) => freeze <= LONGEST_FREEZE * slowness, async () => {

@@ -2,31 +2,10 @@
 // started, kept and told.
 import assert from "node:assert/strict";
 import { inBrowsers, open } from "./in_browsers.mjs";
+import { chooseExample, field, lines, startOwn, text, until, write, PHONE, WIDE } from "./using.mjs";
+import { measured, quickEnough, WATCH } from "./watching.mjs";
 
-const PHONE = [390, 800], WIDE = [1440, 900];
 const STACK = "stack([],_) :- true | true.\nstack([push(X)|S],T) :- true | stack(S,[X|T]).\nstack([pop(X)|S],[Y|T]) :- true | X = Y, stack(S,T).\n";
-const text = (id) => `(() => { const area = document.getElementById("${id}"); return area.hidden ? "" : area.textContent; })()`;
-const lines = "[...document.querySelectorAll('#told > .typed')].map((one) => one.textContent.slice(2))";
-const field = (id) => `document.getElementById("${id}").value`;
-
-/** Types a text into a field, in the place of what stands there. */
-async function write(page, id, words) {
-  await page.value(`(document.getElementById("${id}").focus(), document.getElementById("${id}").select(), true)`);
-  await page.value(`(document.execCommand("insertText", false, ${JSON.stringify(words)}), true)`);
-}
-
-async function startOwn(page, program, query) {
-  await write(page, "program", program);
-  await write(page, "query", query);
-  await page.value('(document.getElementById("start").requestSubmit(), Talk.settled().then(() => true))');
-}
-
-/** Waits until an expression is true. */
-const until = (page, is) => page.value(`new Promise((done) => { const look = () => (${is} ? done(true) : setTimeout(look, 20)); look(); })`);
-
-async function chooseExample(page, name) {
-  await page.value(`(() => { const list = document.getElementById("examples"); list.value = "${name}"; list.dispatchEvent(new Event("change", { bubbles: true })); return Talk.settled().then(() => true); })()`);
-}
 
 inBrowsers("a text that was changed since Start is told, and started from there; on a phone Start shows the run", async (page) => {
   await open(page, "", WIDE);
@@ -140,8 +119,9 @@ inBrowsers("a program that is too long is not pasted or opened; of a long one th
   await page.value('(Files.openText("p(X) :- X > 0 | true.\\n".repeat(40000) + "q(1) :- r(\\n"), Talk.settled())');
   assert.equal(await page.value(text("note")), "Refused: program: F2 syntax at 40002:1. Mend it, then press Start.");
   assert.equal(await page.value(text("answer")), "The program is so long that the page does not look for the cause.×");
-  const taken = await page.value('(async () => { const start = performance.now(); document.getElementById("start").requestSubmit(); await Talk.settled(); return performance.now() - start; })()');
-  assert.ok(taken < 2000, `Start took ${Math.round(taken)} ms`);
+  await page.value(WATCH);
+  const starts = '(document.getElementById("start").requestSubmit(), Talk.settled())';
+  await quickEnough("Start", ({ took, slowness }) => took < 2000 * slowness, () => measured(page, starts));
 });
 
 inBrowsers("where nothing is ready, the page tells who waits for what, and what to do", async (page) => {

@@ -184,6 +184,7 @@ inBrowsers("the chosen step's clause is marked in the program, lines wrap, the d
 inBrowsers("the record is shown up to a step, steps are found, a lane folds to a bar, a part of a picture is saved", async (page) => {
   await open(page, "#example=quicksort&query=quicksort([3,1,2],R)&lines=leap", WIDE);
   await page.value('(document.getElementById("until").value = "5", document.getElementById("until").dispatchEvent(new Event("input")))');
+  await page.idle();
   assert.deepEqual(await page.value(numbers("#canvas .mark")), [1, 2, 3, 4, 5]);
   assert.match(await page.value(text("note")), /^This is the run after 5 steps: nothing was taken back/);
   assert.deepEqual(await page.value('[...document.querySelectorAll("#canvas .goal")].map((one) => one.dataset.goal).sort()'), ["2.2", "2.3", "5.1", "5.2"]);

@@ -1,0 +1,135 @@
+// Tests of web/ghcdb.html, in a headless Chromium and a headless Firefox: one time is on the screen, useless clauses are
+// not offered, and what is said of refusals, waits and failures is what the console says.
+import assert from "node:assert/strict";
+import { inBrowsers, open } from "./in_browsers.mjs";
+import { begin, lines, numbers, text, until, WIDE } from "./using.mjs";
+
+/** What the panels, the lanes' names and the count say, without the buttons that do something. */
+const SCREEN = `(() => {
+  const textsOf = (selector) => [...document.querySelectorAll(selector)].map((one) => one.textContent);
+  const goals = textsOf("#goals .row"), marks = [...document.querySelectorAll("#canvas .mark")];
+  const steps = marks.map((one) => one.dataset.step);
+  return {
+    goals: goals.length > 0 ? goals : textsOf("#goals"), values: textsOf("#store .row"), steps,
+    names: textsOf("#canvas .names text").sort(), count: document.getElementById("count").textContent,
+  };
+})()`;
+const slider = 'document.getElementById("until")';
+const clauses = "[...document.querySelectorAll('#menu .clause')].map((one) => [one.textContent, one.disabled])";
+
+/** Moves the slider, and waits until that is shown. */
+async function slideTo(page, steps) {
+  await page.value(`(${slider}.value = "${steps}", ${slider}.dispatchEvent(new Event("input")))`);
+  await page.idle();
+}
+
+inBrowsers("the slider shows one time: all that is said is that of a session of the first steps", async (page) => {
+  await open(page, "#example=quicksort&query=quicksort([3,1,2],R)", WIDE);
+  const told = [await page.value(SCREEN)];
+  while (await page.value("Talk.run.goals.length > 0")) {
+    await page.value('Talk.send(document.getElementById("step").dataset.line)');
+    told.push(await page.value(SCREEN));
+  }
+  const all = told.length - 1;
+  assert.equal(all, 27);
+  for (let steps = 0; steps < all; steps++) {
+    await slideTo(page, steps);
+    const count = told[steps].count.replace(/^(\d+) steps?/, `$1 of ${all} steps`);
+    assert.deepEqual(await page.value(SCREEN), { ...told[steps], count });
+  }
+  const offered = await page.value("document.querySelectorAll('#goals [data-line^=step]').length");
+  assert.equal(offered, 0, "no step is offered at an earlier time");
+  await page.click("#show-all-steps");
+  assert.deepEqual(await page.value(SCREEN), told[all]);
+  await page.value('(document.getElementById("play").click(), true)');
+  await until(page, "Overview.until === 3 && Overview.earlier.graph.count === 3");
+  await page.value('Talk.send("undo 27")');
+  assert.equal(await page.value(text("count")), told[all - 1].count, "a line leads back to the present");
+});
+
+inBrowsers("of a run of more than 3,000 steps the slider moves the picture, and the page says so", async (page) => {
+  const goals = 'document.querySelectorAll("#goals .row").length';
+  await open(page, "#example=primes&query=primes(400,Ps)&lines=leap 4000", WIDE);
+  const before = await page.value(goals);
+  await slideTo(page, 2000);
+  assert.equal(await page.value(text("note")), "This is the run after 2000 steps: nothing was taken back. "
+    + "Goals, values and names are those after all steps. Show all steps");
+  for (const panel of ["goals", "store"]) {
+    assert.ok((await page.value(text(panel))).startsWith("after all 4000 steps:"), panel);
+  }
+  assert.equal(await page.value(goals), before);
+  assert.match(await page.value(text("count")), /^2000 of 4000 steps, depth \d+$/);
+});
+
+const MERGE = [
+  "merge(X,[],Z) :- true | Z = X.", "merge([A|X],Y,Z) :- true | Z = [A|R], merge(X,Y,R).",
+  "merge(X,[A|Y],Z) :- true | Z = [A|R], merge(X,Y,R).", "",
+].join("\n");
+
+inBrowsers("a menu asks what clauses say: one that says yes can be clicked, others tell why not", async (page) => {
+  await open(page, "", WIDE);
+  await page.value(begin(MERGE, "merge(X,Y,Z), Y = [b|Y1]"));
+  const menu = async () => {
+    await page.value("Menus.close()");
+    await page.click('#canvas [data-goal="0.1"]');
+    return (await page.value(clauses)).map(([words, isOff]) => [words.replace(/:.*\./, ":"), isOff]);
+  };
+  assert.deepEqual(await menu(),
+    [["by 1: waits for _0_2", true], ["by 2: waits for _0_1", true], ["by 3: waits for _0_2", true]]);
+  await page.value('Talk.send("step 0.2")');
+  assert.deepEqual(await menu(), [["by 3:", false], ["by 2: waits for _0_1", true], ["by 1: says no", true]]);
+  await page.value('Talk.send("step 0.1 1", "step 0.1 2")');
+  const replies = await page.value("Talk.entries.slice(-2).map((entry) => entry.reply[0])");
+  assert.deepEqual(replies, ["F10 no clause matches", "F9 waits"]);
+  await menu();
+  await page.click("#menu .clause");
+  assert.equal((await page.value(lines)).at(-1), "step 0.1 3");
+  await open(page, "#example=bill&query=bill(5,3,T)&lines=leap", WIDE);
+  await page.click('#canvas [data-step="2"]');
+  const says = ["by 3:  price(N,P) :- N >= 10 | P := N * 8. says no", true];
+  assert.deepEqual(await page.value(clauses), [says], "and that of a step, as it would be after a roll");
+  assert.deepEqual(await page.value(numbers("#canvas .mark")), [1, 2, 3, 4, 5, 6], "nothing was taken back for that");
+});
+
+const CHOICE = "c(R) :- true | R = 1.\nc(R) :- true | w(R).\nc(R) :- true | R = 2, R = 3.\nw(X) :- wait(X) | true.\n";
+const ENDS = [
+  [2, /Nothing is ready, and a goal waits\. \d+\.1 waits for _0_1 \(R\): nobody can bind it/],
+  [3, /Goal \d+\.\d has failed: .* are two different things/],
+];
+
+inBrowsers("beside a run that is kept a deadlock and a failure are told, too", async (page) => {
+  await open(page, "", WIDE);
+  for (const [clause, told] of ENDS) {
+    await page.value(begin(CHOICE, "c(R)"));
+    await page.value('Talk.send("step 0.1 1", "leap")');
+    await page.click('#canvas [data-step="1"]');
+    await page.click(`#menu [data-try="1 ${clause}"]`);
+    await page.value('Talk.send("leap")');
+    const note = await page.value(text("note"));
+    assert.match(note, /^Above is the run that you kept\./);
+    assert.match(note, told);
+    await page.click("#drop-run");
+  }
+});
+
+const CIRCLES = [
+  ["p(1) :- true | true.\nr(1,2) :- true | true.\ns(2,X) :- true | true.\n", "p(X), r(X,Y), s(Y,X)", ["0.2", "0.3"]],
+  ["p(a,_) :- true | true.\np(_,b) :- true | true.\n", "p(X,Y), p(Y,X)", ["0.1", "0.2"]],
+];
+
+inBrowsers("`F1 = 2` is a value and no refusal; a circle is one on the page as at the terminal", async (page) => {
+  await open(page, "#example=append&query=F1 = 2&lines=leap;show F1", WIDE);
+  assert.equal(await page.value(text("answer")), "");
+  assert.equal(await page.value("document.querySelectorAll('#told .refused').length"), 0);
+  assert.ok((await page.value(text("told"))).endsWith("> show F1F1 = 2"));
+  for (const [program, query, names] of CIRCLES) {
+    await page.value(begin(program, query));
+    await page.value('Talk.send("leap")');
+    const [, circle] = /^Nothing is ready: (.*), in a circle\.$/.exec(await page.value(text("note")));
+    const way = circle.split(" waits for ");
+    assert.deepEqual(way.slice(1).sort(), names);
+    assert.equal(way[0], way.at(-1));
+    const atTerminal = await page.value("Stuck.linesOf(Talk.run.goals, (variable) => variable)");
+    assert.ok(atTerminal.includes(`a circle: ${circle}`), atTerminal.join("; "));
+  }
+});
