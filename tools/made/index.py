@@ -1,4 +1,8 @@
 """The index of calls: of each its first sentence, the names of its clauses, its refusals and its cost; and the laws."""
+import re
+
+# What the comment of a law begins with that is a lemma of the field: its name, perhaps of which case, and what it says.
+LEMMA = re.compile(r"\*([^*]+)\*(, [^:]+)?: (.*)", re.DOTALL)
 
 
 def cell(text):
@@ -45,6 +49,17 @@ def laws_page(calls, specs, order):
             lines += [f"| [{law.name}](../../{law.path}#L{law.line}) | {cell(law.doc)} | {words_of(law, specs)} |" for law in here]
             lines.append("")
     return lines
+
+
+def lemmas_table(calls, specs):
+    """The laws that are lemmas of the field, under their names there."""
+    yield "| lemma | law | says | words |"
+    yield "|---|---|---|---|"
+    for law in (call for call in calls if call.is_law):
+        if found := LEMMA.match(law.doc):
+            name, case, says = found.groups()
+            place = f"[{law.name}](../{law.path}#L{law.line})"
+            yield f"| {name}{case or ''} | {place} | {cell(says[:1].upper() + says[1:])} | {words_of(law, specs)} |"
 
 
 def words_of(call, specs):
