@@ -2,6 +2,7 @@
 // one, no part of the page beyond the window, and enough contrast, on wide and narrow windows, light and dark.
 import assert from "node:assert/strict";
 import { inBrowsers, open } from "./in_browsers.mjs";
+import { until } from "./using.mjs";
 
 const SIZES = { wide: [1440, 900], phone: [390, 800] };
 const RUNS = [
@@ -125,7 +126,7 @@ inBrowsers("what all stands for is in sight wherever one has scrolled, and a lab
   await open(page, "#example=primes&query=primes(30,Ps)&lines=leap 50", SIZES.phone);
   assert.ok(await page.value('document.getElementById("canvas").scrollLeft') > 20);
   const legend = '[...document.querySelectorAll("#canvas .legend text")].every((one) => { const box = one.getBoundingClientRect(); return box.left >= 0 && box.right <= innerWidth; })';
-  assert.ok(await page.value(legend));
+  await until(page, legend); // the browser tells of the scroll with its next frame
   assert.ok(!(await page.value('document.querySelector("#canvas .names").textContent')).includes("……"));
 });
 
