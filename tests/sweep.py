@@ -33,9 +33,12 @@ import sys
 import time
 from concurrent.futures import ThreadPoolExecutor
 from itertools import takewhile
+from pathlib import Path
 from typing import NamedTuple
 
 sys.dont_write_bytecode = True
+sys.path.insert(1, str(Path(__file__).resolve().parent.parent / "tools" / "made"))
+import commands
 from lib.judged_runs import RUNS
 from lib.program import ROOT
 from lib.refusing import ALL_BEHIND, F1, ORDER, Session, tells_lines, tried
@@ -147,6 +150,23 @@ STORIES = {
     "load_whole": Story(APPEND, "append([1],[2],R)", "goals;records;shelf;save;redo 2;redo 6;redo 5;save 1;records;save", WHOLE_HISTORY),
     "load": Story(APPEND, "append([1],[2],R)", "goals;records;show R;undo 2;records;leap;records;leap;show R;save", HISTORY),
 }
+# What follows a command in a run of append of which one step is taken, by the word of commands.table.
+SAMPLES = {"": "1", "goal": "1.2", "kept": "1", "variable": "R", "value": "R", "predicate": "append/3"}
+
+
+def used_commands():
+    """The commands that sessions use."""
+    return {line.split()[0] for story in STORIES.values() for line in story.lines.split(";")}
+
+
+def looks_by_table():
+    """Lines for the commands that only look and that no session above uses, so that a new one is tried by its row alone."""
+    rows = [row for row in commands.rows_of(commands.read_groups(ROOT)) if row.effect == "looks" and row.name not in used_commands()]
+    return [f"{row.name} {SAMPLES[row.follows]}" if row.rest else row.name for row in rows]
+
+
+if looks_by_table():
+    STORIES["looks"] = Story(APPEND, "append([1],[2],R)", ";".join(["step 0.1", *looks_by_table()]))
 
 
 class Trial(NamedTuple):
@@ -299,8 +319,7 @@ def sweep(case, pool):
 
 def unused_commands():
     """The commands that no session uses."""
-    used = {line.split()[0] for story in STORIES.values() for line in story.lines.split(";")}
-    return set((ROOT / "commands.txt").read_text().split()) - used
+    return set((ROOT / "commands.txt").read_text().split()) - used_commands()
 
 
 def sweeps(folder):

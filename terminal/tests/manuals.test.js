@@ -1,4 +1,4 @@
-// The manuals beside the console's commands: none gives one to the terminal alone, and two of them have them all.
+// The commands as manuals tell them, beside what the console takes.
 "use strict";
 
 const assert = require("node:assert");
@@ -21,38 +21,34 @@ function rowsAfter(text, heading) {
   return lines.map((line) => line.split(" | ").map((cell) => cell.replace(/^\| | \|$/g, "")));
 }
 
-/** What a part of the man page sets in bold, line by line. */
-function boldIn(text) {
-  const lines = text.split("\n").filter((line) => line.startsWith(".B"));
-  return lines.map((line) => line.replace(/^\.B[RI]? /, "").replace(/\\f[RPI]|"| [.,]$|[.]$/g, "").replace(/ +/g, " "));
+const SAMPLES = { G: "0.1", C: "1", N: "1", X: "T", "F/N": "bill/3", K: "1", TERM: "a", GOALS: "true", FILE: "run.history", COMMAND: "step" };
+const lineOf = (form) => form.replace(/ or \w$| \.\.$/, "").split(" ").map((word, place) => (place > 0 && SAMPLES[word]) || word).join(" ");
+
+const loaded = engineOfPage();
+
+/** Does a console take a form, with its optional word and without it? */
+async function isTaken(form) {
+  const { engine } = await loaded, lines = [form.replace(/ \[.*\]/, ""), form.replace(/[[\]]/g, "")];
+  const session = engine.open({ program: read("examples/bill.ghc"), query: "bill(12,3,T)" });
+  return lines.every((line) => session.line(lineOf(line))[0] !== "F25 command");
 }
 
-const ofTerminal = (line) => line.startsWith("| at a terminal:");
+/** The commands of commands.table, each with its form. */
+const TABLE = read("commands.table").split("\n").filter((line) => /^[^#]+\|/.test(line)).map((line) => {
+  const [form, effect] = line.replace(/^& /, "").split("|").map((cell) => cell.trim());
+  return { form, isOfConsole: effect !== "front" };
+});
 
-// Each manual: the forms that it gives to the terminal, and where it tells the console's commands.
-const MANUALS = {
-  "packaging/ghcdb.1": {
-    forms: (text) => boldIn(part(text, "At a terminal also", ".SH")),
-    told: (text) => boldIn(part(text, ".SH COMMANDS", "At a terminal also")).join("\n"),
-  },
-  "docs/CHEATSHEET.md": {
-    forms: (text) => inBackticks(text.split("\n").find(ofTerminal)),
-    told: (text) => inBackticks(text.split("\n").filter((line) => !ofTerminal(line)).join("\n")).join("\n"),
-  },
-  "docs/TERMINAL.md": { forms: (text) => rowsAfter(text, "## 1. The terminal").flatMap(([cell]) => inBackticks(cell)) },
-};
-
-const SAMPLES = { G: "0.1", N: "1", X: "T", FILE: "run.history", COMMAND: "step" };
-const lineOf = (form) => form.split(" ").map((word, place) => (place > 0 && SAMPLES[word]) || word).join(" ");
+test("the console takes each form of the table, and none that is the terminal's", async () => {
+  for (const { form, isOfConsole } of TABLE) {
+    assert.strictEqual(await isTaken(form), isOfConsole, form);
+  }
+});
 
 test("what a manual gives to the terminal no console takes", async () => {
-  const { engine } = await engineOfPage();
-  const session = engine.open({ program: read("examples/bill.ghc"), query: "bill(12,3,T)" });
-  for (const [file, manual] of Object.entries(MANUALS)) {
-    const forms = manual.forms(read(file));
-    assert.ok(forms.includes("stuck") && forms.includes("save FILE") && forms.length > 7, `${file}: ${forms}`);
-    for (const form of forms) assert.deepStrictEqual(session.line(lineOf(form)), ["F25 command"], `${file}: ${form}`);
-  }
+  const forms = rowsAfter(read("docs/TERMINAL.md"), "## 1. The terminal").flatMap(([cell]) => inBackticks(cell));
+  assert.ok(forms.includes("stuck") && forms.includes("save FILE") && forms.length > 7, `${forms}`);
+  for (const form of forms) assert.ok(!(await isTaken(form)), form);
 });
 
 const DOUBTS = /\bnot known\b|\bnot know\b|\bknows? (it|them)\b|\bnewer\b/;
@@ -64,13 +60,6 @@ test("no manual doubts that the console knows its commands", () => {
     for (const sentence of sentences.filter(isOfConsole)) {
       assert.doesNotMatch(sentence, DOUBTS, file);
     }
-  }
-});
-
-test("man page and cheat sheet tell each command of the console", () => {
-  for (const file of ["packaging/ghcdb.1", "docs/CHEATSHEET.md"]) {
-    const told = MANUALS[file].told(read(file));
-    for (const name of CONSOLE) assert.match(told, new RegExp(`(^|[ ,])${name}\\b`, "m"), `${file}: ${name}`);
   }
 });
 

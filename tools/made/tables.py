@@ -1,10 +1,9 @@
-"""The tables of commands, refusals and limits, from fault.rt, help.rt, the specs of replies, and the constants of the code."""
+"""The tables of commands, refusals and limits, from fault.rt, the specs of replies, and the constants of the code."""
 
 import re
 
 FAULT = "crates/ghc_term/src/fault.rt"
 LIMIT = "crates/ghc_term/src/limit.rt"
-HELP = "crates/ghcdb/src/help.rt"
 
 # Each limit: the constant of the code, the equation of specs/ that ends with the same number ("" where none does), and what comes past it.
 LIMITS = [
@@ -62,17 +61,26 @@ def faults(root):
 
 
 def limit_words(root):
-    """The words that F6 tells."""
-    return re.findall(r"=> \"(\w+)\"", (root / LIMIT).read_text(encoding="utf-8"))
+    """The words that F6 tells, each with the comment above its variant."""
+    text = (root / LIMIT).read_text(encoding="utf-8")
+    words = dict(re.findall(r"Limit::(\w+) => \"(\w+)\"", text))
+    variants = text.partition("pub enum Limit {")[2].partition("\n}")[0]
+    return [(words[name], comment) for comment, name in re.findall(r"/// (.*)\n\s*(\w+),", variants)]
+
+
+SHOWN = {"line": "L", "column": "C", "clause": "N", "variable": "V", "name": "NAME", "arity": "ARITY", "": "WHICH", "step": "S", "earlier": "A", "later": "B"}
+
+
+def shown_text(name, text):
+    """The text of a refusal with letters for what it names."""
+    return re.sub(r"\{(\w*)\}", lambda found: "L" if name == "History" else SHOWN[found[1]], text)
 
 
 def refusals_table(root):
     yield "| no. | text | refused because |"
     yield "|---|---|---|"
-    shown = {"line": "L", "column": "C", "clause": "N", "variable": "V", "name": "NAME", "arity": "ARITY", "": "WHICH", "step": "S", "earlier": "A", "later": "B"}
     for name, number, text, reason in faults(root):
-        text = re.sub(r"\{(\w*)\}", lambda found: "L" if name == "History" else shown[found[1]], text)
-        yield f"| F{number} | `{text}` | {reason.rstrip('.')} |"
+        yield f"| F{number} | `{shown_text(name, text)}` | {reason.rstrip('.')} |"
 
 
 def constant(root, path, name):
@@ -111,25 +119,6 @@ def limits_table(root, specs):
         yield f"| {comment[:1].upper()}{comment[1:].rstrip('.')} | {value:,} | {beyond} | [{name}](../crates/{path}#L{line}) |"
 
 
-def helped(root):
-    """The commands as `--help` tells them: usage and what they do."""
-    text = (root / HELP).read_text(encoding="utf-8").partition("a line each:\n")[2].partition("\n\n")[0]
-    found, usage = [], ""
-    for line in text.split("\n"):
-        begins = re.match(r"  (\S.*?)(?:  +(\S.*))?$", line)
-        usage, does = (begins[1], begins[2]) if begins else (usage, line.strip())
-        if does:
-            found.append((usage, does))
-    return found
-
-
-def usage_table(root):
-    yield "| type | to |"
-    yield "|---|---|"
-    for usage, does in helped(root):
-        yield f"| {', '.join(f'`{one}`' for one in usage.split(', '))} | {does} |"
-
-
 def told_faults(specs, names, word, only=None, seen=None):
     """The faults that a definition tells, as `F16`, in the order of its text: its own, and in their place those of the words it names."""
     seen = set() if seen is None else seen
@@ -153,28 +142,28 @@ def tells(word):
     return any(re.search(r"\bFault\b|\bAnswer\b|\brefused\b", line) for line in word.text) and word.crate in ("ghc_core", "ghc_fire", "ghc_console")
 
 
-def command_rows(root, specs):
+def command_rows(root, specs, rows):
+    """Each command with its refusals, F1 left out."""
     names = {name: f"F{number}" for name, number, *_ in faults(root)}
-    for usage, does in [(one, does) for usages, does in helped(root) for one in usages.split(", ")]:
+    for row in rows:
         refusals = []
-        name = usage.split()[0]
-        for by in REFUSED_BY.get(name, [("ghc_console", "Replies", name)]):
+        for by in REFUSED_BY.get(row.name, [("ghc_console", "Replies", row.name)]):
             if isinstance(by, list):
                 refusals += by
             else:
                 word = [one for one in specs.by_name[by[1]] if one.crate == by[0]][0]
                 refusals += [one for one in told_faults(specs, names, word, by[2] if len(by) > 2 else None) if one not in refusals]
-        yield usage, does, [one for one in refusals if one != "F1"]
+        yield row, [one for one in refusals if one != "F1"]
 
 
-def commands_table(root, specs):
+def commands_table(root, specs, rows):
     yield "| command | what it does | refusals |"
     yield "|---|---|---|"
-    for usage, does, refusals in command_rows(root, specs):
-        yield f"| `{usage}` | {does} | {', '.join(refusals)} |"
+    for row, refusals in command_rows(root, specs, rows):
+        yield f"| `{row.form}` | {row.tells} | {', '.join(refusals)} |"
 
 
-def unlike_formats(root, specs, page):
+def unlike_formats(root, specs, rows, page):
     """Where the table of commands in FORMATS names other refusals than specs do, said in a line each."""
     section = page.partition("## 10. Commands\n")[2].partition("\n## ")[0]
     written = {}
@@ -183,8 +172,8 @@ def unlike_formats(root, specs, page):
             cells = re.split(r"(?<!\\)\|", line)
             for name in re.findall(r"`([a-z]+)", cells[1]):
                 written.setdefault(name, set()).update(re.findall(r"\bF\d+", cells[3]))
-    for usage, _, refusals in command_rows(root, specs):
-        name, told = usage.split()[0], {one.split()[0] for one in refusals}
+    for row, refusals in command_rows(root, specs, rows):
+        name, told = row.name, {one.split()[0] for one in refusals}
         if name not in written:
             yield f"FORMATS: the table of commands has no `{name}`"
         elif written[name] != told:
