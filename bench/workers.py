@@ -68,7 +68,7 @@ def stolen():
 def undisturbed(plays, runs):
     """What each of the plays gives in so many runs by turns, without those during which more was stolen than a hundredth of a second; all
     of one, where that leaves it none."""
-    played = [[] for _ in plays]
+    played: list[list] = [[] for _ in plays]
     for _ in range(runs):
         for play, given in zip(plays, played):
             before = stolen()

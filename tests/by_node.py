@@ -33,9 +33,9 @@ def copy_launcher(folder):
 
 def said_with(path):
     """What the launcher says of its program, and the last reply of a session, where nothing else is on the PATH."""
-    words = [os.environ["GHCDB"], ROOT / "examples" / "append.ghc", "--query", "append([1],[2],R)"]
-    given = {"env": {"PATH": path}, "input": "leap\nshow R\n", "timeout": 300}
-    ended = subprocess.run(words, capture_output=True, text=True, **given)
+    words: list = [os.environ["GHCDB"], ROOT / "examples" / "append.ghc", "--query", "append([1],[2],R)"]
+    lines, env = "leap\nshow R\n", {"PATH": path}
+    ended = subprocess.run(words, capture_output=True, text=True, env=env, input=lines, timeout=300)
     return ended.stderr, ended.stdout.splitlines()[-1:]
 
 

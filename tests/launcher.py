@@ -328,7 +328,7 @@ def with_input(copy):
 def without_what_tests_need(copy):
     """Cases of terminal/test, which is red where it could try nothing."""
     words = [ROOT / "terminal" / "test"]
-    for there, missing in ([], "node"), (["node"], "python3"):
+    for there, missing in ((), "node"), (("node",), "python3"):
         places = {"PATH": ":".join(str(copy.folder / "bin" / name) for name in ("tools", *there))}
         ended = subprocess.run(words, env=places, capture_output=True, text=True, timeout=SECONDS)
         said = f"terminal/test: {missing} is not on the PATH, so nothing was tried\n"

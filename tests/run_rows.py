@@ -157,7 +157,7 @@ def entries(source):
 
 def read_row(path):
     """The entries of a row by their keys; those of LISTED are lists."""
-    row = {key: [] for key in LISTED}
+    row: dict = {key: [] for key in LISTED}
     for key, value in entries(path.read_bytes()):
         if key in LISTED:
             row[key].append(value.removesuffix(b"\n"))
@@ -204,7 +204,7 @@ def table_row(line):
     if len(columns) != 3 or columns[0] not in (b"program", b"query", b"history"):
         return BadRow(f"a line of a table is not of the form: {line!r}")
     try:
-        row = {key: [] for key in LISTED}
+        row: dict = {key: [] for key in LISTED}
         if columns[0] == b"history":
             row |= {"example": b"append.ghc", "file run.history": expand(columns[1]), "options": b"--load\nrun.history\n"}
             take_example(row)
@@ -253,7 +253,7 @@ def example_of(block, before):
     """The row of an example, where `before` has the rows on which it can go on; none where the block is no example."""
     at_terminal = AT_TERMINAL.fullmatch(block[0]) if block else None
     if at_terminal:
-        row = {key: [] for key in LISTED}
+        row: dict = {key: [] for key in LISTED}
         program = (ROOT / at_terminal[1].decode()).read_bytes()
         return row | {"program": program, "query": at_terminal[2], "session": terminal_session(block[1:])}
     head, _, session = b"\n".join(block).partition(b"\n\n")
@@ -269,7 +269,8 @@ def example_of(block, before):
 
 def read_page(path):
     """The examples of a page, each with its name."""
-    rows, before = [], {}
+    rows: list = []
+    before: dict = {}
     for number, block in blocks_of(path.read_bytes()):
         row = example_of(block, before)
         if row:

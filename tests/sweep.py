@@ -31,6 +31,7 @@ import os
 import re
 import sys
 import time
+from collections.abc import Callable
 from concurrent.futures import ThreadPoolExecutor
 from itertools import takewhile
 from pathlib import Path
@@ -223,7 +224,7 @@ class Case:
         if right:
             return Judged(None, part)
         reply = b"".join(played.replies[trial.at : trial.at + 1])[-200:]
-        told = f"line {trial.at}, requests {trial.first} to {trial.last}: {played.status} {played.errors} {reply}"
+        told = f"line {trial.at}, requests {trial.first} to {trial.last}: {played.status} {played.errors} {reply!r}"
         return Judged(f"failed: {self.name}, {told}", part)
 
     def holds(self, at, got):
@@ -326,7 +327,7 @@ def sweeps(folder):
     """Makes all trials of what has a name that holds one of the words, and of all where there is no word."""
     started, totals, words = time.monotonic(), [0, 0], sys.argv[1:]
     with ThreadPoolExecutor(os.cpu_count()) as pool:
-        kinds = [
+        kinds: list[tuple[dict, Callable]] = [
             (STORIES, lambda *told: sweep(Case(*told), pool)),
             (SCHEDULES, lambda *told: sweep_schedule(ScheduleCase(*told), pool, part_of, are_in_order)),
             (SHARED, lambda *told: sweep_shared(SharedCase(*told), pool, part_of, are_in_order)),

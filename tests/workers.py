@@ -155,7 +155,7 @@ def all_wrong(folder, played, workers):
     """What is wrong with cases that are played by so many workers."""
     started = time.monotonic()
     with ThreadPoolExecutor(os.cpu_count()) as pool:
-        wrong = [it for it in pool.map(lambda it: tried(folder, *it, workers), played) if it]
+        wrong = [it for it in pool.map(lambda it: tried(folder, it[0], it[1], workers), played) if it]
     runs = sum(run_count(case) for case, _ in played)
     print(f"workers: {runs} runs by {workers} workers in {len(played)} sessions, {time.monotonic() - started:.0f} seconds", flush=True)
     return wrong

@@ -13,6 +13,7 @@ import signal
 import stat
 import sys
 import threading
+from collections.abc import Callable
 from pathlib import Path
 
 sys.path[:0] = [str(Path(__file__).resolve().parent)]
@@ -135,7 +136,7 @@ def test_closed_window_in_a_line_leaves_what_was_before(home):
 
 
 def test_nothing_is_left_where_nothing_is_unsaved(home):
-    for lines in ([], ["leap", f"save {home}/saved"]):
+    for lines in ((), ("leap", f"save {home}/saved")):
         terminal = start(home, BILL, "--query", QUERY)
         for line in lines:
             terminal.type(line)
@@ -158,7 +159,8 @@ def test_end_of_input_where_no_lines_are_edited(home):
 
 def test_lines_are_kept_in_a_file_alone(home):
     place = Path(home, ".ghcdb_history")
-    for make in (os.mkfifo, os.mkdir, lambda name: os.symlink("/dev/zero", name)):
+    ways: list[Callable] = [os.mkfifo, os.mkdir, lambda name: os.symlink("/dev/zero", name)]
+    for make in ways:
         make(place)
         terminal = start(home, BILL, "--query", QUERY)
         wants(is_met("=REDU 1 0.1 by 1", terminal.type("step")), "no step")

@@ -35,7 +35,7 @@ COUNTING = ("p(N,_) :- true | M := N + 1, p(M,_).\n", "p(0,X)", "leap 3000",
              "save {file}", "save {file}", "save 1 {file}"])
 DOUBLED = ("d(0,T,R) :- true | R = T.\nd(N,V,R) :- N > 0 | M := N - 1, d(M,f(V,V),R).\n", "d(40,V,Y), W = 1", "leap 79",
            ["leap 900", "step", "leap", "stat", "save {file}"])
-WAYS = ["^C", "^C", "^C", "close", signal.SIGTERM, signal.SIGHUP, signal.SIGKILL]
+WAYS: list = ["^C", "^C", "^C", "close", signal.SIGTERM, signal.SIGHUP, signal.SIGKILL]
 MOST_WAIT = 0.25  # seconds from a line to the moment
 
 
@@ -47,7 +47,7 @@ class Moment:
         Path(self.program).write_text(text)
         self.line, self.way = chance.choice(begun).format(file=self.file), chance.choice(WAYS)
         self.wait = chance.random() * MOST_WAIT
-        self.more = chance.choice([[], [], ["--workers", "3"]])
+        self.more: tuple = chance.choice([(), (), ("--workers", "3")])
         self.told = set()  # the steps that were told, and not taken back
 
     def learn(self, shown):

@@ -16,7 +16,7 @@ FRONT = str(ROOT / "terminal" / "ghcdb")
 PROGRAM = os.environ.get("GHCDB", "")
 PROGRAM = os.path.abspath(PROGRAM) if os.sep in PROGRAM else PROGRAM
 PATIENCE = 120.0  # seconds for what comes at once where no others are busy
-CHOSEN = []  # the tests that are run, each with its name
+CHOSEN: list = []  # the tests that are run, each with its name
 
 
 def start(home, *words, wait=PATIENCE, folder=None, kind="xterm", environment=None):

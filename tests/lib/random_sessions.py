@@ -9,6 +9,7 @@ In the sessions each run stands behind `goals` and `records`, and before `record
   - a race: clauses made by chance, of which several may say yes, and which may go on without end. Its runs have limits.
 """
 import random
+from collections.abc import Callable
 from typing import NamedTuple
 
 FLOW = """append([],Y,Z) :- true | Z = Y.
@@ -215,4 +216,4 @@ def race(name, chance):
     return Case(name, "".join(f"{it}\n" for it in clauses), query, variables, lines, False)
 
 
-KINDS = {"flow": flow, "table": table, "equations": equations, "race": race}
+KINDS: dict[str, Callable[[str, random.Random], Case]] = {"flow": flow, "table": table, "equations": equations, "race": race}

@@ -65,7 +65,7 @@ def need_threads(folder, asked, wanted, more=""):
     """So many threads are there at once, in one of at most 20 runs, and more in none."""
     if not Path("/proc/self/task").is_dir():
         return
-    found = []
+    found: list[int] = []
     while len(found) < 20 and wanted not in found and max(found, default=0) <= wanted:
         found.append(most_threads(folder, asked, more=more, goals=2 * max(wanted, 4)))
     if found[-1] != wanted:
@@ -96,7 +96,7 @@ def steps_behind(folder, workers, name):
 
 def show_halt(folder, workers):
     """A run stops at most 2,000 steps behind the one that made a spied goal, in one of at most 10 runs."""
-    found = []
+    found: list = []
     while len(found) < 10:
         found.append(steps_behind(folder, workers, f"halt-{len(found)}"))
         if isinstance(found[-1], int) and found[-1] <= 2000:

@@ -42,7 +42,8 @@ def searched(count, hashed):
     while groups * 9 < count:
         groups *= 2
     first = max(1, groups // PART)
-    numbers, number = [], 5
+    numbers: list[int] = []
+    number = 5
     while len(numbers) < count:
         if hashed(number) & groups - 1 < first:
             numbers.append(number)

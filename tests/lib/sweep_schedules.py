@@ -70,7 +70,8 @@ class Trial(NamedTuple):
 def without(lines, refused):
     """The lines without those at some places; behind a commit that is left out its hand has another number, from 64 down. Gives
     them with the hands as they were."""
-    left, names, spare = [], {}, iter(range(64, 32, -1))
+    left, spare = [], iter(range(64, 32, -1))
+    names: dict[str, int] = {}
     for at, line in enumerate(lines):
         word, *rest = line.split()
         hand = rest[0] if word in ("propose", "commit") and rest else None
@@ -145,7 +146,7 @@ def sweep_schedule(case, pool, part_of, are_in_order):
     parts = [part_of(one) for one in played]
     wrong = [(trial, one) for trial, one, part in zip(trials, played, parts) if part is None and not case.is_right(trial, one)]
     for trial, one in wrong:
-        print(f"failed: {case.name}, requests {trial.first} to {trial.last}: {one.status} {one.errors} {b''.join(one.replies)[-300:]}")
+        print(f"failed: {case.name}, requests {trial.first} to {trial.last}: {one.status} {one.errors} {b''.join(one.replies)[-300:]!r}")
     starts = [part for trial, part in zip(trials, parts) if trial.first == trial.last]
     is_right = case.plain.status == 0 and F1 not in case.plain.replies[0] and are_in_order(starts, ORDER)
     if not is_right:

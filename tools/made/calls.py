@@ -49,7 +49,7 @@ class Call:
 
     def refusals(self, faults):
         """The faults that comment and clauses name, in this order, and that of memory where the result can be one."""
-        told = []
+        told: list[str] = []
         for name in FAULT.findall(self.doc + "\n" + self.head):
             if name in faults and name not in told and name != "Memory":
                 told.append(name)
@@ -81,7 +81,7 @@ def head_end(lines, at, indent):
 
 def doc_above(lines, at, mark="///"):
     """The comment above a line, past its attributes."""
-    told = []
+    told: list[str] = []
     at -= 1
     while at >= 0 and lines[at].strip().startswith((mark, "#[")):
         if lines[at].strip().startswith(mark):

@@ -190,9 +190,9 @@ def read_limits(root):
     numbers: dict[str, list[tuple[str, int]]] = {}
     for path, name, _, beyond in tables.LIMITS:
         value, comment, _ = tables.constant(root, path, name)
-        word = re.match(r"F6 `(\w+)`", beyond)
-        if word:
-            numbers.setdefault(word[1], []).append((comment, value))
+        found = re.match(r"F6 `(\w+)`", beyond)
+        if found:
+            numbers.setdefault(found[1], []).append((comment, value))
     for word, what in tables.limit_words(root):
         (_, first), *others = numbers.get(word, [("", 0)])
         told = [f"{lowered(what)}: {first:,} at most" if first else lowered(what)]

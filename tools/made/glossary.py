@@ -25,7 +25,7 @@ def beginning(specs, calls, start):
 
 def rungs(specs, calls):
     """Each rung with all words that it needs, and those that it has more than the rungs below it."""
-    below = set()
+    below: set = set()
     for name, reason, start in RUNGS:
         needed = specs.reached(beginning(specs, calls, start))
         yield name, reason, start, needed, needed - below
@@ -49,7 +49,7 @@ def sentence(text):
 
 def citing(specs, calls):
     """Of each word the open calls whose contracts name it themselves."""
-    found = {}
+    found: dict[str, list] = {}
     for call in calls:
         if call.is_open:
             for word in specs.of_contract(call):
@@ -83,7 +83,8 @@ def listed(specs, order, words, cited, up="../../"):
 
 def in_short(specs, start):
     """The first words of a rung from the top: those with which it begins, and what these name, as far as a screen goes."""
-    seen, left = [], list(start)
+    seen: list = []
+    left = list(start)
     while left and len(seen) < SHORT:
         word = left.pop(0)
         if word not in seen and word.comment:

@@ -81,7 +81,7 @@ def picture(root):
         lines += [f'<path d="{arrow(*place[crate], *place[one])}" fill="none" stroke="#555" marker-end="url(#a)"/>' for one in low]
     for crate in PURPOSES:
         lines += box(crate, *place[crate], [one for one in used[crate] if one not in used])
-    x = 10
+    x = 10.0
     for group, words in GROUPS.items():
         lines.append(f'<rect x="{x:.0f}" y="{height - 24}" width="12" height="12" fill="{COLOURS[group]}" stroke="#777"/><text x="{x + 16:.0f}" y="{height - 14}" font-size="10">{words}</text>')
         x += 26 + 5.3 * len(words)

@@ -58,7 +58,7 @@ def comment_above(lines, at):
     at -= 1
     if at >= 0 and lines[at].strip() in ("mutual", "abbrev mutual", "pub mutual"):
         at -= 1
-    told = []
+    told: list[str] = []
     while at >= 1 and lines[at].strip().startswith("--"):
         told.insert(0, lines[at].strip()[2:].strip())
         at -= 1
@@ -67,7 +67,8 @@ def comment_above(lines, at):
 
 def definitions(lines, module):
     """The words of a file, in its order."""
-    words, current = [], None
+    words: list[Word] = []
+    current: Word = None
     for at, line in enumerate(lines):
         text = line.strip()
         if not text or text.startswith("--") or USE.match(line):

@@ -30,7 +30,7 @@ LIMITS = [
 # Why a command of the console is refused is said by its equation of `Replies`. Of those that the core obeys, and that have another name
 # there, this is said by other words, in the order of the tests: the reader's refusals, a word, or an equation of one.
 OF_TEXT = ["F2", "F6"]
-REFUSED_BY = {
+REFUSED_BY: dict[str, list] = {
     "step": [("ghc_core", "StepFails")],
     "in": [OF_TEXT, ("ghc_core", "StreamFails")],
     "end": [("ghc_core", "StreamFails")],
@@ -90,7 +90,7 @@ def constant(root, path, name):
         found = re.match(rf"\s*(?:pub(?:\(crate\))? )?const {name}: \w+ = ([\d_]+);", line)
         if found:
             above = at - 1
-            told = []
+            told: list[str] = []
             while lines[above].strip().startswith("//"):
                 told.insert(0, lines[above].strip().lstrip("/ "))
                 above -= 1
@@ -166,7 +166,7 @@ def commands_table(root, specs, rows):
 def unlike_formats(root, specs, rows, page):
     """Where the table of commands in FORMATS names other refusals than specs do, said in a line each."""
     section = page.partition("## 10. Commands\n")[2].partition("\n## ")[0]
-    written = {}
+    written: dict[str, set[str]] = {}
     for line in section.split("\n"):
         if line.startswith("| `"):
             cells = re.split(r"(?<!\\)\|", line)
