@@ -1,4 +1,4 @@
-"""Rattle's `rt` as a module, for tools that use what it keeps on this machine: tests/edits, tools/keep-proofs, tools/give-libraries."""
+"""Rattle's `rt` as a module, for tools that use what it keeps: tests/edits, tools/keep-proofs, tools/give-libraries, web/build."""
 import importlib.machinery
 import importlib.util
 import os
@@ -29,6 +29,14 @@ def need_kept(rt):
     """Ends the tool where the kit keeps nothing."""
     if not keeps(rt):
         sys.exit("this kit's rt keeps nothing of what it passed: ./ghcdb --prove proves all crates in this checkout, for web/build too")
+
+
+def is_built_here(root):
+    """Whether `rt run` has proved and built the program in this checkout as all stands now, so that building it again proves nothing."""
+    rtlib = load_rt().rtlib
+    program = next(it for it in rtlib.crates_below(str(root)) if it.is_program)
+    stamp = rtlib.text_of(f"{program.folder}/out/{program.name}.stamp") or ""
+    return all(it.is_built() for it in program.below()) and program.has_kept() and stamp.startswith(program.stamp())
 
 
 def fill_in(rt):

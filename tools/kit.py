@@ -1,4 +1,4 @@
-"""Rattle's kit, for tools that take the module of the program which the kit hands to its own clang: web/build, tools/unproved."""
+"""Rattle's kit, for tools that take the module of the program which it hands to its own clang: web/build, tools/unproved, tests/edits."""
 import shutil
 import subprocess
 import sys
@@ -48,6 +48,12 @@ def keeping_kit(kit, room, kept, then="true"):
     clang.write_text(KEEPING_CLANG.format(least=LEAST_MODULE, kept=kept, then=then, clang=kit / "toolchain" / "bin" / "clang"))
     clang.chmod(0o755)
     return copy
+
+
+def left_module(root):
+    """Where the gate leaves the module of the program that it proved, by the sum of the sources."""
+    found = subprocess.run([root / "tools" / "sources-sum"], capture_output=True, text=True, check=True)
+    return root / "crates" / "ghcdb" / "out" / f"module-{found.stdout.strip()[:16]}.bc"
 
 
 def run_tool(kit, name, words, **how):
