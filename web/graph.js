@@ -487,10 +487,18 @@ const Graph = (() => {
         step += 1;
       }
       this.shorten(step, made, edge);
-      for (let at = 0; at < made; at++) if (this.consumers.at(at) >= first) this.consumers.all[at] = to[this.consumers.at(at)];
+      yield* this.moveConsumers(to, first);
+      yield* this.chainEffects();
+    }
+
+    /** Moves up the steps that consumed goals, from the first on that goes. */
+    *moveConsumers(to, first) {
+      const { all, length } = this.consumers;
+      for (let at = 0; at < length; at++) {
+        if (at % MOVED === 0) yield at;
+        if (all[at] >= first) all[at] = to[all[at]];
+      }
       for (const [place, index] of this.queryConsumers) this.queryConsumers.set(place, to[index]);
-      yield step;
-      this.chainEffects();
     }
 
     /** Forgets what a step bound and consumed, and its number. */
@@ -516,9 +524,10 @@ const Graph = (() => {
     }
 
     /** Chains the edges of each step's consequences anew. */
-    chainEffects() {
+    *chainEffects() {
       this.lastEffect.all.fill(NONE, 0, this.count);
       for (let edge = 0; edge < this.from.length; edge++) {
+        if (edge % MOVED === 0) yield edge;
         this.effectBefore.all[edge] = this.lastEffect.at(this.from.at(edge));
         this.lastEffect.all[this.from.at(edge)] = edge;
       }

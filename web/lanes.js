@@ -79,12 +79,6 @@ const Lanes = ((Graph, Terms, Stuck) => {
       lane.previous.next = lane.next;
       lane.next.previous = lane.previous;
     }
-
-    all() {
-      const lanes = [];
-      for (let lane = this.next; lane !== this; lane = lane.next) lanes.push(lane);
-      return lanes;
-    }
   }
 
   function notePredicate(lane, kind, index) {
@@ -104,14 +98,14 @@ const Lanes = ((Graph, Terms, Stuck) => {
       this.ofStep = []; // by index
       this.ofMade = []; // by the places of the goals that were made
       this.ofQuery = new Map(); // by place in the query
-      this.order = null;
+      this.isNumbered = true; // whether each lane has its index from the top
     }
 
     begin(name, before, index, parent, asked) {
       const lane = { name, parent, asked, bornAt: index, count: 0, predicates: [], since: [], index: 0 };
       this.lanes.push(lane);
       this.ring.put(lane, before);
-      this.order = null;
+      this.isNumbered = false;
       return lane;
     }
 
@@ -140,8 +134,9 @@ const Lanes = ((Graph, Terms, Stuck) => {
         }
       }
       while (this.lanes.length > 0 && this.lanes[this.lanes.length - 1].bornAt >= count) {
+        if (this.lanes.length % MANY === 0) yield this.lanes.length;
         this.ring.takeOut(this.lanes.pop());
-        this.order = null;
+        this.isNumbered = false;
       }
     }
 
@@ -150,7 +145,7 @@ const Lanes = ((Graph, Terms, Stuck) => {
      * Gives the lanes that stay and had such a step; yields now and then.
      */
     *remove(graph, to, first) {
-      const touched = new Set(), moved = (index) => (index === null || index < 0 ? index : to[index]);
+      const touched = new Set();
       let step = first, made = graph.firstMade.at(first);
       for (let index = first; index < this.ofStep.length; index++) {
         if (index % MANY === 0) yield index;
@@ -164,19 +159,35 @@ const Lanes = ((Graph, Terms, Stuck) => {
       }
       this.ofStep.length = step;
       this.ofMade.length = made;
-      this.lanes = this.lanes.filter((lane) => {
-        const isGone = moved(lane.bornAt) === Graph.NONE && lane.bornAt >= 0;
-        if (isGone) this.ring.takeOut(lane);
-        else Object.assign(lane, { bornAt: moved(lane.bornAt), parent: moved(lane.parent), asked: moved(lane.asked), since: touched.has(lane) ? [] : lane.since.map(moved) });
-        return !isGone;
-      });
-      this.order = null;
+      yield* this.moveLanes(to);
       return touched;
+    }
+
+    /** Takes away the lanes that began with steps that go, and moves up the indexes that the others have; yields now and then. */
+    *moveLanes(to) {
+      let kept = 0;
+      for (let at = 0; at < this.lanes.length; at++) {
+        if (at % MANY === 0) yield at;
+        const lane = this.lanes[at];
+        if (lane.bornAt >= 0 && to[lane.bornAt] === Graph.NONE) {
+          this.ring.takeOut(lane);
+        } else {
+          moveUp(lane, to);
+          this.lanes[kept++] = lane;
+        }
+      }
+      this.lanes.length = kept;
+      this.isNumbered = false;
     }
 
     /** Finds anew which predicates some lanes were; yields now and then. */
     *nameAnew(lanes, graph, kinds) {
-      for (const lane of lanes) Object.assign(lane, { predicates: [], since: [] });
+      let count = 0;
+      for (const lane of lanes) {
+        if (count++ % MANY === 0) yield count;
+        lane.predicates = [];
+        lane.since = [];
+      }
       for (let index = 0; lanes.size > 0 && index < this.ofStep.length; index++) {
         if (index % MANY === 0) yield index;
         if (lanes.has(this.ofStep[index]) && graph.makers.at(index) !== Graph.NONE) notePredicate(this.ofStep[index], kinds.ofConsumer(index), index);
@@ -210,14 +221,26 @@ const Lanes = ((Graph, Terms, Stuck) => {
       });
     }
 
-    /** All lanes from the top, each with its index. */
-    inOrder() {
-      if (this.order === null) {
-        this.order = this.ring.all();
-        this.order.forEach((lane, index) => { lane.index = index; });
+    /** Gives each lane its index from the top, where lanes have come or gone since that was done; yields now and then. */
+    *number() {
+      let index = 0;
+      if (this.isNumbered) return;
+      for (let lane = this.ring.next; lane !== this.ring; lane = lane.next) {
+        lane.index = index++;
+        if (index % MANY === 0) yield index;
       }
-      return this.order;
+      this.isNumbered = true;
     }
+  }
+
+  const movedIn = (to, index) => (index === null || index < 0 ? index : to[index]);
+
+  /** Puts the places where steps stand now into a lane. */
+  function moveUp(lane, to) {
+    lane.bornAt = movedIn(to, lane.bornAt);
+    lane.parent = movedIn(to, lane.parent);
+    lane.asked = movedIn(to, lane.asked);
+    for (let at = 0; at < lane.since.length; at++) lane.since[at] = to[lane.since[at]];
   }
 
   /**
@@ -245,6 +268,7 @@ const Lanes = ((Graph, Terms, Stuck) => {
     const lanes = new RunLanes(), kinds = new GoalKinds(run);
     lanes.beginQuery(queryPlaces(run));
     while (lanes.ofStep.length < run.graph.count) lanes.add(run.graph, kinds);
+    for (const parts = lanes.number(); !parts.next().done;);
     return lanes;
   }
 
@@ -269,8 +293,8 @@ const Lanes = ((Graph, Terms, Stuck) => {
   }
 
   /**
-   * The lanes of some steps of a run, from one index up to another, each with its steps and the goals that are there. `foldOf` gives the
-   * lane that a lane is folded into, or null.
+   * The lanes of some steps of a run, from one index up to another, each with its steps and the goals that are there, of all lanes of the
+   * run, which are numbered. `foldOf` gives the lane that a lane is folded into, or null.
    */
   function lanesIn(run, whole, from, to, goals, foldOf = () => null) {
     const { graph } = run, kinds = new GoalKinds(run), parts = new Map(), laneOf = new Map();
@@ -284,7 +308,6 @@ const Lanes = ((Graph, Terms, Stuck) => {
       }
       return parts.get(lane);
     };
-    whole.inOrder();
     if (from === 0) for (const lane of whole.ofQuery.values()) partOf(lane);
     for (let index = from; index < to; index++) {
       const part = partOf(whole.ofStep[index]), step = graph.stepAt(index);

@@ -179,7 +179,7 @@ const Overview = (() => {
 
   /** Puts all dots into the strip, and yields from time to time. */
   function* drawDots(dots, ratio, { chosen, causes, effects }) {
-    const { graph, lanes } = run(), theme = Picture.THEMES[Canvas.theme], places = placesIn(dots.wide, dots.high, ratio, Math.max(1, lanes.inOrder().length)), steps = count();
+    const { graph, lanes } = run(), theme = Picture.THEMES[Canvas.theme], places = placesIn(dots.wide, dots.high, ratio, Math.max(1, lanes.lanes.length)), steps = count();
     const { leaf, byClause } = paints(theme, causes === null ? 0.9 : 0.25), lit = pixelOf(theme.read, theme.ground, 1), after = pixelOf(theme.woke, theme.ground, 1);
     dots.pixels.fill(pixelOf(theme.ground, theme.ground, 1));
     for (let index = 0; index < steps; index++) {

@@ -2,7 +2,7 @@
 const RunModel = ((Graph, Lanes, Stuck) => {
   "use strict";
 
-  const PART = 64; // lines that are read between two places where the reader may pause
+  const PART = 64, MANY = 4096; // lines that are read, and steps that are moved, between two places where the reader may pause
 
   class RunModel {
     constructor(program, query = "") {
@@ -35,6 +35,7 @@ const RunModel = ((Graph, Lanes, Stuck) => {
       this.goalsRefused = look.goalsRefused;
       if (this.goals.some(({ status }) => status === "waits")) yield* this.often(Stuck.study(this.goals));
       yield* this.addLanes();
+      yield* this.lanes.number();
       for (const [name, text] of look.texts) this.texts.set(name, text);
       this.shelf = yield* this.inParts(look.shelf, Graph.readShelf);
       yield* this.often(Lanes.gatherTaken(this.shelf, this.goals));
@@ -79,22 +80,30 @@ const RunModel = ((Graph, Lanes, Stuck) => {
 
     /** Takes steps away, on which no step that stays depends. */
     *takeAway(numbers) {
-      const { graph, lanes } = this, to = new Int32Array(graph.count);
-      let first = graph.count, next = 0;
-      for (const number of numbers) {
-        const index = graph.indexOf(number);
-        to[index] = Graph.NONE;
-        first = Math.min(first, index);
-      }
+      const { graph, lanes } = this, to = new Int32Array(graph.count), first = yield* this.markGone(numbers, to);
       if (first === graph.count - numbers.length) {
         yield* this.cut(first);
         return;
       }
-      for (let index = 0; index < to.length; index++) if (to[index] !== Graph.NONE) to[index] = next++;
-      yield 0;
+      for (let index = 0, next = 0; index < to.length; index++) {
+        if (index % MANY === 0) yield index;
+        if (to[index] !== Graph.NONE) to[index] = next++;
+      }
       const touched = yield* lanes.remove(graph, to, first);
       yield* graph.remove(to, first);
       yield* lanes.nameAnew(touched, graph, new Lanes.GoalKinds(this));
+    }
+
+    /** Puts NONE into the places of the steps of some numbers; gives the first of these places. */
+    *markGone(numbers, to) {
+      let first = to.length;
+      for (let at = 0; at < numbers.length; at++) {
+        if (at % MANY === 0) yield at;
+        const index = this.graph.indexOf(numbers[at]);
+        to[index] = Graph.NONE;
+        first = Math.min(first, index);
+      }
+      return first;
     }
 
     *addLanes() {
