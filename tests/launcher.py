@@ -199,7 +199,7 @@ def without_a_native_program(copy):
         env={"PATH": ":".join(str(copy.folder / "bin" / name) for name in ("tools", "node"))},
     )
     yield "the engine, and the input is closed", closed.stdout, "node: console a, closed: 0\n"
-    yield "the rows on the engine", copy.run("--test", "a", path=["node", "python3"]), ("node: rows.js a\n", engine_line(), 4)
+    yield "the rows on the engine", copy.run("--test", "a", path=["node", "python3"]), ("node: rows.mjs a\n", engine_line(), 4)
     no_python = "ghcdb: the rows are read by python3, which is not on the PATH\n"
     yield "the rows without Python", copy.run("--test", path=["node"]), ("", engine_line() + no_python, 127)
     version = "node: console --version\ncommit {}\nkit the kit of the page\n"

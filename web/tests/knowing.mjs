@@ -13,7 +13,7 @@ function notingPage() {
   { const { open } = Engine.prototype; Engine.asked = [];
     Engine.prototype.open = function noted(given) { const session = open.call(this, given), { bytes } = session;
       session.bytes = (text) => { Engine.asked.push(text.trim().split(/ +/)[0]); return bytes.call(session, text); }; return session; }; }`;
-  return pageWith((page) => page.replace('<script data-file="worker_side.js">\n', (found) => `<script>${noting}</script>${found}`));
+  return pageWith((page) => page.replace('<script data-file="page.mjs">\n', (found) => `<script>${noting}</script>${found}`));
 }
 
 inBrowsers("what a value rests on is lit, the other choice is ringed, and a click takes it beside", async (page) => {

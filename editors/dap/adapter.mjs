@@ -1,0 +1,191 @@
+// The debug adapter: it answers an editor's requests, in the Debug Adapter Protocol, by lines of ghcdb's console and nothing else. So
+// every state that an editor sees is one that a session has.
+//
+// The requests stand in files by what they are for: beginning.mjs, setting.mjs (breakpoints), looking.mjs, stepping.mjs,
+// changing.mjs; runs are in running.mjs.
+import Beginning from "./beginning.mjs";
+import { Breakpoints } from "./breakpoints.mjs";
+import Changing from "./changing.mjs";
+import Looking from "./looking.mjs";
+import { Refused } from "./refused.mjs";
+import Running from "./running.mjs";
+import Setting from "./setting.mjs";
+import Stepping from "./stepping.mjs";
+import { clauseTaken } from "./told.mjs";
+import { Ended } from "../../front/session/program.mjs";
+import { NotTold, isRefusal } from "../../front/session/session.mjs";
+import { notesAfter } from "../../front/run/telling.mjs";
+
+const MOST_THREAD_EVENTS = 200; // of one stop; an editor asks for all threads in any case
+
+const ENDS_RUN = new Set(["pause", "disconnect", "terminate", "restart"]);
+
+const answerTo = ({ seq, command }) => ({ type: "response", request_seq: seq, command: String(command), success: true });
+
+class Adapter {
+  /** `send` takes messages; `leave` ends the adapter; `native` is the program to use, or undefined for the page's engine. */
+  constructor({ send, leave, native }) {
+    this.sendMessage = send;
+    this.leave = leave;
+    this.native = native;
+    this.last = 0; // the number of the last message sent
+    this.inbox = [];
+    this.first = 1; // how the editor counts its first line
+    this.breakpoints = new Breakpoints();
+    this.live = new Set();
+    this.isBusy = this.isRunning = this.wantsPause = false;
+  }
+
+  send(message) {
+    this.last += 1;
+    this.sendMessage({ seq: this.last, ...message });
+  }
+
+  event(name, body = {}) {
+    this.send({ type: "event", event: name, body });
+  }
+
+  /** Tells that the session has ended, once: there are clients that ask for its end again when they hear of it. */
+  tellEnd() {
+    if (!this.hasToldEnd) this.event("terminated");
+    this.hasToldEnd = true;
+  }
+
+  /** Tells lines in the editor's console; a step's line leads to its clause. */
+  tell(lines, category = "console") {
+    for (const line of lines) {
+      const taken = clauseTaken(line), clause = taken && this.session.clauses[taken.clause - 1];
+      this.event("output", { category, output: `${line}\n`, ...(clause && { source: this.places.source(), line: this.places.shown(clause.line) }) });
+    }
+  }
+
+  // ---- messages
+
+  hear(message) {
+    if (message?.type !== "request") return;
+    if (this.isRunning && ENDS_RUN.has(message.command)) this.stopRun();
+    if (this.isRunning && message.command === "pause") return this.send(answerTo(message));
+    this.inbox.push(message);
+    return this.work();
+  }
+
+  async work() {
+    if (this.isBusy) return;
+    this.isBusy = true;
+    await this.handleWaiting();
+    this.isBusy = false;
+  }
+
+  /** Answers what has come by now. */
+  async handleWaiting() {
+    while (this.inbox.length > 0) await this.handle(this.inbox.shift());
+  }
+
+  /** Does something when the request that is being answered has its answer. */
+  later(what) {
+    this.laters.push(what);
+  }
+
+  async handle(request) {
+    const outer = this.laters, laters = this.laters = [];
+    try {
+      const body = await this.request(request.command, request.arguments ?? {});
+      this.send({ ...answerTo(request), ...(body !== undefined && { body }) });
+    } catch (error) {
+      laters.length = 0;
+      this.send({ ...answerTo(request), success: false, message: "refused", body: { error: { id: 1, format: this.wordsOf(error, request.command), showUser: true } } });
+    }
+    try {
+      for (const what of laters) await what();
+    } catch (error) {
+      this.event("output", { category: "stderr", output: `${this.wordsOf(error, request.command)}\n` });
+    }
+    this.laters = outer;
+  }
+
+  wordsOf(error, command) {
+    if (error instanceof Ended) this.tellEnd();
+    const words = error instanceof Refused || error instanceof Ended ? error.message : `${command}: ${error.message}`;
+    return words.replace(/\{/g, "(").replace(/\}/g, ")");
+  }
+
+  request(command, given) {
+    const handler = this[`on_${String(command).replace("/", "_")}`];
+    if (handler === undefined) throw new Refused(`${command} is not known here`);
+    if (this.session === undefined && !WITHOUT_SESSION.has(command)) throw new Refused(`${command}: no program was launched`);
+    if (this.isRunning && RUNS.has(command)) throw new Refused("a run goes on: pause it first");
+    return handler.call(this, given);
+  }
+
+  // ---- stops
+
+  /** Looks at the goals as they stand, and tells which processes came and went. */
+  async look() {
+    const goals = await this.goalsTold(), now = new Set(goals.map(({ name }) => this.processes.of(name)));
+    const changed = [...[...now].filter((id) => !this.live.has(id)).map((id) => ["started", id]), ...[...this.live].filter((id) => !now.has(id)).map((id) => ["exited", id])];
+    for (const [reason, threadId] of changed.slice(0, MOST_THREAD_EVENTS)) this.event("thread", { reason, threadId });
+    this.live = now;
+    this.noteTexts(goals);
+    return goals;
+  }
+
+  /** Keeps the texts of the goals of this stop and of the one before: what was stepped between them was shown so. */
+  noteTexts(goals) {
+    if (this.notedAt === this.session.kept.changes) return;
+    this.notedAt = this.session.kept.changes;
+    this.textsBefore = this.textsNow;
+    this.textsNow = new Map(goals.map(({ name, text }) => [name, text]));
+  }
+
+  /** The text of a goal that a step consumed, for its frame; once it was shown it stays. Undefined where `records` has to be read for it. */
+  frameText(goal) {
+    const text = this.frameTexts.get(goal) ?? this.textsBefore?.get(goal) ?? this.session.run.textOf(goal);
+    if (text !== "") this.frameTexts.set(goal, text);
+    return text === "" ? undefined : text;
+  }
+
+  /** The goals as they stand; none where one of them is too long to be told. */
+  async goalsTold() {
+    try {
+      return await this.session.goals();
+    } catch (error) {
+      if (!(error instanceof NotTold)) throw error;
+      this.tell([`${error.message}: no goal is shown`], "important");
+      return [];
+    }
+  }
+
+  /** The goal at which a process stands: a ready one before others; undefined where the process is done. */
+  async goalOf(thread) {
+    const mine = (await this.goalsTold()).filter(({ name }) => this.processes.of(name) === thread);
+    return mine.find(({ status }) => status === "ready") ?? mine[0];
+  }
+
+  /** Tells a stop: why, in words, and at which process where that is known. */
+  async stopped(reason, text = reason, { thread, hit } = {}) {
+    const goals = await this.look();
+    this.inside.forget();
+    const shown = goals.find(({ status }) => status === "failed") ?? goals.find(({ status }) => status === "ready") ?? goals[0];
+    const isThere = thread !== undefined && this.live.has(thread);
+    this.shown = isThere ? thread : shown === undefined ? 1 : this.processes.of(shown.name);
+    this.event("stopped", { reason, description: text, text, threadId: this.shown, allThreadsStopped: true, ...(hit && { hitBreakpointIds: [hit.id] }) });
+  }
+
+  /** Sends a line that changes the session; where it is refused, the request is. */
+  async change(line, words = line.split(" ").slice(1)) {
+    const reply = await this.session.ask(line);
+    if (isRefusal(reply)) throw new Refused([reply[0], ...await notesAfter(this.session, { name: line.split(" ")[0], words, line }, reply)].join("\n"));
+    this.tell(reply);
+    return reply;
+  }
+}
+
+const WITHOUT_SESSION = new Set(["initialize", "launch", "attach", "disconnect", "terminate"]);
+
+// Requests that make a run or a step: while a run goes on they are refused.
+const RUNS = new Set(["continue", "next", "stepIn", "stepOut", "stepBack", "reverseContinue", "goto", "restartFrame", "setVariable", "setExpression", "evaluate",
+  "ghcdb/undo", "ghcdb/roll", "ghcdb/redo"]);
+
+Object.assign(Adapter.prototype, Beginning, Setting, Looking, Stepping, Changing, Running);
+
+export { Adapter };

@@ -1,0 +1,68 @@
+// Where a run stops: at a clause, at a predicate, where a variable is bound, and where goals fail or wait. The console stops a run at a
+// predicate alone (`spy`); the rest is found out at each such stop.
+
+// The filters of exceptions that an editor may set.
+import { fits } from "./options.mjs";
+
+const FILTERS = [{ filter: "stuck", label: "Goals wait, and none is ready", default: true }];
+
+class Breakpoints {
+  constructor() {
+    this.last = 0;
+    this.asked = new Map(); // the editor's last request of each kind, by the method that sets its breakpoints
+    this.clauses = [];
+    this.predicates = [];
+    this.variables = [];
+    this.spied = new Set();
+    this.stopsWhereStuck = true;
+  }
+
+  /** A number for a breakpoint. */
+  number() {
+    this.last += 1;
+    return this.last;
+  }
+
+  /** Makes the console spy just the predicates at which a run may have to stop. */
+  async spy(session) {
+    const wanted = new Set([...this.clauses, ...this.predicates].map(({ predicate }) => predicate));
+    for (const predicate of wanted) if (!this.spied.has(predicate)) await session.ask(`spy ${predicate}`);
+    for (const predicate of this.spied) if (!wanted.has(predicate)) await session.ask(`nospy ${predicate}`);
+    this.spied = wanted;
+  }
+
+  /**
+   * The breakpoint that stops before a spied goal; undefined where each lets it pass. A clause's stops where that clause says yes. `log`
+   * is called with the message of a breakpoint that only tells something.
+   */
+  async met(session, name, log) {
+    const run = await session.look(), predicate = run.predicateOf(name);
+    const saysYes = new Set(await session.clausesSayingYes(name));
+    for (const point of [...this.clauses, ...this.predicates]) {
+      if (point.predicate !== predicate || (point.clause !== undefined && !saysYes.has(point.clause))) continue;
+      if (!fitsGoal(point, name, run)) continue;
+      point.hits += 1;
+      if (point.hits < point.least) continue;
+      if (point.messageOf === undefined) return point;
+      log(point.messageOf(run, name));
+    }
+    return undefined;
+  }
+
+  /** The breakpoint before which a kept step lies, for a run backwards. A clause's stops where the step took that clause. */
+  before(step, run) {
+    const predicate = run.predicateOf(step.goal);
+    return [...this.clauses, ...this.predicates].find((point) => {
+      const isItsPlace = point.predicate === predicate && (point.clause === undefined || point.clause === step.clause);
+      return isItsPlace && point.messageOf === undefined && fitsGoal(point, step.goal, run);
+    });
+  }
+}
+
+/** Does a goal fit the condition of a breakpoint, where it has one? */
+function fitsGoal({ pattern }, name, run) {
+  const call = run.goalOf(name)?.call;
+  return pattern === undefined || (call !== undefined && fits(pattern, call, run));
+}
+
+export { Breakpoints, FILTERS };

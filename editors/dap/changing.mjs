@@ -1,0 +1,75 @@
+// Requests that change a session otherwise than by a step of a process: lines of the console, values given by hand, undo, roll, redo.
+import { isRefusal } from "../../front/session/session.mjs";
+import { notesAfter } from "../../front/run/telling.mjs";
+import { suggestionFor, NAMES } from "../../front/protocol/commands.mjs";
+import { termOf } from "./options.mjs";
+import { goalsMade } from "./told.mjs";
+import { refused } from "./refused.mjs";
+
+const NO_VALUE = ": a value is one term, as 3, red or [1,2]; nothing is computed";
+
+export default {
+  /** A line of the console as it was typed; where it changed the session, the editor hears of a stop. */
+  async typed(line, word) {
+    const before = this.session.kept.changes, reply = await this.session.ask(line);
+    if (reply[0] === "F25 command" && !NAMES.includes(word)) throw refused(suggestionFor(line));
+    return this.answered(line, word, reply, before);
+  },
+
+  /** A reply of the console with what is to be added; `before` is the number of changes before the line. */
+  async answered(line, word, reply, before) {
+    if (!isRefusal(reply)) {
+      if (this.session.kept.changes !== before) this.later(() => this.stoppedAnew(line));
+      return reply;
+    }
+    return [...reply, ...await notesAfter(this.session, { name: word, words: line.split(/ +/).slice(1), line }, reply)];
+  },
+
+  /** An unbound variable is bound by goals asked for: a step like any other, which can be taken back. */
+  async on_setVariable({ variablesReference, name, value }) {
+    return this.bind(await this.termShown(name, variablesReference) ?? await this.inside.termNamed(name, variablesReference), value);
+  },
+
+  async on_setExpression({ expression, value, frameId }) {
+    return this.bind(await this.inside.termNamed(expression, frameId), value);
+  },
+
+  async bind(term, value) {
+    const run = await this.session.look(), end = term && run.endOf(term);
+    if (term?.variable === undefined) throw refused("this is no variable");
+    if (end.variable === undefined) throw refused(`${run.labelOf(term.variable)} is bound: take back the step that bound it (who ${term.variable}), then set it`);
+    if (termOf(value) === undefined) throw refused(`${value}${NO_VALUE}`);
+    const asked = await this.change(`ask ${end.variable} = ${value}`), [goal] = goalsMade(asked);
+    const reply = await this.session.ask(`step ${goal}`);
+    if (isRefusal(reply)) {
+      await this.session.ask(`undo ${/^REDU (\d+)/.exec(asked[0])[1]}`);
+      throw refused(reply[0]);
+    }
+    this.tell(reply);
+    this.later(() => this.stoppedAnew(`${run.labelOf(end.variable)} was bound by hand`));
+    return { value: String(value) };
+  },
+
+  on_ghcdb_undo({ step }) {
+    return this.changed(`undo ${step}`);
+  },
+
+  on_ghcdb_roll({ step }) {
+    return this.changed(`roll ${step}`);
+  },
+
+  on_ghcdb_redo({ step }) {
+    return this.changed(`redo ${step}`);
+  },
+
+  async changed(line) {
+    await this.change(line);
+    this.later(() => this.stoppedAnew(line));
+  },
+
+  /** A stop to which no request for a step has led: the editor hears first that the process that it shows went on. */
+  stoppedAnew(text) {
+    this.event("continued", { threadId: this.shown, allThreadsContinued: true });
+    return this.stopped("step", text);
+  },
+};

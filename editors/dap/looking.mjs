@@ -1,0 +1,134 @@
+// Requests that look at a stop and change nothing: threads, frames, scopes, variables, texts, values.
+import path from "node:path";
+import * as Own from "../../front/run/own.mjs";
+import Stuck from "../../front/run/stuck.mjs";
+import { NAMES, commandOf, helpLines } from "../../front/protocol/commands.mjs";
+import { completionsOf } from "../../front/protocol/complete.mjs";
+import { plural, whyNoClause } from "../../front/run/telling.mjs";
+import { QUERY, STEPS, SHELF } from "./places.mjs";
+import { refused } from "./refused.mjs";
+
+const MOST_THREADS = 1000, MOST_FRAMES = 200, LONGEST_NAME = 300;
+
+const statusOf = ({ status, waitsFor, refusal }) => `${status}${waitsFor.length > 0 ? ` for ${waitsFor.join(", ")}` : ""}${refusal ? ` ${refusal}` : ""}`;
+
+export default {
+  async on_threads() {
+    const threads = new Map();
+    for (const goal of await this.look()) {
+      const id = this.processes.of(goal.name);
+      if (!threads.has(id) && threads.size < MOST_THREADS) threads.set(id, { id, name: `${goal.name} ${goal.text.slice(0, 60)}   ${statusOf(goal)}` });
+    }
+    const all = [...threads.values()].sort((one, other) => one.id - other.id);
+    return { threads: all.length > 0 ? all : [{ id: 1, name: await this.whyNoGoal() }] };
+  },
+
+  async on_stackTrace({ threadId, startFrame = 0, levels }) {
+    const goal = await this.goalOf(threadId), { run } = this.session;
+    if (goal === undefined) {
+      const id = this.inside.reference("done"), name = await this.whyNoGoal();
+      return { stackFrames: [{ id, name, ...this.places.spotOf(undefined) }], totalFrames: 1 };
+    }
+    const steps = [];
+    for (let step = run.makerOf(goal.name); step !== undefined; step = step.goal === null ? undefined : run.makerOf(step.goal)) steps.push(step);
+    const shown = [goal, ...steps].slice(startFrame, startFrame + (levels || MOST_FRAMES));
+    for (const one of shown) if (one !== goal && one.goal !== null && this.frameText(one.goal) === undefined) this.frameTexts.set(one.goal, await this.session.goalTaken(one));
+    return { stackFrames: shown.map((one) => (one === goal ? this.frameOfGoal(goal) : this.frameOfStep(one))), totalFrames: steps.length + 1 };
+  },
+
+  /** Why a process has no goal, in words: it alone has ended, or all have. */
+  async whyNoGoal() {
+    const goals = await this.session.goalsTold();
+    if (goals === undefined) return "no goal is shown: one is too long";
+    return goals.length === 0 ? "all is done" : `this process has ended; others have ${plural(goals.length, "goal")}`;
+  },
+
+  frameOfGoal(goal) {
+    return { id: this.inside.reference("goal", goal), name: goal.text.slice(0, LONGEST_NAME), ...this.places.spotOf(this.session.run.placeOf(goal.name)) };
+  },
+
+  frameOfStep({ number, goal, act }) {
+    const text = goal === null ? "" : `${this.frameText(goal) ?? goal} `;
+    const place = goal === null ? undefined : this.session.run.placeOf(goal);
+    return { id: this.inside.reference("step", number), name: `step ${number}: ${text.slice(0, LONGEST_NAME)}${act}`, canRestart: true, ...this.places.spotOf(place) };
+  },
+
+  on_scopes({ frameId }) {
+    if (this.inside.referred(frameId) === undefined) throw refused("this frame is of a stop that is over");
+    return { scopes: this.inside.scopesOf(frameId) };
+  },
+
+  async on_variables({ variablesReference, start = 0, count }) {
+    const variables = await this.inside.variablesOf(variablesReference);
+    if (variables === undefined) throw refused("this is of a stop that is over");
+    return { variables: variables.slice(start, count ? start + count : undefined) };
+  },
+
+  /** The term of a variable that is shown in a scope under a name. */
+  async termShown(name, reference) {
+    const shown = reference === undefined ? undefined : (await this.inside.variablesOf(reference))?.find((variable) => variable.name === name);
+    return shown?.evaluateName === undefined ? undefined : { variable: shown.evaluateName };
+  },
+
+  async on_exceptionInfo() {
+    const goals = await this.session.goals(), failed = goals.find(({ status }) => status === "failed");
+    const labelOf = (variable) => this.session.run.labelOf(variable);
+    if (failed === undefined) return { exceptionId: "stuck", description: Stuck.linesOf(goals, labelOf).join("\n"), breakMode: "always" };
+    const why = failed.refusal === "F10" ? await whyNoClause(this.session, failed.name) : [];
+    return { exceptionId: `failed ${failed.refusal}`, description: [`${failed.name} ${failed.text}`, ...why].join("\n"), breakMode: "always" };
+  },
+
+  async on_stepInTargets({ frameId }) {
+    const { kind, what } = this.inside.referred(frameId) ?? {}, yes = kind === "goal" && what.sort === "call" ? await this.session.clausesSayingYes(what.name) : [];
+    const label = ({ number, text }) => `clause ${number}: ${text.replace(/\s+/g, " ").slice(0, 90)}`;
+    return { targets: yes.map((number) => ({ id: number, label: label(this.session.clauses[number - 1]) })) };
+  },
+
+  async on_gotoTargets({ source, line }) {
+    const isOurs = source?.path === undefined || path.resolve(source.path) === this.places.file;
+    const clause = isOurs ? this.clauseAt(this.places.meant(line)) : undefined, run = await this.session.look();
+    const steps = [...this.session.kept.steps.values()].filter((step) => clause !== undefined && step.clause === clause.number).reverse().slice(0, 50);
+    const label = ({ number, goal }) => `before step ${number}: ${run.textOf(goal).slice(0, 80)}`;
+    return { targets: steps.map((step) => ({ id: step.number, label: label(step), line: this.places.shown(clause.line) })) };
+  },
+
+  async on_completions({ text, column }) {
+    const line = text.slice(0, this.places.meant(column) - 1), { words, begun } = await completionsOf(this.session, line);
+    return { targets: words.slice(0, 100).map((word) => ({ label: word.trim(), start: line.length - begun.length, length: begun.length })) };
+  },
+
+  on_loadedSources() {
+    return { sources: [this.places.source(), ...[QUERY, STEPS, SHELF].map((reference) => this.places.virtual(reference))] };
+  },
+
+  async on_source({ source, sourceReference = source?.sourceReference }) {
+    if (sourceReference === QUERY) return { content: this.session.given.query };
+    if (sourceReference === SHELF) return { content: (await this.session.ask("shelf")).map((line) => `${line}\n`).join("") };
+    if (sourceReference !== STEPS) throw refused("no such text");
+    const run = await this.session.look(), lines = [];
+    for (const { number, goal, act } of this.session.kept.steps.values()) lines.push(`${String(number).padStart(5)} ${goal === null ? "" : run.textOf(goal)}   ${act}\n`);
+    return { content: lines.join("") };
+  },
+
+  /** A variable's value; in the console also each line of ghcdb's, and some commands of the terminal. */
+  async on_evaluate({ expression, context, frameId }) {
+    const line = expression.trim(), term = /^[A-Z_]\w*$/.test(line) ? await this.inside.termNamed(line, frameId) : undefined;
+    if (term !== undefined) {
+      const { value, type, variablesReference } = this.inside.variable(line, term);
+      return { result: value, variablesReference, ...(type && { type }) };
+    }
+    if (context === "hover" || context === "watch") throw refused(`${line} is no variable here`);
+    return { result: (await this.consoleLine(line)).join("\n"), variablesReference: 0 };
+  },
+
+  /** The lines that a line of the editor's console is answered by. */
+  async consoleLine(line) {
+    const [word, ...words] = line.split(/ +/), name = NAMES.includes(word) ? word : undefined;
+    if (commandOf(word) === "help") return helpLines(words);
+    if (["stuck", "stat"].includes(name)) return Own[name](this.session, words);
+    if (["holders", "list"].includes(name) && words.length < 2) return Own[name](this.session, words);
+    const version = words[0] === "1" ? "1" : "", file = words.slice(version.length).join(" ");
+    if (name === "save" && file !== "") return this.session.saveInto(file, version);
+    return this.typed(line, word);
+  },
+};

@@ -1,0 +1,116 @@
+// What an editor's options of a breakpoint say: a condition, a count of hits, a log text. Each is read whole; what
+// cannot be read is refused, with words that say what would be.
+import Print from "../../front/text/print.mjs";
+import Reader from "../../front/text/reader.mjs";
+import { refused } from "./refused.mjs";
+
+const isGiven = (text) => text !== undefined && text !== null && String(text).trim() !== "";
+
+/** How a goal of a predicate, as `price/2`, is written: `price(_,_)`. */
+function formOf(predicate) {
+  const [name, arity] = predicate.split("/"), places = Array(Number(arity)).fill("_").join(",");
+  return places === "" ? name : `${name}(${places})`;
+}
+
+/** The term that a text is; undefined where it is none, or is nested too deeply to be read. */
+function termOf(text) {
+  try {
+    return Reader.readTerm(String(text));
+  } catch (error) {
+    if (error instanceof SyntaxError || error instanceof RangeError) return undefined;
+    throw error;
+  }
+}
+
+/** The names of a term's variables that stand in it twice. */
+function repeatedIn(term) {
+  const seen = new Set(), repeated = new Set();
+  const note = ({ variable }) => variable !== undefined && (seen.has(variable) ? repeated : seen).add(variable);
+  Reader.fold(term, note, () => undefined);
+  return [...repeated];
+}
+
+const isOf = (term, predicate) => `${term.name}/${term.arguments?.length}` === predicate;
+
+/** The pattern of a condition on goals of a predicate, as `price(3,_)`; undefined where there is no condition. */
+function readCondition(text, predicate) {
+  if (!isGiven(text)) return undefined;
+  const pattern = termOf(text), form = formOf(predicate);
+  if (pattern === undefined || !isOf(pattern, predicate)) {
+    throw refused(`${text}: a condition is a pattern of the whole goal, ${form} with values in some places`);
+  }
+  const [repeated] = repeatedIn(pattern);
+  if (repeated === undefined) return pattern;
+  throw refused(`${text}: a variable of a pattern fits everything, so that ${repeated} twice compares nothing`);
+}
+
+/** Does a goal fit a pattern? A variable of the pattern fits everything. */
+function fits(pattern, term, run) {
+  if (pattern.variable !== undefined) return true;
+  const end = run.endOf(term);
+  if (pattern.integer !== undefined || end.arguments === undefined) {
+    return pattern.integer === end.integer && pattern.arguments === end.arguments;
+  }
+  if (pattern.name !== end.name || pattern.arguments.length !== end.arguments.length) return false;
+  return pattern.arguments.every((argument, place) => fits(argument, end.arguments[place], run));
+}
+
+/** From which hit on a breakpoint stops. */
+function readHits(text) {
+  if (!isGiven(text)) return 1;
+  const [, number] = /^\s*(?:>=)?\s*(\d+)\s*$/.exec(text) ?? [];
+  if (number !== undefined) return Number(number);
+  throw refused(`${text}: a hit condition is a number, as 3 or >= 3; from that hit on it stops`);
+}
+
+const LONGEST = 200; // letters of a value in a text
+const valueOf = (term, run) => Print.term(term, { store: run.shown, most: LONGEST });
+
+/** What the variables of a clause's head stand for where a goal meets it. */
+function headOf(clause, run, name) {
+  const values = new Map();
+  run.match(clause.head, run.goalOf(name).call, values);
+  return values;
+}
+
+/**
+ * What stands for a word in braces of a log text: a function of the run and the goal's name. A name of the clause means
+ * its variable, and only where the head has it: those of the body are not there yet. Undefined where nothing does.
+ */
+function readWord(word, clause, query) {
+  if (word === "goal") return (run, name) => run.textOf(name);
+  if (word === "name") return (run, name) => name;
+  if (Reader.isState(word)) return (run) => valueOf({ variable: word }, run);
+  const isOfHead = clause !== undefined && Reader.addVariables(new Set(), clause.head).has(word);
+  if (isOfHead) return (run, name) => valueOf(headOf(clause, run, name).get(word), run);
+  if (clause?.news.includes(word) || !query.includes(word)) return undefined;
+  return (run) => valueOf(run.environmentOf(0).get(word), run);
+}
+
+const IN_BRACES = /\{(.*?)\}/g;
+
+/** Why a word in braces is refused, in words. */
+function whyNoWord(word, clause, query) {
+  const inHead = clause === undefined ? [] : [...Reader.addVariables(new Set(), clause.head)];
+  const names = new Set([...inHead, ...query].filter((name) => Reader.isWritten(name) && !clause?.news.includes(name)));
+  const isOfBody = clause?.news.includes(word);
+  const why = isOfBody ? `the clause's body makes ${word}, and is not reached yet` : `{${word}} stands for nothing`;
+  return `${why}; a log text can name ${["goal", "name", ...names].map((name) => `{${name}}`).join(" ")}`;
+}
+
+/** What a log text becomes at a hit, as a function of the run and the goal's name; undefined where there is none. */
+function readMessage(text, clause, query) {
+  if (!isGiven(text)) return undefined;
+  const meant = (word) => readWord(word.trim(), clause, query), words = [...String(text).matchAll(IN_BRACES)];
+  const wrong = words.find(([, word]) => meant(word) === undefined);
+  if (wrong !== undefined) throw refused(whyNoWord(wrong[1].trim(), clause, query));
+  return (run, name) => String(text).replace(IN_BRACES, (all, word) => meant(word)(run, name));
+}
+
+/** The options of a breakpoint at a predicate, and at a clause where one is given; `query` has the query's names. */
+function readOptions({ condition, hitCondition, logMessage }, { predicate, clause, query }) {
+  const pattern = readCondition(condition, predicate), least = readHits(hitCondition);
+  return { pattern, least, messageOf: readMessage(logMessage, clause, query) };
+}
+
+export { readOptions, termOf, fits };

@@ -1,0 +1,54 @@
+// Where things stand, for an editor: in the program's file, in the query's comment there, or in a text that is in no file. An editor may
+// count lines and columns from 0 or from 1.
+import path from "node:path";
+
+const QUERY = 1, STEPS = 2, SHELF = 3; // references of the texts that are in no file
+const NAMES = { [QUERY]: "query", [STEPS]: "kept steps", [SHELF]: "taken back" };
+const COMMENT = /^%[ \t]*Query:[ \t]*(.*?)[ \t]*$/m;
+
+/** The query that a program's comment names; undefined where there is none. */
+const queryOf = (program) => COMMENT.exec(program)?.[1];
+
+class Places {
+  constructor(file, program, query, first) {
+    Object.assign(this, { file, program, queryText: query });
+    this.first = first; // the number of the first line, 0 or 1
+    const found = COMMENT.exec(program);
+    if (found === null || found[1] !== query) return;
+    const at = found.index + found[0].indexOf(query);
+    this.query = { line: program.slice(0, at).split("\n").length, letter: at - program.lastIndexOf("\n", at - 1) };
+  }
+
+  /** A number of ours, as the editor counts. */
+  shown(number) {
+    return number - 1 + this.first;
+  }
+
+  /** A number of the editor's, as we count. */
+  meant(number) {
+    return number + 1 - this.first;
+  }
+
+  source() {
+    return { name: path.basename(this.file), path: this.file };
+  }
+
+  virtual(reference) {
+    return { name: NAMES[reference], sourceReference: reference };
+  }
+
+  at(source, { line, letter, endLine, endLetter }) {
+    return { source, line: this.shown(line), column: this.shown(letter), endLine: this.shown(endLine), endColumn: this.shown(endLetter) };
+  }
+
+  /** Where a goal was called: a place of Run's. */
+  spotOf(place) {
+    if (place !== undefined && place.clause > 0) return this.at(this.source(), place);
+    const inQuery = place ?? { line: 1, letter: 1, endLine: 1, endLetter: 1 };
+    if (this.query === undefined) return this.at(this.virtual(QUERY), inQuery);
+    const { line, letter } = this.query, shift = (column) => column + letter - 1;
+    return this.at(this.source(), { line, letter: shift(inQuery.letter), endLine: line, endLetter: shift(inQuery.endLetter) });
+  }
+}
+
+export { Places, queryOf, QUERY, STEPS, SHELF };

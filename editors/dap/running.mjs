@@ -1,0 +1,154 @@
+// Runs: forwards in slices, so that a pause is heard between two of them, and backwards to a breakpoint.
+import Stuck from "../../front/run/stuck.mjs";
+import { Ended } from "../../front/session/program.mjs";
+import { isRefusal } from "../../front/session/session.mjs";
+import { plural } from "../../front/run/telling.mjs";
+
+const MOST_TOLD = 200; // steps of a run that it tells in the editor's console
+
+export default {
+  /** Runs something during which other requests are answered; a pause ends it. */
+  async running(what) {
+    this.isRunning = true;
+    this.wantsPause = false;
+    try {
+      return await what();
+    } finally {
+      this.isRunning = false;
+      this.wantsPause = false;
+    }
+  },
+
+  /** Runs on to a reason to stop. */
+  async forward() {
+    const stop = await this.running(() => this.runSlices()).catch((error) => {
+      if (error instanceof Ended) throw error;
+      return ["pause", error.message]; // a breakpoint could not be looked at, as where a value is too long
+    });
+    await this.stopped(...stop);
+  },
+
+  async runSlices() {
+    const watched = await this.watchedValues();
+    for (let steps = 0; ;) {
+      const reply = await this.session.ask(`leap ${watched.size > 0 ? 1 : this.slice}`), [, reason, name] = reply.at(-1).split(" ");
+      steps += this.tellRun(reply.slice(0, -1), steps);
+      const bound = await this.boundNow(watched);
+      if (bound !== undefined) return ["data breakpoint", `${this.session.run.labelOf(bound.variable)} was bound`, { hit: bound }];
+      if (reason === "spied") {
+        const stop = await this.atSpied(name);
+        if (stop !== undefined) return stop;
+      } else if (reason !== "limit") return this.atEnd(reason, name);
+      if (this.wantsPause) return ["pause", `after ${plural(steps, "step")}`];
+      await this.handleWaiting();
+    }
+  },
+
+  tellRun(lines, before) {
+    if (before < MOST_TOLD) this.tell(lines.slice(0, MOST_TOLD - before));
+    if (before < MOST_TOLD && before + lines.length >= MOST_TOLD) this.tell([".. further steps are not told here"]);
+    return lines.length;
+  },
+
+  /** What the console shows of a variable; of one that a step is yet to make as of one that nothing has bound. */
+  async shownValue(variable) {
+    const [line] = await this.session.ask(`show ${variable}`);
+    return line.startsWith("F23 ") ? `${variable} = ${variable}` : line;
+  },
+
+  async watchedValues() {
+    const values = new Map();
+    for (const point of this.breakpoints.variables) values.set(point, await this.shownValue(point.variable));
+    return values;
+  },
+
+  /** The data breakpoint whose variable has another value than before; undefined where none has. */
+  async boundNow(watched) {
+    for (const [point, before] of watched) if (await this.shownValue(point.variable) !== before) return point;
+    return undefined;
+  },
+
+  /** What stops a run before a spied goal; undefined where it goes on, and then the goal was stepped. */
+  async atSpied(name) {
+    const hit = await this.breakpoints.met(this.session, name, (text) => this.tell([text]));
+    const thread = this.processes.of(name);
+    if (hit !== undefined) return [hit.kind === "predicate" ? "function breakpoint" : "breakpoint", `${name} ${this.session.run.textOf(name)}`, { thread, hit }];
+    const reply = await this.session.ask(`step ${name}`);
+    this.tell(reply.filter((line) => line.startsWith("REDU ")));
+    return isRefusal(reply) ? ["pause", reply[0], { thread }] : undefined;
+  },
+
+  async atEnd(reason, name) {
+    const goals = await this.goalsTold();
+    if (goals.length === 0 && await this.session.goalsTold() === undefined) return ["pause", `stopped ${reason}`];
+    if (reason === "clash") return ["exception", `${name} ${goals.find((goal) => goal.name === name)?.text} has failed`, { thread: this.processes.of(name) }];
+    if (reason !== "quiet") return ["pause", reason];
+    const waiting = goals.filter(({ status }) => status === "waits");
+    if (waiting.length > 0) {
+      const isFed = goals.some(({ status }) => status === "stream");
+      this.tell(Stuck.linesOf(goals, (variable) => this.session.run.labelOf(variable)), "important");
+      return [this.breakpoints.stopsWhereStuck ? "exception" : "pause", `${plural(waiting.length, "goal")} wait${waiting.length === 1 ? "s" : ""}, and none is ready${isFed ? "; `in 1 TERM` feeds the input stream" : ""}`];
+    }
+    if (goals.length > 0) return ["pause", "the input streams are open: `in 1 TERM` feeds one"];
+    this.tell(["all is done", ...await this.answers()], "important");
+    return ["pause", "all is done: step back, or end"];
+  },
+
+  async answers() {
+    const lines = [];
+    for (const name of this.session.variables) lines.push(...await this.session.ask(`show ${name}`));
+    return lines;
+  },
+
+  /** Runs what comes of a goal. Such a run cannot be cut into slices: a pause ends it, and the session is as before it. */
+  async skip(name, thread) {
+    await this.session.prepareForEnding();
+    const stop = await this.running(async () => {
+      this.isSkipping = true;
+      try {
+        const reply = await this.session.ask(`skip ${name}`);
+        this.tellRun(reply, 0);
+        return isRefusal(reply) ? ["pause", reply[0], { thread }] : ["step", reply.at(-1), { thread }];
+      } catch (error) {
+        if (!(error instanceof Ended) || this.ending === undefined) throw error;
+        await this.ending;
+        return ["pause", "the run was ended; the session stands as before it", { thread }];
+      } finally {
+        this.isSkipping = false;
+        this.ending = undefined;
+      }
+    });
+    await this.stopped(...stop);
+  },
+
+  /** Asks a run to stop: in slices it does so after one, in one piece it is ended. */
+  stopRun() {
+    this.wantsPause = true;
+    if (!this.isSkipping || this.ending !== undefined) return;
+    this.ending = this.session.endRun();
+    this.ending.catch((error) => this.goesOn(error));
+  },
+
+  /** Tells that a run could not be ended, and goes on. Where the program has ended, the run hears of it. */
+  goesOn(error) {
+    if (error instanceof Ended) return;
+    this.ending = undefined;
+    this.tell([`${error.message}; the run goes on`], "important");
+  },
+
+  /** Backwards: to before the step that bound a watched variable, else to before a step at a breakpoint, else to the beginning. */
+  async backward() {
+    const run = await this.session.look(), numbers = [...this.session.kept.steps.keys()];
+    const binders = this.breakpoints.variables.map((point) => ({ point, number: run.binders.get(point.variable) })).filter(({ number }) => number !== undefined);
+    if (binders.length > 0) {
+      const { point, number } = binders.reduce((last, other) => (numbers.indexOf(other.number) > numbers.indexOf(last.number) ? other : last));
+      return this.rollTo(number, "data breakpoint", { hit: point, text: `before step ${number}, which bound ${run.labelOf(point.variable)}` });
+    }
+    for (const step of [...this.session.kept.steps.values()].reverse()) {
+      const hit = step.goal === null ? undefined : this.breakpoints.before(step, run);
+      if (hit !== undefined) return this.rollTo(step.number, "breakpoint", { hit });
+    }
+    while (this.session.kept.steps.size > 0) await this.session.ask(`roll ${this.session.kept.steps.keys().next().value}`);
+    return this.stopped("entry", "before the first step");
+  },
+};

@@ -1,0 +1,41 @@
+// A session as an editor keeps it: what the editor gives for one line is one line, and a history that it shows or
+// writes is whole.
+import fs from "node:fs";
+import path from "node:path";
+import { Session } from "../../front/session/session.mjs";
+import { isWhole } from "../../front/session/way_back.mjs";
+import { refused } from "./refused.mjs";
+
+const CONTROL = /[\u0000-\u0008\u000a-\u001f\u007f-\u009f]/; // a line feed would make two lines of one
+
+class EditorSession extends Session {
+  /** Sends a line; one that would be two, or that a terminal would not take, is refused and not sent. */
+  async ask(line) {
+    if (CONTROL.test(line)) throw refused("a line feed or another control stands in it: one line is taken at a time");
+    const reply = await super.ask(line);
+    if (!/^ *save( |$)/.test(line) || isWhole(reply)) return reply;
+    throw refused("F1 no memory: lines of the history are missing, so it is none, and nothing was saved");
+  }
+
+  /** Writes the session into a file beside the program, and tells so. No file is written over but its own. */
+  async saveInto(name, version) {
+    const file = path.resolve(path.dirname(this.given.file), name);
+    if (this.savedInto !== file && fs.existsSync(file)) throw refused(`${file} is there: name another file`);
+    const refusal = await this.saved(file, version);
+    if (refusal !== undefined) throw refused(`${refusal}; nothing was saved`);
+    this.savedInto = file;
+    return [`saved in ${file}: with "load" in the launch configuration a session goes on from it`];
+  }
+
+  /** Writes it; the refusal, where there is one. */
+  async saved(file, version) {
+    try {
+      return await this.save(file, version);
+    } catch (error) {
+      if (error.syscall === undefined) throw error; // of the system's calls
+      return `${file}: ${error.message}`;
+    }
+  }
+}
+
+export { EditorSession };

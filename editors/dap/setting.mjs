@@ -1,0 +1,135 @@
+// Requests that set breakpoints. One that cannot be read, or never be met, is answered as not verified, with words.
+import path from "node:path";
+import Reader from "../../front/text/reader.mjs";
+import { FILTERS } from "./breakpoints.mjs";
+import { readOptions } from "./options.mjs";
+import { Refused, refused } from "./refused.mjs";
+
+const NO_CONDITION = "no condition is read here: a run stops where the variable is bound";
+
+/**
+ * The answers to an editor's list of breakpoints, each made by `make`, which refuses what it cannot make. `numbers` are
+ * those that they had, where they were set before.
+ */
+async function answers(adapter, list, numbers, make) {
+  const answered = [];
+  for (const [place, given] of [...list ?? []].entries()) {
+    const id = numbers[place] ?? adapter.breakpoints.number();
+    try {
+      answered.push({ id, ...await make(given, id) });
+    } catch (error) {
+      if (!(error instanceof Refused)) throw error;
+      answered.push({ id, verified: false, message: error.message });
+    }
+  }
+  return answered;
+}
+
+export default {
+  clauseAt(line) {
+    return this.session.clauses.find((clause) => clause.line <= line && line <= clause.endLine);
+  },
+
+  on_breakpointLocations({ line, endLine = line }) {
+    const [from, to] = [line, endLine].map((number) => this.places.meant(number));
+    const found = this.session.clauses.filter((clause) => clause.line <= to && clause.endLine >= from);
+    return { breakpoints: found.map((clause) => ({ line: this.places.shown(clause.line) })) };
+  },
+
+  async on_setBreakpoints(given) {
+    return { breakpoints: await this.setAtClauses(given) };
+  },
+
+  async on_setFunctionBreakpoints(given) {
+    return { breakpoints: await this.setAtPredicates(given) };
+  },
+
+  /** Sets breakpoints at clauses and predicates again, for the program as it is now, and tells what became of each. */
+  async setAgain() {
+    for (const [how, { given, answered }] of this.breakpoints.asked) {
+      const set = await this[how](given, answered.map(({ id }) => id));
+      for (const breakpoint of set) this.event("breakpoint", { reason: "changed", breakpoint });
+    }
+  },
+
+  async setAtClauses(request, numbers = []) {
+    const { source, breakpoints } = request, points = [];
+    const isOurs = source.path !== undefined && path.resolve(source.path) === this.places.file;
+    const answered = await answers(this, breakpoints, numbers, (given, id) => {
+      const clause = isOurs ? this.clauseAt(this.places.meant(given.line)) : undefined;
+      if (clause === undefined) throw refused("no clause stands here");
+      const { predicate, number } = clause, query = this.session.variables;
+      const options = readOptions(given, { predicate, clause, query });
+      points.push({ id, kind: "clause", hits: 0, predicate, clause: number, ...options });
+      const fits = options.pattern === undefined ? "" : ` and that fits ${String(given.condition).trim()}`;
+      const message = `stops before a goal to which clause ${number} says yes${fits}`;
+      return { verified: true, line: this.places.shown(clause.line), source: this.places.source(), message };
+    });
+    if (isOurs) this.breakpoints.clauses = points;
+    if (isOurs) this.breakpoints.asked.set("setAtClauses", { given: request, answered });
+    await this.breakpoints.spy(this.session);
+    return answered;
+  },
+
+  async setAtPredicates(request, numbers = []) {
+    const points = [], { predicates } = this.session;
+    const answered = await answers(this, request.breakpoints, numbers, (given, id) => {
+      const found = predicates.filter((predicate) => [predicate, predicate.split("/")[0]].includes(given.name));
+      if (found.length === 0) throw refused(`no such predicate; there are: ${predicates.join(", ")}`);
+      points.push(...this.pointsAt(found, given, id));
+      return { verified: true };
+    });
+    this.breakpoints.predicates = points;
+    this.breakpoints.asked.set("setAtPredicates", { given: request, answered });
+    await this.breakpoints.spy(this.session);
+    return answered;
+  },
+
+  /** A breakpoint at predicates of one name: at those of which the condition is a pattern, where there is one. */
+  pointsAt(predicates, given, id) {
+    const made = [], query = this.session.variables;
+    let why;
+    for (const predicate of predicates) {
+      try {
+        made.push({ id, kind: "predicate", hits: 0, predicate, ...readOptions(given, { predicate, query }) });
+      } catch (error) {
+        if (!(error instanceof Refused)) throw error;
+        why ??= error;
+      }
+    }
+    if (made.length === 0) throw why;
+    return made;
+  },
+
+  on_setExceptionBreakpoints({ filters }) {
+    this.breakpoints.stopsWhereStuck = filters.includes("stuck");
+    const isKnown = (name) => FILTERS.some(({ filter }) => filter === name);
+    const unknown = { verified: false, message: "no such filter; there is: stuck" };
+    return { breakpoints: filters.map((name) => (isKnown(name) ? { verified: true } : unknown)) };
+  },
+
+  async on_dataBreakpointInfo({ name, variablesReference, frameId }) {
+    const named = await this.inside.termNamed(name, variablesReference ?? frameId);
+    const { variable } = named ?? await this.termShown(name, variablesReference) ?? {};
+    if (variable === undefined) return { dataId: null, description: `${name} is no variable of the run` };
+    const description = `${variable}: forwards, where it is bound; backwards, before the step that bound it`;
+    return { dataId: variable, description, accessTypes: ["write"], canPersist: false };
+  },
+
+  async on_setDataBreakpoints({ breakpoints }) {
+    const points = [];
+    const answered = await answers(this, breakpoints, [], async ({ dataId, condition, hitCondition }, id) => {
+      if (!await this.isVariable(dataId)) throw refused(`${dataId} is no variable of the run; one is named as _1_2`);
+      if (condition || hitCondition) throw refused(NO_CONDITION);
+      points.push({ id, variable: dataId });
+      return { verified: true };
+    });
+    this.breakpoints.variables = points;
+    return { breakpoints: answered };
+  },
+
+  /** Is a text the name of a variable that the run has now? */
+  async isVariable(name) {
+    return Reader.isState(name) && !(await this.session.ask(`show ${name}`))[0].startsWith("F23 ");
+  },
+};

@@ -1,0 +1,49 @@
+// Which files the packed extension has: its own, and inside it the adapter and all that this needs, in the places that they have here.
+import fs from "node:fs";
+import path from "node:path";
+import { fileURLToPath } from "node:url";
+
+const HERE = path.dirname(fileURLToPath(import.meta.url));
+
+const ROOT = path.join(HERE, "..", "..");
+const OWN = ["package.json", "extension.js", "language-configuration.json", "syntaxes/fghc.tmLanguage.json"];
+const FOLDERS = ["editors/dap", "front/protocol", "front/text", "front/run", "front/session"]; // of these all that ends in .mjs
+const SINGLE = ["editors/ghcdb-adapter", "web/ghcdb.html"];
+
+const read = (file) => fs.readFileSync(file);
+const scriptsIn = (folder) => fs.readdirSync(path.join(ROOT, folder)).filter((name) => name.endsWith(".mjs")).map((name) => `${folder}/${name}`);
+
+/** The extension's files by their names, each as bytes. */
+function packedFiles() {
+  const inside = [...FOLDERS.flatMap(scriptsIn), ...SINGLE];
+  return new Map([...OWN.map((name) => [name, read(path.join(HERE, name))]), ...inside.map((name) => [`inside/${name}`, read(path.join(ROOT, name))])]);
+}
+
+const TYPES = `<?xml version="1.0" encoding="utf-8"?>
+<Types xmlns="http://schemas.openxmlformats.org/package/2006/content-types">
+<Default Extension="json" ContentType="application/json"/><Default Extension="js" ContentType="application/javascript"/>
+<Default Extension="mjs" ContentType="application/javascript"/><Default Extension="html" ContentType="text/html"/><Default Extension="vsixmanifest" ContentType="text/xml"/>
+<Override PartName="/extension/inside/editors/ghcdb-adapter" ContentType="application/javascript"/>
+</Types>
+`;
+
+function manifest({ name, publisher, version, displayName, description, engines }) {
+  return `<?xml version="1.0" encoding="utf-8"?>
+<PackageManifest Version="2.0.0" xmlns="http://schemas.microsoft.com/developer/vsx-schema/2011">
+<Metadata><Identity Language="en-US" Id="${name}" Version="${version}" Publisher="${publisher}"/>
+<DisplayName>${displayName}</DisplayName><Description xml:space="preserve">${description}</Description>
+<Properties><Property Id="Microsoft.VisualStudio.Code.Engine" Value="${engines.vscode}"/></Properties></Metadata>
+<Installation><InstallationTarget Id="Microsoft.VisualStudio.Code"/></Installation><Dependencies/>
+<Assets><Asset Type="Microsoft.VisualStudio.Code.Manifest" Path="extension/package.json" Addressable="true"/></Assets>
+</PackageManifest>
+`;
+}
+
+/** The files of the archive that VS Code installs. */
+function vsixFiles(files) {
+  const about = JSON.parse(files.get("package.json"));
+  const heads = [["[Content_Types].xml", Buffer.from(TYPES)], ["extension.vsixmanifest", Buffer.from(manifest(about))]];
+  return new Map([...heads, ...[...files].map(([name, bytes]) => [`extension/${name}`, bytes])]);
+}
+
+export { packedFiles, vsixFiles };

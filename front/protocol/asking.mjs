@@ -1,0 +1,84 @@
+// Asks a session all that the page and the picture show: record, goals, what was taken back, values, and the texts of goals.
+import Short from "./short.mjs";
+
+const Asking = (() => {
+  const MOST_LETTERS = 500000; // of the goals' texts that are asked for at once
+
+  /** The replies to several lines: all at once where the session can do that. */
+  const replies = (session, lines) => (session.lines ? session.lines(lines) : lines.map((line) => session.line(line)));
+
+  /** The names of a query's variables, in the order in which they come. */
+  const variablesOf = (query) => [...new Set(query.replace(/%[^\n]*/g, " ").match(/\b[A-Z]\w*|\b_[A-Za-z]\w*/g) || [])];
+
+  /** The variables of a query as the state names them, by their names: `_0_1` is the first that stands there, and each `_` is one of its own. */
+  function queryVariables(query) {
+    const found = new Map();
+    let last = 0;
+    for (const [name] of query.replace(/%[^\n]*/g, " ").matchAll(/\b[A-Z]\w*|\b_\w*/g)) {
+      if (found.has(name) && name !== "_") continue;
+      last += 1;
+      found.set(name, `_0_${last}`);
+    }
+    found.delete("_");
+    return found;
+  }
+
+  /** What a session tells beside its record: three lists of lines. */
+  function besideRecord(session, query) {
+    const [goals, shelf, ...values] = replies(session, ["goals", "shelf", ...variablesOf(query).map((name) => `show ${name}`)]);
+    return { goals, shelf, values: values.flat() };
+  }
+
+  /** What a session tells of where it stands: four lists of lines. */
+  const whereItStands = (session, query) => ({ records: session.line("records"), ...besideRecord(session, query) });
+
+  /** Adds to `texts` what CALL lines tell: the text of each goal, by its name. */
+  function addCalls(texts, lines) {
+    for (const line of lines) {
+      const found = /^CALL (\d+\.\d+) (.*)$/.exec(line);
+      if (found) texts.set(found[1], Short.term(found[2]));
+    }
+  }
+
+  /** The text of the goal that a step took, in the reply to `goal N`: what follows the step's number, the goal's name and the act. */
+  function textOfGoal([line], { number, goal, act }) {
+    const before = `${number} ${goal} ${act} `;
+    return line.startsWith(before) ? line.slice(before.length) : undefined;
+  }
+
+  /** Completes the texts of the goals that steps took: as they were written then. False where they are so long that some are not asked for. */
+  function completeTexts(texts, steps, session) {
+    let letters = 0;
+    for (const step of steps.filter(({ goal }) => goal !== null && !texts.has(goal))) {
+      if (letters > MOST_LETTERS) return false;
+      const text = textOfGoal(session.line(`goal ${step.number}`), step);
+      if (text === undefined) continue;
+      letters += text.length;
+      texts.set(step.goal, Short.term(text));
+    }
+    return true;
+  }
+
+  const OF_SLICE = /^(\d+) (?:\d+\.\d+|-) .* makes \S+?(?: or ([\d,]+))?$/;
+
+  /**
+   * What a reply to `explain` tells: the lines in front of its steps, the steps' numbers, the other clauses by which some of them could go
+   * (pairs of a number and clauses), and its last line.
+   */
+  function sliceIn(lines) {
+    const head = [], numbers = [], others = [];
+    for (const line of lines) {
+      const found = OF_SLICE.exec(line);
+      if (found) numbers.push(Number(found[1]));
+      else if (numbers.length === 0) head.push(line);
+      if (found && found[2]) others.push([Number(found[1]), found[2].split(",").map(Number)]);
+    }
+    return { head, numbers: Float64Array.from(numbers), others, last: lines[lines.length - 1] || "" };
+  }
+
+  return {
+    variablesOf, queryVariables, besideRecord, whereItStands, addCalls, textOfGoal, completeTexts, sliceIn,
+  };
+})();
+
+export default Asking;

@@ -1,0 +1,85 @@
+// Shortens terms that are too long to be shown, before the worker hands them over: `…` stands for what is left out. Pure.
+const Short = (() => {
+  const MOST = 20000; // letters of a term, a goal or a binding
+  const LINE_END = 10;
+  const PLACES = "([,|", CLOSING = { "(": ")", "[": "]" };
+
+  /** The brackets that are open at the end of a text, the outermost first. */
+  function openAt(text) {
+    const open = [];
+    for (const letter of text) {
+      if (letter === "(" || letter === "[") open.push(letter);
+      else if (letter === ")" || letter === "]") open.pop();
+    }
+    return open;
+  }
+
+  /** A term or a goal in at most some letters and its closing brackets: one part of it is `…`, and nothing stands after that. */
+  function term(text, most = MOST) {
+    if (text.length <= most) return text;
+    let end = most;
+    while (end > 0 && !PLACES.includes(text[end - 1])) end -= 1;
+    if (end === 0) return `${text.slice(0, most)}…`;
+    const open = openAt(text.slice(0, end)), isRest = open[open.length - 1] === "[" && text[end - 1] === ",";
+    return `${isRest ? `${text.slice(0, end - 1)}|` : text.slice(0, end)}…${open.reverse().map((bracket) => CLOSING[bracket]).join("")}`;
+  }
+
+  function binding(text, most) {
+    const sign = text.indexOf("=") + 1;
+    return text.slice(0, sign) + term(text.slice(sign), most);
+  }
+
+  /** A line of `records`, with the terms that its step bound shortened. */
+  function record(line, most = MOST) {
+    const makes = line.lastIndexOf(" makes "), binds = line.lastIndexOf(" binds ", makes - 1) + 7;
+    if (line.length <= most || binds < 7) return line;
+    return line.slice(0, binds) + line.slice(binds, makes).split(";").map((one) => binding(one, most)).join(";") + line.slice(makes);
+  }
+
+  const BEFORE_GOAL = /^(?:CALL )?\d+\.\d+ (?:ready |waits \S+ |failed \S+ |stream )?/;
+
+  /** A line of `goals`, or one that tells a goal, with its goal shortened. */
+  function goal(line, most = MOST) {
+    if (line.length <= most) return line;
+    const before = (BEFORE_GOAL.exec(line) || [""])[0];
+    return before + term(line.slice(before.length), most);
+  }
+
+  /** Where the lines stand that have more bytes than some: where they begin, and their line ends. */
+  function longLines(bytes, most) {
+    const found = [];
+    for (let at = 0, end = 0; at < bytes.length; at = end + 1) {
+      end = bytes.indexOf(LINE_END, at);
+      if (end < 0) end = bytes.length;
+      if (end - at > most) found.push([at, end]);
+    }
+    return found;
+  }
+
+  function joined(parts) {
+    const all = new Uint8Array(parts.reduce((sum, part) => sum + part.length, 0));
+    let at = 0;
+    for (const part of parts) {
+      all.set(part, at);
+      at += part.length;
+    }
+    return all;
+  }
+
+  /** The bytes of lines, each long one shortened by `record` or `goal`; the same bytes where none is long. */
+  function lines(bytes, shorten, most = MOST) {
+    const long = longLines(bytes, most), parts = [];
+    if (long.length === 0) return bytes;
+    let at = 0;
+    for (const [from, to] of long) {
+      const line = new TextDecoder().decode(bytes.subarray(from, to));
+      parts.push(bytes.subarray(at, from), new TextEncoder().encode(shorten(line, most)));
+      at = to;
+    }
+    return joined([...parts, bytes.subarray(at)]);
+  }
+
+  return { term, record, goal, lines, MOST };
+})();
+
+export default Short;

@@ -1,0 +1,59 @@
+// The commands that the terminal answers itself: each gives lines, computed from what the session tells. Nothing here changes a session.
+import Stuck from "./stuck.mjs";
+import { plural } from "./telling.mjs";
+
+/** Is a clause or goal of the predicate that a word names, as `price/2` or `price`? */
+const isOf = (predicate, word) => predicate === word || predicate?.split("/")[0] === word;
+
+function list(session, [word]) {
+  const shown = session.clauses.filter(({ predicate }) => word === undefined || isOf(predicate, word));
+  if (shown.length === 0) return [`no clause of ${word}; the program's predicates: ${session.predicates.join(", ")}`];
+  const width = String(shown.at(-1).number).length;
+  return shown.map(({ number, line, text }) => `${String(number).padStart(width)} (line ${line}) ${text.replace(/\s*\n\s*/g, " ")}`);
+}
+
+async function stuck(session) {
+  const goals = await session.goals(), lines = Stuck.linesOf(goals, (variable) => session.run.labelOf(variable));
+  const failed = goals.filter(({ status }) => status === "failed").map(({ name, refusal }) => `${name} has failed: ${refusal}; explain ${name} tells more`);
+  if (lines.length + failed.length > 0) return [...failed, ...lines];
+  return [goals.length === 0 ? "all is done" : "no goal waits"];
+}
+
+/** The variables of the state that a word names: `_n_m`, or a name of the text. */
+const variablesOf = (session, word) => (/^_\d+_\d+$/.test(word) ? [word] : session.run.variablesNamed(word));
+
+async function holders(session, [word]) {
+  const held = Stuck.holdersOf(await session.goals()), lines = [];
+  for (const variable of variablesOf(session, word)) {
+    for (const goal of held.get(variable) ?? []) lines.push(`${session.run.labelOf(variable)}: ${goal.name} ${goal.status} ${goal.text}`);
+  }
+  return lines.length > 0 ? lines : [`no goal has ${word}`];
+}
+
+async function records(session, [word]) {
+  const run = await session.look();
+  const shown = [...session.kept.steps.values()].filter(({ goal }) => isOf(run.predicateOf(goal), word));
+  return shown.length === 0 ? [`no kept step of ${word}`] : shown.map(({ number, goal, act }) => `${number} ${run.textOf(goal)} ${act}`);
+}
+
+/** The longest chain of causes. */
+function longestChain(run, steps) {
+  const depths = new Map();
+  for (const { number, goal } of steps) {
+    const causes = [...(run.records.get(number)?.reads ?? []).map((variable) => run.binders.get(variable)), goal === null ? undefined : run.makerOf(goal)?.number];
+    depths.set(number, 1 + Math.max(0, ...causes.map((cause) => depths.get(cause) ?? 0)));
+  }
+  return [...depths.values()].reduce((most, depth) => Math.max(most, depth), 0);
+}
+
+async function stat(session) {
+  const run = await session.look(), steps = [...session.kept.steps.values()], counts = new Map();
+  for (const { goal, act } of steps) {
+    const kind = run.predicateOf(goal) ?? act.split(" ")[0];
+    counts.set(kind, (counts.get(kind) ?? 0) + 1);
+  }
+  const chain = longestChain(run, steps), lines = [...counts].sort((one, other) => other[1] - one[1]).map(([kind, count]) => `${String(count).padStart(6)} ${kind}`);
+  return [...lines, `${plural(steps.length, "step")}, longest chain of causes ${chain}: on average ${(steps.length / Math.max(1, chain)).toFixed(1)} at once`];
+}
+
+export { list, stuck, holders, records, variablesOf, stat };

@@ -1,0 +1,266 @@
+// What the terminal adds after a reply: why it was refused and what would help, what a stop means, and the names of variables.
+import Causes from "../text/causes.mjs";
+import Choices from "./choices.mjs";
+import Print from "../text/print.mjs";
+import Reader from "../text/reader.mjs";
+import Stuck from "./stuck.mjs";
+import Nearest from "../text/nearest.mjs";
+import { REFUSALS } from "../protocol/commands.mjs";
+import { isRefusal } from "../session/session.mjs";
+import { causeInTerm } from "../text/causes_in_terms.mjs";
+
+const { nearest, predicatesNamed } = Nearest;
+
+const MOST = 12; // lines of a kind that it tells
+const BEGINNING = 200; // letters that it tells of a value that is too long
+const MOST_LOOKED = 200_000; // kept steps: of a longer run not all that depends on a step is looked for
+
+const plural = (count, word) => `${count} ${word}${count === 1 ? "" : "s"}`;
+const some = (words) => (words.length > MOST ? [...words.slice(0, MOST), ".."] : words);
+
+const labelOf = (session) => (variable) => session.run.labelOf(variable);
+
+/** What each clause says to a call that has failed. */
+async function whyNoClause(session, goal, clause) {
+  const run = await session.look();
+  return Choices.choicesOf(run, goal)
+    .filter((choice) => choice.says === "no" && (clause === undefined || choice.clause.number === Number(clause)))
+    .map((choice) => `clause ${choice.clause.number}: ${choice.why}`);
+}
+
+/** The variable that was bound to the value of a term, at the end of its chain; undefined where the term is no variable, or unbound. */
+function boundVariable(run, term) {
+  for (let at = term.variable; run.bound.has(at);) {
+    const bound = run.bound.get(at), next = typeof bound !== "string" ? bound.variable : /^_\d+_\d+$/.test(bound) ? bound : undefined;
+    if (next === undefined) return at;
+    at = next;
+  }
+  return undefined;
+}
+
+/** Which steps had bound the two sides of what could not be made equal. */
+function boundBefore(run, goal) {
+  const variables = [goal.left, goal.right].map((term) => boundVariable(run, term)).filter((variable) => variable !== undefined);
+  return [...new Set(variables)].map((variable) => `${run.labelOf(variable)} was bound by step ${run.binders.get(variable)}; explain ${variable} tells why`);
+}
+
+/** What could not be made equal, or be computed. */
+async function whyNoValue(session, name) {
+  const run = await session.look(), goal = run.goalOf(name);
+  if (goal?.right === undefined) return [];
+  const [left, right] = [goal.left, goal.right].map((term) => Print.term(term, { store: run.shown, most: 60 }));
+  const why = goal.sort === "assignment" ? Choices.whyNoValue(goal.right, run) : undefined;
+  return why === undefined ? [`${left} and ${right}`, ...boundBefore(run, goal)] : [`${right}: ${why}`];
+}
+
+async function whyWaits(session, name) {
+  return Stuck.linesOfGoal(await session.goals(), name, labelOf(session));
+}
+
+async function noGoal(session, [name]) {
+  const taker = session.kept.takers.get(name);
+  if (taker !== undefined) return [`${name} was taken by step ${taker}; goals lists those that are there`];
+  if ((await session.goalNamed(name))?.status === "stream") return [`${name} is an input stream: in K TERM feeds it`];
+  return ["goals lists those that are there"];
+}
+
+async function noSuchClause(session, [name]) {
+  await session.look();
+  const predicate = session.run.predicateOf(name);
+  const numbers = session.clauses.filter((clause) => clause.predicate === predicate).map(({ number }) => number);
+  return [predicate === undefined ? `${name} is no call, and is stepped without a clause` : `the clauses of ${predicate}: ${numbers.join(", ")}`];
+}
+
+async function noOpenStream(session) {
+  const open = (await session.goals()).filter(({ status }) => status === "stream");
+  return [open.length === 0 ? "no input stream is open; instream(S) in the query makes one" : `open: ${open.map(({ text }) => text.split(" ")[1]).join(", ")}`];
+}
+
+async function notKept(session, [number]) {
+  const shelf = await session.ask("shelf");
+  const isThere = shelf.some((line) => line.startsWith(`${Number(number)} `));
+  return [isThere ? `step ${Number(number)} was taken back: redo ${Number(number)} puts it there again` : "records lists the kept steps"];
+}
+
+/** Why a step that was taken back cannot be put there again: what it rested on is not there, or somebody else took its goal. */
+async function notRedone(session, [word]) {
+  const number = Number(word), line = (await session.ask("shelf")).find((one) => one.startsWith(`${number} `));
+  if (line === undefined) return undefined;
+  const [, goal] = line.split(" "), maker = Number.parseInt(goal, 10), taker = session.kept.takers.get(goal);
+  if (taker !== undefined) return [`step ${number} takes ${goal}, which step ${taker} has taken: take that back first`];
+  if (maker > 0 && !session.kept.steps.has(maker)) return [`step ${number} takes ${goal}, which step ${maker} made: redo ${maker} first`];
+  return [`it rested on steps that are not there: redo those before it first; shelf lists what was taken back`];
+}
+
+async function hasConsequences(session, [number]) {
+  if (session.kept.steps.size > MOST_LOOKED) return [`roll ${Number(number)} takes it back with all that depends on it`];
+  const all = (await session.look()).consequencesOf(Number(number));
+  return [`roll ${Number(number)} takes it back with all that depends on it: ${some(all).join(",")}${all.length > MOST ? ` (${all.length} steps)` : ""}`];
+}
+
+async function notLawful(session, words, reply) {
+  const [, later, earlier] = /^F21 not lawful: (\d+) (\d+)$/.exec(reply[0]);
+  if (earlier === "0") return [`step ${later} is kept, and is not in the list`];
+  return [later === earlier ? `${later} is no kept step, or stands twice` : `step ${earlier} depends on step ${later}`];
+}
+
+function noVariable(session, [name = ""]) {
+  const near = nearest(name, session.variables);
+  const all = session.variables.length === 0 ? "the query has no variables" : `the query's variables: ${session.variables.join(", ")}`;
+  const named = session.run.variablesNamed(name);
+  if (named.length > 0) return [`${name} is ${some(named.map((variable) => session.run.labelOf(variable))).join(", ")}`];
+  return [near === undefined ? all : `${near}?  ${all}`];
+}
+
+function noPredicate(session, words, reply) {
+  const [, wanted] = /^F5 undefined (\w+)\/\d+$/.exec(reply[0]), near = predicatesNamed(wanted, session.predicates);
+  return [near.length === 0 ? `the program's predicates: ${some(session.predicates).join(", ")}` : `${some(near).join(", ")}?`];
+}
+
+/** Why the text after `ask` or `in` is refused. */
+function badText(session, meaning, reply) {
+  const text = meaning.line.replace(meaning.name === "in" ? /^in +\S+ +/ : /^ask +/, ""), [, column] = /^F2 syntax at 1:(\d+)$/.exec(reply[0]) ?? [];
+  const own = meaning.name === "in" && column !== undefined ? causeInTerm(text, Number(column)) : undefined;
+  const cause = own ?? Causes.causeOf(reply[0], { text, which: meaning.name, isQuery: true, program: session.text });
+  return cause === undefined ? undefined : Causes.linesOf(cause, text);
+}
+
+const HELPERS = {
+  F5: noPredicate, F7: noGoal, F8: noSuchClause, F9: (session, [name]) => whyWaits(session, name), F10: (session, [name, clause]) => whyNoClause(session, name, clause),
+  F11: (session, [name]) => whyNoValue(session, name), F13: (session, [name]) => whyNoValue(session, name), F14: noOpenStream, F16: notKept, F17: hasConsequences,
+  F21: notLawful, F23: noVariable,
+};
+
+/** How a value begins that is too long to be printed. */
+async function beginningOf(session, [word]) {
+  const run = await session.look(), variable = /^_\d+_\d+$/.test(word) ? word : run.variablesNamed(word)[0];
+  if (variable === undefined) return [];
+  return [`it begins so: ${Print.term({ variable }, { store: run.shown, most: BEGINNING })}`];
+}
+
+/** What helps with a refusal. */
+async function afterRefusal(session, meaning, reply) {
+  const [number] = reply[0].split(" ");
+  if (["ask", "in"].includes(meaning.name)) {
+    const told = badText(session, meaning, reply);
+    if (told !== undefined) return told;
+  }
+  const limit = /^F6 limit: (\w+)$/.exec(reply[0]);
+  if (limit !== null) return [Causes.LIMITS[limit[1]], ...(meaning.name === "show" ? await beginningOf(session, meaning.words) : [])];
+  const helper = meaning.name === "redo" ? notRedone : HELPERS[number], told = await helper?.(session, meaning.words, reply);
+  return told === undefined || told.length === 0 ? [REFUSALS[number]] : told;
+}
+
+async function whyFailed(session, name, refusal) {
+  if (refusal === "F10") return whyNoClause(session, name);
+  return ["F11", "F13"].includes(refusal) ? whyNoValue(session, name) : [REFUSALS[refusal]];
+}
+
+const STOPS = {
+  limit: ["leap goes on"], full: ["no step has room any more: 1,000,000 are kept, or all numbers are used up"], memory: ["memory was refused; what was done stands"],
+};
+
+/** What the last line of a run means. */
+async function afterStop(session, line) {
+  const [, reason, name] = line.split(" "), goals = await session.goalsTold();
+  if (goals === undefined || STOPS[reason] !== undefined) return STOPS[reason] ?? [];
+  const goal = goals.find((other) => other.name === name);
+  if (reason === "quiet") {
+    const count = goals.filter(({ status }) => status === "waits").length, streams = goals.filter(({ status }) => status === "stream").length;
+    const open = streams > 0 ? [`${plural(streams, "input stream")} open: in K TERM feeds one, end K closes it`] : [];
+    if (count > 0) return [`${plural(count, "goal")} wait${count === 1 ? "s" : ""}: stuck tells why`, ...open];
+    return open.length > 0 ? open : [goals.length === 0 ? "all is done" : "nothing that comes of it is left to do"];
+  }
+  if (reason === "clash" && goal) return [`${goal.text} has failed: ${goal.refusal}`, ...await whyFailed(session, name, goal.refusal)];
+  return reason === "spied" && goal ? [`next is ${goal.text}: step ${name} takes it`] : [];
+}
+
+/** After SUSP and FAIL lines: for what a goal waits, by the names of the text; why it has failed. */
+async function afterSettling(session, reply) {
+  const told = [];
+  for (const line of reply) {
+    const [port, name, rest] = line.split(" ");
+    if (port === "SUSP" && told.length < MOST) {
+      const names = rest.split(",").filter((variable) => session.run.nameOf(variable) !== undefined);
+      if (names.length > 0) told.push(`${name} waits for ${names.map(labelOf(session)).join(" and ")}`);
+    }
+    if (port === "FAIL") told.push(`${name} has failed: ${rest}`, ...await whyFailed(session, name, rest));
+  }
+  return told;
+}
+
+/** Who could bind a variable that `show` tells to be unbound. */
+async function afterShow(session, reply) {
+  const [, variable] = /^\S+ = (_\d+_\d+)$/.exec(reply[0]) ?? [];
+  if (variable === undefined) return [];
+  const goals = await session.goalsTold(), holders = Stuck.holdersOf(goals ?? []).get(variable) ?? [];
+  if (goals === undefined) return [`${session.run.labelOf(variable)} is unbound`];
+  const held = holders.length === 0 ? "no goal has it" : `held by ${some(holders.map(({ name }) => name)).join(", ")}`;
+  return [`${session.run.labelOf(variable)} is unbound; ${held}`];
+}
+
+function afterGoals(session, reply) {
+  const waited = new Set(reply.flatMap((line) => /^\S+ waits (\S+) /.exec(line)?.[1].split(",") ?? []));
+  const named = [...waited].filter((variable) => session.run.nameOf(variable) !== undefined);
+  return named.length === 0 ? [] : [`waited for: ${some(named.map(labelOf(session))).join(", ")}`];
+}
+
+/** The names that the text gives to variables that begin lines. */
+function namesOfFirst(session, lines) {
+  const named = [...new Set(lines.map((line) => line.split(" ")[0]))].filter((variable) => session.run.nameOf(variable) !== undefined);
+  return named.length === 0 ? [] : [some(named.map(labelOf(session))).join(", ")];
+}
+
+/** The clause by which a step was taken, and what its variables stand for, as far as records have told it. */
+function clauseLines({ run, clauses }, step) {
+  const clause = clauses[step.clause - 1], values = [...run.environmentOf(step.number) ?? []].filter(([name]) => Reader.isWritten(name));
+  const shown = values.map(([name, term]) => `${name} = ${Print.term(term, { store: run.shown, most: 40 })}`).join(", ");
+  return [`by clause ${clause.number}: ${clause.text.replace(/\s*\n\s*/g, " ")}`, ...(shown === "" ? [] : [`with ${shown}`])];
+}
+
+async function afterGoal(session, [word]) {
+  const step = session.kept.steps.get(Number(word));
+  if (step === undefined || step.clause === null) return [];
+  await session.look();
+  return clauseLines(session, step);
+}
+
+/** The names that the text gives to the variables of a reply. */
+function namesOfAll(session, reply) {
+  const named = [...new Set(reply.flatMap((line) => line.match(/\b_\d+_\d+\b/g) ?? []))].filter((variable) => session.run.nameOf(variable) !== undefined);
+  return named.length === 0 ? [] : [some(named.map(labelOf(session))).join(", ")];
+}
+
+/** After an explanation: variables by the names of the text, and at which steps another clause could be taken. */
+function afterExplain(session, reply) {
+  const others = reply.map((line) => /^(\d+) (\d+\.\d+) by \d+ reads .* or ([\d,]+)$/.exec(line)).filter(Boolean);
+  const lines = others.map(([, number, goal, clauses]) => {
+    const [first, ...more] = clauses.split(",");
+    return `another clause than step ${number} took: roll ${number}, step ${goal} ${first}${more.length > 0 ? ` (or ${more.join(", ")})` : ""}`;
+  });
+  return [...namesOfFirst(session, reply), ...some(lines)];
+}
+
+/** After `keep`: what the last line counts. */
+function afterKeep(reply) {
+  const [, count] = /^kept (\d+)$/.exec(reply.at(-1)) ?? [];
+  if (count === undefined) return [];
+  return [`${plural(Number(count), "step")} left; shelf lists what was taken back, redo N puts a step there again`];
+}
+
+/** All that is added after a reply to a line of the console. */
+async function notesAfter(session, meaning, reply) {
+  if (isRefusal(reply)) return afterRefusal(session, meaning, reply);
+  const last = reply.at(-1) ?? "";
+  if (last.startsWith("stopped ")) return afterStop(session, last);
+  if (meaning.name === "show") return afterShow(session, reply);
+  if (meaning.name === "goals") return afterGoals(session, reply);
+  if (meaning.name === "who") return namesOfFirst(session, reply);
+  if (meaning.name === "explain") return afterExplain(session, reply);
+  if (meaning.name === "keep") return afterKeep(reply);
+  if (meaning.name === "goal") return afterGoal(session, meaning.words);
+  if (meaning.name === "clauses") return [...await whyNoClause(session, meaning.words[0]), ...namesOfAll(session, reply)];
+  return afterSettling(session, reply);
+}
+
+export { notesAfter, whyNoClause, plural };

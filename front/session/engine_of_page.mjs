@@ -1,0 +1,31 @@
+// The engine that stands in web/ghcdb.html, for Node: the module that the page carries, and what it says of it.
+import fs from "node:fs";
+import path from "node:path";
+import { fileURLToPath } from "node:url";
+import Engine from "./engine.mjs";
+
+const HERE = path.dirname(fileURLToPath(import.meta.url));
+
+const PAGE = path.join(HERE, "..", "..", "web", "ghcdb.html");
+
+// The text of a script that `web/build` put into a page.
+function scriptOf(page, name) {
+  const open = `<script data-file="${name}">\n`;
+  const start = page.indexOf(open);
+  if (start < 0) throw new Error(`the page has no script ${name}`);
+  return page.slice(start + open.length, page.indexOf("</script>", start));
+}
+
+/** What a script of the page says of a constant: `const NAME = VALUE;`, where the value is JSON. */
+const constantIn = (script) => JSON.parse(script.slice(script.indexOf("=") + 1, script.lastIndexOf(";")));
+
+/** The bytes of the module in the text of a page. */
+const moduleOf = (page) => Buffer.from(constantIn(scriptOf(page, "module.js")), "base64");
+
+// The engine of a page, and with what it was made.
+async function engineOfPage(file = PAGE) {
+  const page = fs.readFileSync(file, "utf8");
+  return { engine: await Engine.load(moduleOf(page)), madeWith: constantIn(scriptOf(page, "made_with.js")) };
+}
+
+export { engineOfPage, moduleOf, scriptOf, PAGE };

@@ -1,0 +1,141 @@
+// Files: written whole or not at all, and read no further than is asked for.
+import fs from "node:fs";
+import path from "node:path";
+
+const PIECE = 65_536; // bytes that are read at once
+const LINE_FEED = 10;
+
+/** What a call gives; `otherwise` where the system refuses it. */
+function tried(call, otherwise) {
+  try {
+    return call();
+  } catch {
+    return otherwise;
+  }
+}
+
+const isFile = (file) => tried(() => fs.statSync(file).isFile(), false);
+
+/** Is there something that is no file, as a pipe? Then it may be read but once. */
+const isNoFile = (file) => tried(() => !fs.statSync(file).isFile(), false);
+
+/** The bytes of a file, piece by piece. */
+function* piecesOf(file) {
+  const from = fs.openSync(file, "r");
+  try {
+    for (;;) {
+      const piece = Buffer.alloc(PIECE), count = fs.readSync(from, piece);
+      if (count === 0) return;
+      yield piece.subarray(0, count);
+    }
+  } finally {
+    fs.closeSync(from);
+  }
+}
+
+/** The first bytes of a file, `most` at most. Throws where it cannot be read. */
+function beginningOf(file, most) {
+  const pieces = [];
+  let count = 0;
+  for (const piece of piecesOf(file)) {
+    pieces.push(piece);
+    count += piece.length;
+    if (count >= most) break;
+  }
+  return Buffer.concat(pieces).subarray(0, most);
+}
+
+/** The place in a piece of text where the line begins that is `left` lines further on, and how many are still left. */
+function skipLines(piece, left) {
+  let at = 0;
+  for (; left > 0; left -= 1) {
+    const end = piece.indexOf(LINE_FEED, at);
+    if (end < 0) return { at: piece.length, left };
+    at = end + 1;
+  }
+  return { at, left };
+}
+
+/** The first `most` letters of a line of a file; undefined where the file ends before it. */
+function lineOf(file, number, most) {
+  let line = "", left = number - 1;
+  for (const piece of piecesOf(file)) {
+    const found = skipLines(piece, left);
+    left = found.left;
+    if (found.at === piece.length) continue;
+    const end = piece.indexOf(LINE_FEED, found.at);
+    line += piece.toString("latin1", found.at, end < 0 ? piece.length : end);
+    if (end >= 0 || line.length >= most) return line.slice(0, most);
+  }
+  return line === "" ? undefined : line;
+}
+
+/** Does a process of that number run, other than this one? */
+function isAlive(number) {
+  if (number === process.pid) return false;
+  try {
+    return process.kill(number, 0);
+  } catch (error) {
+    return error.code === "EPERM";
+  }
+}
+
+/** Takes away what others left beside a file who were ended while they wrote it. */
+function takeAwayLeftovers(place) {
+  const folder = path.dirname(place), begun = `${path.basename(place)}.`;
+  for (const name of tried(() => fs.readdirSync(folder), [])) {
+    const [, number] = name.startsWith(begun) ? /^(\d+)\.new$/.exec(name.slice(begun.length)) ?? [] : [];
+    if (number !== undefined && !isAlive(Number(number))) tried(() => fs.rmSync(path.join(folder, name)));
+  }
+}
+
+/** Makes a file that is on the disk when this returns; owner and mode are those of `old`, where there is one. */
+function makeFile(made, text, mode, old) {
+  const to = fs.openSync(made, "wx", mode);
+  try {
+    if (old !== undefined) {
+      tried(() => fs.fchownSync(to, old.uid, old.gid));
+      fs.fchmodSync(to, old.mode & 0o7777);
+    }
+    fs.writeFileSync(to, text);
+    fs.fsyncSync(to);
+  } finally {
+    fs.closeSync(to);
+  }
+}
+
+/** Has the system write down which files a folder has, where it can. */
+function syncFolder(folder) {
+  const to = tried(() => fs.openSync(folder, "r"));
+  if (to === undefined) return;
+  tried(() => fs.fsyncSync(to));
+  fs.closeSync(to);
+}
+
+/** The error of a place that is there and is no file. */
+function notAFile(found) {
+  return Object.assign(new Error("it is no file"), { code: found.isDirectory() ? "EISDIR" : "ENOTFILE" });
+}
+
+/**
+ * Writes a text into a file, whole or not at all: into another file beside it, which then takes its place. So the old
+ * file stands until the new one is on the disk. A symbolic link is followed. `mode` is for a file that is not there
+ * yet. Throws what the system says.
+ */
+function writeWhole(file, text, mode = 0o666) {
+  const place = tried(() => fs.realpathSync(file), file), old = fs.statSync(place, { throwIfNoEntry: false });
+  if (old !== undefined && !old.isFile()) throw notAFile(old);
+  if (old !== undefined) fs.accessSync(place, fs.constants.W_OK);
+  takeAwayLeftovers(place);
+  const made = `${place}.${process.pid}.new`;
+  try {
+    makeFile(made, text, mode, old);
+    fs.renameSync(made, place);
+  } catch (error) {
+    tried(() => fs.rmSync(made, { force: true }));
+    throw error;
+  }
+  syncFolder(path.dirname(place));
+}
+
+export { beginningOf, isFile, isNoFile, lineOf, tried, writeWhole };

@@ -1,0 +1,104 @@
+// What the texts tell a reader to write instead: it is in the reader's own names, and done as told does what was meant.
+import assert from "node:assert";
+import test from "node:test";
+import Causes from "../text/causes.mjs";
+import Nearest from "../text/nearest.mjs";
+import { engineOfPage } from "../session/engine_of_page.mjs";
+import MISTAKES from "./mistakes.mjs";
+
+const { nearest } = Nearest;
+
+const NOT_IN = "mem(_,[],R) :- true | R = no.";
+const MEMBER = [NOT_IN, "mem(X,[X|_],R) :- true | R = yes.", "mem(X,[_|L],R) :- true | mem(X,L,R)."];
+const NUMBER_IN = [NOT_IN, "mem(X,[X1|_],R) :- X =:= X1 | R = yes.", "mem(X,[X1|L],R) :- X =\\= X1 | mem(X,L,R)."];
+const A_OR_B_IN = [
+  NOT_IN, "mem(a,[a|_],R) :- true | R = yes.", "mem(b,[b|_],R) :- true | R = yes.",
+  "mem(a,[b|L],R) :- true | mem(a,L,R).", "mem(b,[a|L],R) :- true | mem(b,L,R).",
+];
+const MAX = "max(X,Y,Z) :- X < Y | Z = Y.", APPEND = "append([],L,L1) :- L1 = L.";
+const NO_EQUALITY = "other terms have no test of equality: write a clause for each value, as";
+
+// Programs that ghcdb refuses with F4, the cures, and programs done as these tell, each with a query and its value.
+const REPEATED = [
+  {
+    program: MEMBER,
+    hints: [
+      "to compare numbers name the second one X1, and write X =:= X1 in the guard",
+      `${NO_EQUALITY} mem(a,[a|_],R) :- ..`,
+    ],
+    done: [
+      { program: NUMBER_IN, query: "mem(2,[1,2],R)", value: "R = yes" },
+      { program: A_OR_B_IN, query: "mem(b,[a,b],R)", value: "R = yes" },
+    ],
+  },
+  {
+    program: ["max(X,Y,X) :- X >= Y | true.", MAX],
+    hints: ["a head binds nothing: name the second one X1, and write X1 = X in the body"],
+    done: [{ program: ["max(X,Y,X1) :- X >= Y | X1 = X.", MAX], query: "max(3,2,R)", value: "R = 3" }],
+  },
+  {
+    program: [APPEND, "append([H|T],L,[H|R]) :- append(T,L,R)."],
+    hints: ["a head builds nothing: write A for argument 3, and A = [H|R] in the body"],
+    done: [{
+      program: [APPEND, "append([H|T],L,A) :- A = [H|R], append(T,L,R)."], query: "append([1],[],R)", value: "R = [1]",
+    }],
+  },
+  {
+    program: ["first([X|_],X)."],
+    hints: [
+      "is it a result? name the second one X1, and write X1 = X in the body",
+      "is it a test of numbers? name the second one X1, and write X =:= X1 in the guard",
+      `${NO_EQUALITY} first([a|_],a) :- ..`,
+    ],
+    done: [
+      { program: ["first([X|_],X1) :- X1 = X."], query: "first([7,8],R)", value: "R = 7" },
+      { program: ["first([X|_],X1) :- X =:= X1 | true."], query: "first([7,8],7), R = done", value: "R = done" },
+      { program: ["first([a|_],a) :- true | true."], query: "first([a,b],a), R = done", value: "R = done" },
+    ],
+  },
+];
+
+test("a variable twice in a head: each cure, done as told, gives what was meant and no clash", async () => {
+  const { engine } = await engineOfPage(), textOf = (program) => `${program.join("\n")}\n`;
+  for (const { program, hints, done } of REPEATED) {
+    const text = textOf(program), refused = engine.open({ program: text, query: "true" }).start;
+    assert.match(refused, /^program: F4 /);
+    const cause = Causes.causeOf(refused.trim().replace("program: ", ""), { text, which: "program" });
+    assert.deepStrictEqual(cause.hints, hints);
+    for (const { program: changed, query, value } of done) {
+      const session = engine.open({ program: textOf(changed), query });
+      assert.strictEqual(session.start, "", changed.join(" "));
+      assert.strictEqual(session.line("leap").at(-1), "stopped quiet", changed.join(" "));
+      assert.deepStrictEqual([session.line("show R"), session.line("goals")], [[value], ["none"]]);
+    }
+  }
+});
+
+// What stands for any predicate or structure in a text, and what is the language's own.
+const ANYBODYS = new Set(["p", "q", "f", "pair", "wait", "integer", "atom", "list", "instream", "mod"]);
+
+/** The hints that a program and a query get, as one text. */
+function hintsOn(program, query, said) {
+  const [, which, refusal] = /^(program|query): (.*)$/.exec(said) ?? [], isQuery = which === "query";
+  const given = { text: isQuery ? query : program, which, isQuery, program };
+  const causes = which === undefined ? Causes.notesOn(program, "program") : [Causes.causeOf(refusal, given)];
+  return causes.flatMap(({ hints }) => hints).join("\n");
+}
+
+test("a cure names no predicate but the reader's own, and those that stand for any", () => {
+  for (const [what, program, query, said] of MISTAKES) {
+    const named = [...hintsOn(program, query, said).matchAll(/\b([a-z]\w*)\(/g)].map(([, name]) => name);
+    const isOwn = (name) => new RegExp(`\\b${name.replace(/1$/, "1?")}\\b`, "i").test(program + query);
+    assert.deepStrictEqual(named.filter((name) => !ANYBODYS.has(name) && !isOwn(name)), [], what);
+  }
+});
+
+test("what is mistyped is near, what is another word is not", () => {
+  const commands = ["step", "leap", "redo", "goals", "records", "threads", "trace", "run", "explain", "cont", "halt"];
+  const typed = { setp: "step", stp: "step", explian: "explain", recrods: "records", goal: "goals", Redo: "redo" };
+  for (const [word, other] of Object.entries(typed)) assert.strictEqual(nearest(word, commands), other, word);
+  for (const word of ["reads", "notrace", "rn", "rum", "so", "cat", "spent", ""]) {
+    assert.strictEqual(nearest(word, commands), undefined, word);
+  }
+  assert.strictEqual(nearest("pr", ["pl", "p"]), undefined);
+});

@@ -1,0 +1,165 @@
+// Why a text that reads well is refused: a guard that is no test (F3), a variable twice in a head (F4), a predicate without clauses
+// (F5), a limit (F6). Pure.
+import Tokens from "./tokens.mjs";
+import Reader from "./reader.mjs";
+import Habits from "./habits.mjs";
+import Nearest from "./nearest.mjs";
+import Cures from "./cures.mjs";
+
+const CheckerCauses = (() => {
+  const TESTS = ["true", "wait", "integer", "atom", "list"];
+  const ALL_TESTS = "the tests are true, wait(X), integer(X), atom(X), list(X), and < =< > >= =:= =\\= between expressions";
+
+  const causeAt = (token, title, ...hints) => ({ token, title, hints });
+
+  /** Where a clause's guard begins and ends. */
+  function guardOf(clause) {
+    const start = clause.findIndex(({ text }) => text === ":-") + 1, bar = Tokens.barOutside(clause, start);
+    return { start, end: bar < 0 ? clause.length : bar };
+  }
+
+  const NO_BINDING = ["a guard binds nothing: = and := stand in the body", "to test for a value write it in the head, as p(1,Y) :- .., or compare numbers by =:="];
+  const NOT_THERE_YET = "a guard tests what the goal brings; what the body makes is not there yet";
+
+  /** How a predicate that stands in a clause's guard as a test is asked instead. */
+  function askInstead(clause, place) {
+    const answer = Cures.newName("A", clause), head = Cures.textOf(clause.slice(0, Tokens.endOfCall(clause, 0) + 1));
+    const call = Cures.textOf(clause.slice(place, Tokens.endOfCall(clause, place) + 1));
+    const start = "let a process answer, and wait for its answer";
+    if (head === undefined || call === undefined) return start;
+    const asked = call.endsWith(")") ? `${call.slice(0, -1)},${answer})` : `${call}(${answer})`;
+    return `${start}: ${head} :- true | ${asked}, ${clause[0].text}1(${answer}).`;
+  }
+
+  /** What is wrong with the test that begins at a place of a clause, outside of all brackets; undefined where nothing is. */
+  function badTest(clause, place) {
+    const token = clause[place], { text } = token, arity = Tokens.arityAt(clause, place);
+    if (text === "=" || text === ":=") return causeAt(token, ...NO_BINDING);
+    if (token.kind !== "name" || text === "mod") return undefined;
+    if (Object.hasOwn(Habits.TESTS, text)) return causeAt(token, ...Habits.TESTS[text]);
+    const near = TESTS.includes(text) ? text : Nearest.nearest(text, TESTS);
+    if (near === undefined) return causeAt(token, `${text}/${arity} is no test`, ALL_TESTS, askInstead(clause, place));
+    if (near !== text) return causeAt(token, `${text}/${arity} is no test`, `is it ${near}?`, ALL_TESTS);
+    if (text === "true") return arity === 0 ? undefined : causeAt(token, "true takes no argument", "as true");
+    const isRight = arity === 1 && clause[place + 2].kind === "variable";
+    return isRight ? undefined : causeAt(token, `${text} takes one variable of the head`, `as ${text}(X)`);
+  }
+
+  function badVariable(token, head) {
+    if (token.kind !== "variable" || head.has(token.text)) return undefined;
+    return causeAt(token, token.text === "_" ? "a lone _ stands for a new variable" : `${token.text} does not stand in the head`, NOT_THERE_YET);
+  }
+
+  /** F3: the first test of a clause that is none, or the first variable of its guard that the head does not have. */
+  function notFlat(tokens, number) {
+    const clause = Tokens.clausesOf(tokens)[number - 1], { start, end } = guardOf(clause);
+    const head = new Set(clause.slice(0, start).filter(({ kind, text }) => kind === "variable" && text !== "_").map(({ text }) => text));
+    let found, depth = 0;
+    for (let place = start; place < end && found === undefined; place += 1) {
+      found = (depth === 0 ? badTest(clause, place) : undefined) ?? badVariable(clause[place], head);
+      depth += Tokens.depthOf([clause[place]]);
+    }
+    found ??= causeAt(clause[start] ?? clause[0], "this guard is no test", ALL_TESTS);
+    return { ...found, title: `not flat, clause ${number}: ${found.title}` };
+  }
+
+  /** For each predicate and place of an argument the clause whose body binds that argument, a variable of its head. */
+  function bindersOf(clauses) {
+    const binders = new Map();
+    for (const { head, body, predicate, number } of clauses) {
+      const places = new Map(head.arguments.map(({ variable }, place) => [variable, place]));
+      for (const { left } of body) {
+        if (left?.variable === undefined || !places.has(left.variable)) continue;
+        binders.set(`${predicate} ${places.get(left.variable)}`, number);
+      }
+    }
+    return binders;
+  }
+
+  /** The places of a predicate's arguments that a body may bind, since the head's variable stands on the right of an `=`. */
+  function boundFromRight(clauses, predicate) {
+    const places = new Set();
+    for (const { head, body } of clauses.filter((clause) => clause.predicate === predicate)) {
+      const rights = body.filter(({ sort }) => sort === "unification").map(({ right }) => right.variable);
+      head.arguments.forEach(({ variable }, place) => variable !== undefined && rights.includes(variable) && places.add(place));
+    }
+    return places;
+  }
+
+  /**
+   * What a variable is that stands twice in a head, in the arguments at these places: a result where a body binds one that
+   * it is, a part of one where it stands within, a test where bodies bind others alone; undefined where nothing tells.
+   */
+  function roleOf(clauses, { head, predicate }, name, places) {
+    const binders = bindersOf(clauses), right = boundFromRight(clauses, predicate);
+    const bound = places.filter((place) => binders.has(`${predicate} ${place}`));
+    if (bound.some((place) => head.arguments[place].variable === name)) return { role: "result" };
+    if (bound.length > 0) return { role: "part", place: bound.at(-1) };
+    const hasResult = [...binders.keys()].some((key) => key.startsWith(`${predicate} `));
+    return { role: hasResult && !places.some((place) => right.has(place)) ? "test" : undefined };
+  }
+
+  const NO_EQUALITY = "other terms have no test of equality: write a clause for each value";
+
+  /** The cures of a variable that stands twice in a clause's head, by what it is. */
+  function curesOf(clause, name, { role, place }) {
+    const other = Cures.newName(name, clause), head = clause.slice(0, Tokens.endOfCall(clause, 0) + 1);
+    const value = Cures.textOf(head.map((token) => (token.text === name ? { text: "a" } : token)));
+    const bind = `name the second one ${other}, and write ${other} = ${name} in the body`;
+    const compare = `name the second one ${other}, and write ${name} =:= ${other} in the guard`;
+    const values = `${NO_EQUALITY}${value === undefined ? "" : `, as ${value} :- ..`}`;
+    if (role === "result") return [`a head binds nothing: ${bind}`];
+    if (role === "test") return [`to compare numbers ${compare}`, values];
+    if (role === undefined) return [`is it a result? ${bind}`, `is it a test of numbers? ${compare}`, values];
+    const built = Cures.newName("A", clause), text = Cures.textOf(Cures.argumentsOf(clause)[place]) ?? "..";
+    return [`a head builds nothing: write ${built} for argument ${place + 1}, and ${built} = ${text} in the body`];
+  }
+
+  /** F4: the second place of the variable in the head. */
+  function notLinear(tokens, name, number, program) {
+    const clause = Tokens.clausesOf(tokens)[number - 1], token = clause.filter(({ text }) => text === name)[1];
+    const clauses = Reader.readProgram(program);
+    const has = (argument) => argument.some(({ text }) => text === name);
+    const places = Cures.argumentsOf(clause).flatMap((argument, place) => (has(argument) ? [place] : []));
+    const cures = curesOf(clause, name, roleOf(clauses, clauses[number - 1], name, places));
+    return causeAt(token, `not linear, clause ${number}: ${name} stands twice in the head`, ...cures);
+  }
+
+  /** The predicates that a program's clauses define, by name and arity. */
+  function definedIn(tokens) {
+    return [...new Set(Tokens.clausesOf(tokens).map((clause) => `${clause[0].text}/${Tokens.arityAt(clause, 0)}`))];
+  }
+
+  /** The first call of a predicate in a text; its first token where there is none. */
+  function callIn(tokens, name, arity, isQuery) {
+    const isGoal = (place) => (isQuery && place === 0) || [",", "|", ":-"].includes(tokens[place - 1]?.text);
+    const isOutside = (place) => {
+      const stop = tokens.slice(0, place).findLastIndex(({ text }) => text === ".");
+      return Tokens.depthOf(tokens.slice(stop + 1, place)) === 0;
+    };
+    const found = tokens.findIndex((token, place) => token.text === name && Tokens.arityAt(tokens, place) === arity && isGoal(place) && isOutside(place));
+    return tokens[Math.max(0, found)];
+  }
+
+  /** F5: the call, and which predicate may have been meant. */
+  function undefinedCall(program, tokens, name, arity, isQuery) {
+    const defined = definedIn(program), near = Nearest.predicatesNamed(name, defined), isSame = near[0]?.startsWith(`${name}/`);
+    const hints = [];
+    if (near.length > 0) hints.push(`there is ${near.join(", ")}: is ${isSame ? "an argument missing, or one too many" : "it that"}?`);
+    if (Object.hasOwn(Habits.PREDICATES, name)) hints.push(Habits.PREDICATES[name]);
+    if (hints.length === 0) hints.push(defined.length === 0 ? "the program has no clause" : `defined are: ${defined.slice(0, 12).join(", ")}${defined.length > 12 ? ", .." : ""}`);
+    return causeAt(
+      callIn(tokens, name, arity, isQuery), `undefined: no clause has the head ${name} with ${arity} argument${arity === 1 ? "" : "s"}`, ...hints);
+  }
+
+  const LIMITS = {
+    text: "the text is longer than 1,048,576 bytes", depth: "more than 64 brackets are open at one place", clauses: "there are more than 10,000 clauses",
+    arity: "a call or structure has more than 255 arguments", goals: "a clause or query has more than 1,000 tests or goals", variables: "a clause or query has more than 1,000 variables",
+    term: "the input term has more than 10,000 parts", print: "the text of a term would be longer than 1,048,576 bytes", line: "the line is longer than 1,048,576 bytes",
+    version: "history 1 cannot hold a step that asked for goals: use save alone",
+  };
+
+  return { notFlat, notLinear, undefinedCall, bindersOf, LIMITS };
+})();
+
+export default CheckerCauses;

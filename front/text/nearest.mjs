@@ -1,0 +1,42 @@
+// The word of a list that is nearest to another: for what was mistyped. Pure.
+const Nearest = (() => {
+  /** How many letters must be put in, left out, changed, or exchanged with their neighbour, to make one word the other. */
+  function distance(one, other) {
+    let before = [], last = Array.from({ length: other.length + 1 }, (none, place) => place);
+    for (let row = 1; row <= one.length; row += 1) {
+      const line = [row];
+      for (let column = 1; column <= other.length; column += 1) {
+        const isSame = one[row - 1] === other[column - 1];
+        line[column] = Math.min(last[column] + 1, line[column - 1] + 1, last[column - 1] + (isSame ? 0 : 1));
+        const isExchanged = row > 1 && column > 1 && one[row - 1] === other[column - 2] && one[row - 2] === other[column - 1];
+        if (isExchanged) line[column] = Math.min(line[column], before[column - 2] + 1);
+      }
+      [before, last] = [last, line];
+    }
+    return last[other.length];
+  }
+
+  const LEAST = 3; // letters: a shorter word is near to nothing
+
+  /** The nearest word, where at most a quarter of the letters of the longer one differ; else undefined. */
+  function nearest(word, words) {
+    let best, least = Infinity;
+    for (const other of words) {
+      if (Math.min(word.length, other.length) < LEAST) continue;
+      const far = distance(word.toLowerCase(), other.toLowerCase());
+      if (far < least && far <= Math.max(word.length, other.length) / 4) [best, least] = [other, far];
+    }
+    return best;
+  }
+
+  /** The predicates, as `append/3`, of a name, with any number of arguments; where none has it, those of the nearest. */
+  function predicatesNamed(name, predicates) {
+    const nameOf = (predicate) => predicate.split("/")[0], names = predicates.map(nameOf);
+    const meant = names.includes(name) ? name : nearest(name, names);
+    return predicates.filter((predicate) => nameOf(predicate) === meant);
+  }
+
+  return { nearest, predicatesNamed, distance };
+})();
+
+export default Nearest;

@@ -1,0 +1,170 @@
+// A session whose lines come from standard input, for scripts: replies are handed on as they come, and a status tells
+// how it went.
+import Graph from "../front/run/graph.mjs";
+import { Ended } from "../front/session/program.mjs";
+import { ScriptSession } from "../front/session/script_session.mjs";
+import { isRefusal } from "../front/session/session.mjs";
+import { isWhole } from "../front/session/way_back.mjs";
+import { readWords, isSession } from "../front/protocol/words.mjs";
+
+const STATUS = { done: 0, commandLine: 2, device: 3, refusedLine: 4, failed: 5, waits: 6, unfinished: 7, untold: 9 };
+
+const LINE_FEED = 10, RETURN = 13;
+const MOST_BYTES = 1_048_576; // of a line
+
+// A line of the input, whose pieces come one by one. Of one that is too long a byte more than allowed is kept: it is
+// refused alike.
+class Line {
+  constructor() {
+    this.pieces = [];
+    this.length = 0;
+  }
+
+  add(piece) {
+    if (!this.isTooLong) this.pieces.push(piece);
+    this.length += piece.length;
+  }
+
+  /** Is it too long, even where its last byte is a CR that is none of the line? */
+  get isTooLong() {
+    return this.length > MOST_BYTES + 1;
+  }
+
+  /** Its bytes as ghcdb takes them: a CR before the line feed is none of it, one before the end of the input is. */
+  bytes(hasLineFeed) {
+    const bytes = Buffer.concat(this.pieces).subarray(0, MOST_BYTES + 1);
+    return hasLineFeed && !this.isTooLong && bytes.at(-1) === RETURN ? bytes.subarray(0, -1) : bytes;
+  }
+}
+
+/** The pieces of the input. Throws `Ended`, as ghcdb ends, where it cannot be read. */
+async function* piecesOf(input) {
+  try {
+    yield* input;
+  } catch {
+    throw new Ended("session: F26 device\n", STATUS.device);
+  }
+}
+
+/** The lines of the input, each as its bytes. */
+async function* linesOf(input) {
+  let line = new Line();
+  for await (const piece of piecesOf(input)) {
+    let from = 0;
+    for (let end = piece.indexOf(LINE_FEED); end >= 0; end = piece.indexOf(LINE_FEED, from)) {
+      line.add(piece.subarray(from, end));
+      yield line.bytes(true);
+      line = new Line();
+      from = end + 1;
+    }
+    if (from < piece.length) line.add(piece.subarray(from));
+  }
+  if (line.length > 0) yield line.bytes(false);
+}
+
+/** A line as it is sent: of a CR at its end one more is taken off. */
+const sent = (line) => (line.at(-1) === RETURN ? Buffer.concat([line, Buffer.from([RETURN])]) : line);
+
+/** The words of a line; of one that is too long, which has a reply whatever it holds, itself. */
+const wordsOf = (line) => (line.length > MOST_BYTES ? [line] : line.toString("latin1").split(" ").filter(Boolean));
+
+// How the lines went so far.
+class Course {
+  constructor() {
+    this.wasRefused = false; // a line
+    this.hasHole = false; // a reply, which has a refusal in place of a line
+  }
+
+  /** Learns lines of a reply: the first ones, or others. */
+  learn(lines, isFirst) {
+    if (isFirst && isRefusal(lines)) this.wasRefused = true;
+    else if (!isWhole(lines)) this.hasHole = true;
+  }
+}
+
+/** Gives a line to a session; `teller` hears of its reply as it comes. */
+async function playLine(session, line, teller, course) {
+  let isFirst = true;
+  const learn = (lines) => {
+    course.learn(lines, isFirst);
+    isFirst = false;
+  };
+  teller.begin(line, session);
+  const last = await session.ask(sent(line), (lines) => {
+    learn(lines);
+    return teller.hear(lines);
+  });
+  learn(last);
+  await teller.end(last);
+}
+
+/** Gives the lines of the input to a session. How they went. */
+async function playLines(session, input, teller) {
+  const course = new Course();
+  for await (const line of linesOf(input)) {
+    const given = wordsOf(line);
+    if (given.length === 1 && given[0] === "quit") break;
+    if (given.length > 0) await playLine(session, line, teller, course);
+  }
+  return course;
+}
+
+/** The status of what is left at the end. Goals that are too long to be told are left, whatever they are. */
+async function statusOfGoals(session) {
+  const course = new Course(), statuses = new Set();
+  const learn = (lines) => {
+    course.learn(lines, false);
+    Graph.readGoals(lines).forEach(({ status }) => statuses.add(status));
+  };
+  const last = await session.ask("goals", async (lines) => learn(lines));
+  learn(last);
+  if (course.hasHole) return STATUS.untold;
+  if (statuses.has("failed")) return STATUS.failed;
+  if (statuses.has("ready") || statuses.has("stream") || isRefusal(last)) return STATUS.unfinished;
+  return statuses.size === 0 ? STATUS.done : STATUS.waits;
+}
+
+/** Plays a session to its end: its exit status. */
+async function statusOf(session, input, teller) {
+  await session.begin();
+  const { wasRefused, hasHole } = await playLines(session, input, teller);
+  if (wasRefused || hasHole) return wasRefused ? STATUS.refusedLine : STATUS.untold;
+  return statusOfGoals(session);
+}
+
+/**
+ * Gives the lines of the input to a session. `teller` hears of each line: its `begin(line, session)`, then
+ * `hear(lines)` of the reply as it comes, and `end(lines)` with its last lines; `ended(error)` where the program has
+ * ended by itself. The exit status.
+ */
+async function play(words, input, teller, errors) {
+  if (!isSession(readWords(words))) {
+    errors("PROGRAM --query QUERY and the options of a session are wanted\n");
+    return STATUS.commandLine;
+  }
+  const session = new ScriptSession(words);
+  try {
+    const status = await statusOf(session, input, teller);
+    await session.end();
+    return status;
+  } catch (error) {
+    if (!(error instanceof Ended)) throw error;
+    errors(error.errors);
+    await teller.ended(error);
+    return error.status;
+  } finally {
+    await session.program?.kill(); // whatever it is at
+  }
+}
+
+/** Writes a text to standard output; it is done when the text was taken. */
+const write = (text, encoding) => new Promise((resolve) => { process.stdout.write(text, encoding, resolve); });
+
+/** Plays the lines of standard input for the words of the command line, and ends with the status. */
+async function playStandardInput(teller) {
+  process.stdout.on("error", () => process.exit(STATUS.device));
+  process.exitCode = await play(process.argv.slice(2), process.stdin, teller, (text) => process.stderr.write(text));
+  process.stdin.destroy();
+}
+
+export { play, playStandardInput, write, STATUS };

@@ -1,0 +1,30 @@
+// What the terminal says of words that are no commands: words of replies are explained, others are not guessed wildly.
+import assert from "node:assert";
+import test from "node:test";
+import { helpLines, suggestionFor } from "../../front/protocol/commands.mjs";
+
+test("help explains the words of the console's replies", () => {
+  const told = {
+    REDU: "N G ACT: step N took goal G; ACT is by C for clause C, eq for =, is for :=, in T or end for an input",
+    CALL: "G TEXT: the step made goal G", RESU: "G: the step bound what goal G waited for",
+    SUSP: "G V,..: goal G waits until one of these variables is bound",
+    FAIL: "G F10: goal G has failed, as help F10 tells",
+    reads: "V,..: the bound variables at which the step looked", binds: "V=TERM;..: what the step bound",
+    makes: "G,..: the goals that the step made",
+  };
+  for (const [word, meaning] of Object.entries(told)) assert.deepStrictEqual(helpLines([word]), [`${word} ${meaning}`]);
+  assert.strictEqual(suggestionFor("REDU 1 0.1 by 1"), "REDU: no such command; it stands in replies: help REDU");
+  assert.deepStrictEqual(helpLines(["call"]), helpLines(["ask"]));
+  assert.deepStrictEqual(helpLines(["f10"]), ["F10: every clause says no to the goal: it has failed"]);
+});
+
+test("a word is taken for another one only where few of its letters differ", () => {
+  const meant = { undoo: "undo", stp: "step", explian: "explain", recrods: "records", brekpoint: "spy", redu: "redo" };
+  for (const [word, name] of Object.entries(meant)) {
+    assert.deepStrictEqual(helpLines([word]), [`${word}: no such command; ${name}?  (help lists them)`]);
+  }
+  for (const word of ["notrace", "rn", "rum", "spent", "constructor", "toString"]) {
+    assert.deepStrictEqual(helpLines([word]), [`${word}: no such command  (help lists them)`]);
+    assert.strictEqual(suggestionFor(word), `${word}: no such command  (help lists them)`);
+  }
+});

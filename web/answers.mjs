@@ -1,0 +1,113 @@
+// Shows what was answered where one looks, above the picture: refusals and why, causes, who bound a variable; and lights the steps that it names.
+import Terms from "../front/run/terms.mjs";
+import Replies from "../front/protocol/replies.mjs";
+import Causes from "../front/text/causes.mjs";
+import Talk from "./talk.mjs";
+import Canvas from "./canvas.mjs";
+
+const Answers = (() => {
+  const { find, make, linkedLine } = Elements;
+  const MOST_SHOWN = 8; // lines
+  let shown = 0;
+
+  const wordsOf = (line) => line.trim().replace(/ +/g, " ");
+  const isRefused = (entry) => entry.length === 1 && Replies.isRefusal(entry.reply[0]);
+  const isBroken = (entry) => entry.length > 1 && Files.isBroken(entry);
+
+  function put(isBad, ...parts) {
+    const area = find("answer"), close = make("button", { class: "small", id: "close-answer", title: "Closes this line", "aria-label": "Close the answer" }, "×");
+    area.replaceChildren(make("span", { class: "answer-words" }, ...parts), close);
+    area.classList.toggle("refused", isBad);
+    area.hidden = false;
+  }
+
+  /** A cause of the module Causes, as elements: title, the text's line with a caret, hints. */
+  function causeParts(cause, text) {
+    const [title, ...lines] = Causes.linesOf(cause, text), place = lines.splice(0, 4).join("\n");
+    return [make("b", null, title), make("pre", { class: "cause" }, place), ...lines.map((hint) => make("div", { class: "hint" }, hint.trim()))];
+  }
+
+  /** The limit that a refusal names, in words; undefined where it names none. */
+  const limitIn = (refusal) => Causes.LIMITS[(/^F6 limit: (\w+)$/.exec(refusal) || [])[1]];
+
+  /** Why a program, a query or a line's goals were refused: the cause where one is known. Nothing where there is none to be told. */
+  function partsOfRefusal(refusal, given, known = null) {
+    const limit = limitIn(refusal);
+    if (limit !== undefined) return [limit];
+    const cause = known || Causes.causeOf(refusal, given);
+    return cause === undefined ? [] : causeParts(cause, given.text);
+  }
+
+  /** The place that a refusal names; undefined where it names none. */
+  function placeIn(refusal) {
+    const [, line, column] = /^F2 syntax at (\d+):(\d+)$/.exec(refusal) || [];
+    return line === undefined ? undefined : { line: Number(line), column: Number(column), length: 1 };
+  }
+
+  /** Why a program was refused that is so long that no cause is looked for. */
+  const partsOfLong = (refusal) => [limitIn(refusal) || "The program is so long that the page does not look for the cause."];
+
+  const ASKED = /^ *(?:ask +|in +\S+ +)(.*)$/;
+
+  /** Of a line that asks for goals or feeds a stream: why its text was refused. */
+  function partsOfAsked({ line, reply }) {
+    const [, text] = ASKED.exec(line) || [];
+    return text === undefined ? [] : partsOfRefusal(reply[0], { text, which: wordsOf(line).split(" ")[0], isQuery: true, program: Talk.given.program });
+  }
+
+  const hide = () => { find("answer").hidden = true; };
+
+  /** The numbers of the steps that a reply to `who X` names, the last one first. */
+  const stepsBy = (reply) => reply.map((line) => /^\S+ by (\d+)$/.exec(line)).filter(Boolean).map(([, number]) => Number(number)).reverse();
+
+  /** Lights the step that a line asked about, or the steps that bound a variable. */
+  function light(entry) {
+    const [word, name] = wordsOf(entry.line).split(" ");
+    const steps = word === "why" ? [Number(name)] : stepsBy(entry.reply);
+    if (steps.length === 0 || !Talk.run.graph.byNumber.has(steps[0])) return;
+    Canvas.choose({ step: steps[0] });
+    Canvas.scrollTo(Canvas.chosen);
+    Canvas.markWay(steps.slice(1));
+  }
+
+  function tellReply(entry) {
+    const lines = entry.tail(MOST_SHOWN), more = entry.length - lines.length;
+    put(false, make("code", null, wordsOf(entry.line)), " ", ...lines.flatMap((line, index) => [index === 0 ? "" : ", ", ...linkedLine(line)]), more > 0 ? ` and ${more} more` : "");
+  }
+
+  /** Of another line: the limit that it met. */
+  function partsOfLimit({ reply }) {
+    const words = limitIn(reply[0]);
+    return words === undefined ? [] : [`${words}. ${reply[0].endsWith("print") ? "The store shows how each value begins." : ""}`];
+  }
+
+  /** A line that was not taken, or was stopped. */
+  function tellNote({ line, note }) {
+    put(true, make("code", null, Terms.cut(line, 60)), ` ${note}.`, note.startsWith("stopped") && /^(leap|skip)\b/.test(line) ? " With a number, as in leap 10000, a run ends by itself." : "");
+  }
+
+  /** A history that is not whole. */
+  const tellBroken = ({ line }) => put(true, make("code", null, wordsOf(line)),
+    ` told no whole history: ${Files.HOLE}. ${Files.AGAIN}.`);
+
+  /** After lines: what was not taken, else the last refusal among them, else the answer to a question. */
+  function show(what) {
+    const fresh = what === "lines" ? Talk.entries.slice(shown) : [], refused = fresh.filter(isRefused).pop(), last = fresh[fresh.length - 1];
+    shown = Talk.entries.length;
+    if (Talk.refusal && last && last.note) return; // why the text was refused stands there
+    hide();
+    const asked = refused ? partsOfAsked(refused) : [];
+    if (last && last.note) tellNote(last);
+    else if (refused) put(true, make("code", null, wordsOf(refused.line)), " was refused: ", ...linkedLine(refused.reply[0]), make("div", null, ...(asked.length > 0 ? asked : partsOfLimit(refused))));
+    else if (last && isBroken(last)) tellBroken(last);
+    else if (last && last.slice) Resting.tell(wordsOf(last.line).split(" ")[1], last.slice);
+    else if (last && /^(why|who) /.test(wordsOf(last.line)) && last.reply[0] !== "none") {
+      tellReply(last);
+      light(last);
+    }
+  }
+
+  return { show, hide, put, causeParts, partsOfRefusal, partsOfLong, placeIn };
+})();
+
+export default Answers;

@@ -1,0 +1,102 @@
+// What web/console does; how it is called stands there.
+import fs from "node:fs";
+import path from "node:path";
+import { fileURLToPath } from "node:url";
+import Heap from "../front/session/heap.mjs";
+import Host from "../front/session/host.mjs";
+
+const HERE = path.dirname(fileURLToPath(import.meta.url));
+
+const PAGE = path.join(HERE, "ghcdb.html");
+const BROKEN = 70;
+const BAD_DESCRIPTOR = 9, CANNOT_SEEK = 29, INPUT_OUTPUT = 5; // errors by their numbers on Linux
+const MOST_AT_ONCE = 0x7ffff000; // bytes that the system reads or writes by one call
+
+// The module that `web/build` put into the page.
+function moduleOfPage() {
+  const page = fs.readFileSync(PAGE, "latin1");
+  const before = 'const MODULE = "', start = page.indexOf(before);
+  if (start < 0) throw new Error(`${PAGE} carries no program`);
+  const from = start + before.length;
+  return new WebAssembly.Module(Buffer.from(page.slice(from, page.indexOf('"', from)), "base64"));
+}
+
+// The words of the command line as bytes: Node gives texts, in which bytes that are no UTF-8 are lost.
+function wordsGiven() {
+  const given = process.argv.slice(2);
+  try {
+    const words = fs.readFileSync("/proc/self/cmdline", "latin1").split("\0").slice(0, -1);
+    return words.slice(words.length - given.length).map((word) => Buffer.from(word, "latin1"));
+  } catch {
+    return given.map((word) => Buffer.from(word));
+  }
+}
+
+// A host whose files and streams are the system's.
+class SystemHost extends Host {
+  constructor(words, closed) {
+    super({ words, files: new Map() });
+    this.closed = closed;
+  }
+
+  // The answer to a call on a descriptor; -1 where it fails, and the system's number of why is kept.
+  asked(descriptor, call) {
+    if (this.closed.includes(String(descriptor))) return this.fail(BAD_DESCRIPTOR);
+    try {
+      return call();
+    } catch (error) {
+      return this.fail(-error.errno || INPUT_OUTPUT);
+    }
+  }
+
+  openAt(place) {
+    const all = new Uint8Array(this.memory.buffer);
+    const name = Buffer.from(all.slice(place, all.indexOf(0, place)));
+    return this.asked(undefined, () => fs.openSync(name, "r"));
+  }
+
+  read(descriptor, to, most) {
+    const room = this.bytes(to, Math.min(most, MOST_AT_ONCE));
+    return this.asked(descriptor, () => fs.readSync(descriptor, room, 0, room.length, null));
+  }
+
+  write(descriptor, from, length) {
+    const text = this.bytes(from, Math.min(length, MOST_AT_ONCE));
+    return this.asked(descriptor, () => fs.writeSync(descriptor, text));
+  }
+
+  // Node sets the place of no open file; the program never asks for it.
+  seek() {
+    return this.fail(CANNOT_SEEK);
+  }
+
+  close(descriptor) {
+    return this.asked(descriptor, () => (fs.closeSync(descriptor), 0));
+  }
+
+  calls() {
+    return { ...super.calls(), open: (name) => this.openAt(Number(name)) };
+  }
+}
+
+// Runs the program on words, and gives its exit status.
+function run(words) {
+  const compiled = moduleOfPage();
+  const host = new SystemHost([Buffer.from("ghcdb"), ...words], process.env.GHCDB_CLOSED ?? "");
+  const asked = WebAssembly.Module.imports(compiled).map(({ name }) => name);
+  const { exports } = new WebAssembly.Instance(compiled, { host: host.imports(asked) });
+  host.join(exports.memory, new Heap(exports.memory, Number(exports.__heap_base.value)));
+  try {
+    return exports.main();
+  } catch (error) {
+    if (error instanceof Host.Ended) return error.status;
+    throw error;
+  }
+}
+
+try {
+  process.exitCode = run(wordsGiven());
+} catch (error) {
+  process.exitCode = BROKEN;
+  fs.writeSync(2, `ghcdb: the engine stopped: ${error.message}\n`);
+}

@@ -1,0 +1,54 @@
+// What web/picture does; how it is called stands there.
+import fs from "node:fs";
+import path from "node:path";
+import { fileURLToPath } from "node:url";
+import { parseArgs } from "node:util";
+import Asking from "../front/protocol/asking.mjs";
+import Graph from "../front/run/graph.mjs";
+import Picture from "./picture.mjs";
+import SessionText from "../front/protocol/session_text.mjs";
+import { engineOfPage } from "../front/session/engine_of_page.mjs";
+
+const HERE = path.dirname(fileURLToPath(import.meta.url));
+
+function stop(why) {
+  process.stderr.write(`web/picture: ${why}\n`);
+  process.exit(1);
+}
+
+const text = Object.fromEntries(["program", "query", "by", "theme", "room", "title"].map((name) => [name, { type: "string" }]));
+
+function words() {
+  try {
+    const { values, positionals } = parseArgs({ options: text, allowPositionals: true });
+    if (positionals.length !== 1) stop("name one session or history");
+    return { ...values, file: positionals[0] };
+  } catch (error) {
+    return stop(error.message);
+  }
+}
+
+/** What is to be played: program, query, history and lines. */
+function readPlay(given) {
+  const told = fs.readFileSync(given.file, "utf8");
+  const exampleOf = (name) => fs.readFileSync(path.join(HERE, "..", "examples", name), "utf8");
+  if (!told.startsWith("ghc-history ")) return SessionText.read(told, exampleOf) || stop(`${given.file} is neither a session nor a history`);
+  if (given.program === undefined || given.query === undefined) stop("a history needs --program FILE and --query TEXT");
+  return { program: fs.readFileSync(given.program, "utf8"), query: given.query, history: told, lines: [] };
+}
+
+async function main() {
+  const given = words(), play = readPlay(given), { engine } = await engineOfPage();
+  const session = engine.open({ program: play.program, query: play.query, history: play.history || undefined });
+  if (session.refused) stop(session.start.trim());
+  session.lines(play.lines);
+  const told = Asking.whereItStands(session, play.query), steps = Graph.readRecords(told.records), goals = Graph.readGoals(told.goals);
+  const texts = new Map(goals.map((goal) => [goal.name, goal.text]));
+  Asking.completeTexts(texts, steps, session);
+  const run = { graph: Graph.graphOf(steps), goals, shelf: Graph.readShelf(told.shelf), texts, clauses: Graph.readClauses(play.program) };
+  const room = given.room === undefined ? 1100 : Number(given.room);
+  const { svg } = Picture.draw(run, { by: given.by, theme: given.theme, room, title: given.title === undefined ? play.query : given.title, legend: true });
+  process.stdout.write(`${svg}\n`);
+}
+
+main().catch((error) => stop(error.message));

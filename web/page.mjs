@@ -1,0 +1,488 @@
+// Starts the page, and says what clicks and keys do. Whatever changes the run is a line that is typed at the console.
+import Heap from "../front/session/heap.mjs";
+import Host from "../front/session/host.mjs";
+import Engine from "../front/session/engine.mjs";
+import Graph from "../front/run/graph.mjs";
+import Terms from "../front/run/terms.mjs";
+import Replies from "../front/protocol/replies.mjs";
+import Stuck from "../front/run/stuck.mjs";
+import Tokens from "../front/text/tokens.mjs";
+import Habits from "../front/text/habits.mjs";
+import Cures from "../front/text/cures.mjs";
+import Nearest from "../front/text/nearest.mjs";
+import Reader from "../front/text/reader.mjs";
+import SyntaxCauses from "../front/text/syntax_causes.mjs";
+import CheckerCauses from "../front/text/checker_causes.mjs";
+import Causes from "../front/text/causes.mjs";
+import Print from "../front/text/print.mjs";
+import Run from "../front/run/run.mjs";
+import Explain from "../front/run/explain.mjs";
+import Lanes from "../front/run/lanes.mjs";
+import RunModel from "../front/run/run_model.mjs";
+import Search from "../front/run/search.mjs";
+import Compare from "../front/run/compare.mjs";
+import Picture from "./picture.mjs";
+import Short from "../front/protocol/short.mjs";
+import Asking from "../front/protocol/asking.mjs";
+import SessionText from "../front/protocol/session_text.mjs";
+import ExampleNotes from "./example_notes.mjs";
+import Tour from "./tour.mjs";
+import Elements from "./elements.mjs";
+import Told from "../front/protocol/told.mjs";
+import WorkerSide from "../front/session/worker_side.mjs";
+import Service from "./service.mjs";
+import Talk from "./talk.mjs";
+import Earlier from "./earlier.mjs";
+import Overview from "./overview.mjs";
+import Looking from "./looking.mjs";
+import Beside from "./beside.mjs";
+import Canvas from "./canvas.mjs";
+import Program from "./program.mjs";
+import Answers from "./answers.mjs";
+import Resting from "./resting.mjs";
+import Store from "./store.mjs";
+import Panels from "./panels.mjs";
+import Menus from "./menus.mjs";
+import Guide from "./guide.mjs";
+import Links from "./links.mjs";
+import Files from "./files.mjs";
+import Keeping from "./keeping.mjs";
+
+const Page = (() => {
+  const { find, make, withCode } = Elements;
+  const FIRST_EXAMPLE = "quicksort", FIRST_QUERY = "quicksort([3,1,2],R)";
+  const typedBefore = [];
+  let recall = 0;
+
+  const HELP = [
+    ["Picture", "A line is a process, and time goes right. `●` reduces a goal by a clause, `◆` binds a variable, `■` computes, a flag is an input. A grey line leads from a step to a goal that it made, a blue arrow to a step that read what it bound; an orange dashed one says that this woke a goal that waited. A green ring is a goal that is ready, a dashed one waits, and its dotted arc points at a goal that has its variable. A hexagon is an ask, which no goal was there for; a line of dashes and dots leads to it from a step that made a variable that it names."],
+    ["Click", "a step, a goal, a variable, or something that was taken back, and choose. Each click types a line at the console, where you see what it is called. `ask …`, beside the word Goals, adds goals while the program runs: write them as a query has them."],
+    ["Keys", "`s` steps the first goal that is ready, `r` runs, `u` takes back the last step, `a` asks for more goals, `t` tidies the order, `d` changes between recorded order and causal depth, `f` finds steps, `/` goes to the console, `Escape` closes, and `Ctrl` `Enter` in the program starts it. In the picture `←` `→` go from step to step, `↑` `↓` to a cause or an effect, `Enter` opens what can be done."],
+    ["Kept", "This browser keeps the last five sessions of your own programs, and what you typed since Start: after a reload the page offers them. `Link` puts program, query and lines into the address. Nothing leaves this browser by itself."],
+    ["Texts", "`Save` keeps program, query and all lines in a text; `Open` plays it again. It opens histories (as `save` writes them) and programs, too. All that is described in docs/LANGUAGE.md and docs/FORMATS.md."],
+  ];
+
+  const typed = () => ({ program: find("program").value, query: find("query").value, history: "" });
+
+  /** Whether program or query were changed since Start. */
+  const isChanged = () => find("program").value !== Talk.given.program || find("query").value !== Talk.given.query.replace(/[\r\n]/g, "");
+
+  /** Puts texts into the fields that are not started yet. */
+  function setTyped({ program, query }) {
+    Program.setText(program);
+    find("query").value = query;
+    Panels.showNote();
+  }
+
+  /** Starts the texts in the fields. */
+  function startTyped() {
+    Guide.end();
+    begin(typed());
+    if (document.body.dataset.tab === "program") showTab("run");
+  }
+
+  /** Begins a session, and shows its texts. */
+  function begin({ program: text, ...others }) {
+    const given = { ...others, program: text.replace(/\r\n?/g, "\n") }; // as the field holds it
+    const example = EXAMPLES.find((other) => other.program === given.program);
+    standing = example ? example.name : "";
+    find("examples").value = standing;
+    Panels.showLookAt(example && !Guide.isOn() ? ExampleNotes.read(example) : null);
+    Program.setText(given.program);
+    find("query").value = given.query;
+    Menus.close();
+    Canvas.chosen = null;
+    Keeping.leaveDone();
+    Talk.start({ program: given.program, query: given.query, history: given.history || "" });
+  }
+
+  const MOST_NOTED = 200000; // letters: of a longer program no notes are made, and no cause of a refusal is looked for
+
+  /** Where program or query was refused, it says why, and the place is selected in the text; else what is noted on the program. */
+  function showCause() {
+    const { program, query } = Talk.given, [, name, refusal] = /^(program|query): (F\d+ .*)$/.exec(Talk.refusal) || [];
+    if (name === undefined) {
+      showNotes(program);
+      return;
+    }
+    const given = { text: name === "program" ? program : query, which: name, isQuery: name === "query", program };
+    const isLong = program.length + query.length > MOST_NOTED, cause = isLong ? Answers.placeIn(refusal) : Causes.causeOf(refusal, given);
+    const parts = isLong ? Answers.partsOfLong(refusal) : Answers.partsOfRefusal(refusal, given, cause);
+    if (cause) Program.showPlace(name, cause.line, Causes.letterOf(cause, given.text), cause.length);
+    if (parts.length > 0) Answers.put(true, ...parts);
+  }
+
+  /** Notes on a program that runs, but may not be meant so. */
+  function showNotes(program) {
+    const notes = Talk.refusal || program.length > MOST_NOTED ? [] : Causes.notesOn(program, "program");
+    if (notes.length === 0) return;
+    const more = notes.length > 1 ? [make("div", { class: "dim" }, `${notes.length - 1} more: ${Terms.cut(notes.slice(1).map((note) => note.title.replace("note: ", "")).join("; "), 200)}`)] : [];
+    Answers.put(false, ...Answers.causeParts(notes[0], program), ...more);
+  }
+
+  function chooseExample(name, query) {
+    const example = EXAMPLES.find((other) => other.name === name);
+    begin({ program: example.program, query: query || ExampleNotes.read(example).query });
+  }
+
+  let standing = ""; // the example that stands here, by name
+  let isPassing = false; // whether keys go through the list of examples, of which the browser tells each one
+
+  function startExample() {
+    const { value } = find("examples");
+    find("examples").value = standing;
+    if (value !== "" && value !== standing) Keeping.beginOther(() => { Guide.end(); chooseExample(value); });
+  }
+
+  /** An example starts by a click or by Enter. Other keys go through the list, but for those that open it. */
+  function onExampleKey(event) {
+    isPassing = !["Enter", " ", "F4"].includes(event.key) && !event.altKey;
+    if (event.key !== "Enter" || find("examples").value === standing) return;
+    event.preventDefault();
+    startExample();
+  }
+
+  const SLICE = 16; // milliseconds that the page shows what has changed without a pause
+
+  /** Gives a pause where a slice of time is over since the last one: each pause may cost a drawing of the page. */
+  function pauses() {
+    let until = performance.now() + SLICE;
+    return async () => {
+      if (performance.now() < until) return;
+      await Talk.pause();
+      until = performance.now() + SLICE;
+    };
+  }
+
+  let wasCount = 0; // steps, before a change
+
+  function redraw() {
+    Canvas.forget();
+    Canvas.draw();
+  }
+
+  function showNewSteps() {
+    if (Talk.run.graph.count > wasCount) Canvas.showThere();
+  }
+
+  function tellCause(what) {
+    if (what === "start") showCause();
+  }
+
+  /** What shows a change, in its order. */
+  const parts = () => [
+    Overview.follow, Beside.follow, redraw, showNewSteps, Looking.follow, ...Panels.PARTS, Guide.onChange, tellCause,
+    Keeping.keep,
+  ];
+
+  /** Shows what has changed, in parts between which the page may pause. A fault in one is thrown after the others. */
+  async function onChange(what) {
+    if (what === "fault") Panels.showNote();
+    if (what === "busy" || what === "idle") Panels.showBusy();
+    if (!["start", "again", "lines"].includes(what)) return;
+    if (what !== "lines") Canvas.chosen = null;
+    wasCount = Overview.wasCount;
+    const pause = pauses(), faults = [];
+    for (const part of parts()) {
+      await pause();
+      try {
+        part(what);
+      } catch (error) {
+        faults.push(error);
+      }
+    }
+    if (faults.length > 0) throw faults[0];
+  }
+
+  function showTab(name) {
+    document.body.dataset.tab = name;
+    for (const button of document.querySelectorAll(".tabs button")) button.setAttribute("aria-pressed", String(button.dataset.tab === name));
+    if (name === "run" && Talk.session) Canvas.draw();
+  }
+
+  function setOrder(by) {
+    Canvas.by = by;
+    find("by-record").setAttribute("aria-pressed", String(by === "record"));
+    find("by-depth").setAttribute("aria-pressed", String(by === "depth"));
+    Canvas.draw();
+  }
+
+  function setTheme(theme) {
+    Canvas.theme = theme;
+    document.documentElement.dataset.theme = theme;
+    find("theme").textContent = theme === "light" ? "Dark" : "Light";
+    if (Talk.session) Canvas.draw();
+  }
+
+  function setZoom(zoom) {
+    if (Canvas.isFit) setFit(false);
+    if (Overview.isOn()) {
+      Overview.zoom(zoom / Canvas.zoom);
+      Canvas.draw();
+      return;
+    }
+    Canvas.zoom = Math.max(0.25, Math.min(zoom, 8));
+    Canvas.draw();
+  }
+
+  /** All of the run in the window, or as usual again. */
+  function setFit(isFit) {
+    Canvas.isFit = isFit;
+    Canvas.zoom = 1;
+    find("fit").setAttribute("aria-pressed", String(isFit));
+    if (isFit) Overview.fit();
+    else Overview.size = null;
+    Canvas.draw();
+  }
+
+  /** Puts the record into another lawful order, in which each process goes on as far as it can. */
+  function tidy() {
+    const { laneOf: ofGoal } = Lanes.lanesOf(Talk.run), { byNumber } = Talk.run.graph;
+    const laneOf = (number) => ofGoal.get(byNumber.get(number).goal === null ? String(number) : byNumber.get(number).goal);
+    Talk.send(`arrange ${Graph.tidyOrder(Talk.run.graph, laneOf).join(" ")}`).then(() => setOrder("record"));
+  }
+
+  function showHelp() {
+    const words = HELP.map(([name, text]) => make("p", null, make("b", null, `${name}: `), ...withCode(text)));
+    const close = make("button", { class: "main-button" }, "Close");
+    close.addEventListener("click", () => find("help").close());
+    find("help").replaceChildren(make("h2", null, "ghcdb in a page"), ...words, make("p", { class: "dim" }, `${Panels.madeWith()}.`), close);
+    find("help").showModal();
+  }
+
+  const BUTTONS = {
+    "begin-tour": () => Keeping.beginOther(Guide.begin), "open-help": showHelp, "open-file": () => find("file").click(),
+    "larger-query": () => begin({ ...typed(), query: find("larger-query").value }), "start-anew": startTyped,
+    "save-session": () => Files.saveSession(), "save-picture": () => Menus.open({ picture: true }, find("save-picture")),
+    "ask-more": () => Menus.open({ ask: true }, find("ask-more")),
+    "redo-all": () => Talk.sendAll(Talk.run.shelf.map((step) => `redo ${step.number}`)),
+    stop: () => Talk.stop(),
+    theme: () => setTheme(Canvas.theme === "light" ? "dark" : "light"), tidy,
+    "by-record": () => setOrder("record"), "by-depth": () => setOrder("depth"),
+    smaller: () => setZoom(Canvas.zoom / 1.4), larger: () => setZoom(Canvas.zoom * 1.4), fit: () => setFit(!Canvas.isFit),
+    "keep-run": () => Beside.keep(), "drop-run": () => Beside.drop(), "swap-runs": () => Beside.swap(),
+    play: () => Looking.play(), "show-all-steps": () => Looking.showNow(),
+    wrap: () => Program.setWrap(!Program.isWrapped()), again: () => Talk.again(), "close-answer": () => Answers.hide(),
+    "go-without": () => Keeping.goWithout(),
+    forget: () => Keeping.forget(), "make-link": () => Keeping.makeLink(), "copy-link": () => Keeping.copyLink(),
+  };
+
+  /** What stands under a click, as what a menu can be opened of. */
+  function choiceAt(element) {
+    const found = element.closest("[data-step], [data-goal], [data-taken], [data-variable]");
+    if (!found) return null;
+    const { step, goal, taken, variable } = found.dataset;
+    if (step !== undefined) return { found, chosen: { step: Number(step) } };
+    if (goal !== undefined) return { found, chosen: { goal } };
+    return { found, chosen: taken !== undefined ? { taken: Number(taken) } : { variable } };
+  }
+
+  /** Chooses a step, and brings it into sight. */
+  function goToStep(step) {
+    if (!Talk.run.graph.byNumber.has(step)) return;
+    Menus.close();
+    if (document.body.dataset.tab === "console") showTab("run");
+    Canvas.choose({ step });
+    Canvas.scrollTo({ step });
+  }
+
+  function onClick(event) {
+    if (!event.target.isConnected) return; // the button has put something else in its own place
+    const button = event.target.closest("button"), sends = event.target.closest("[data-line]");
+    if (sends && !sends.disabled) {
+      Menus.close();
+      Talk.send(sends.dataset.line);
+      return;
+    }
+    const explained = event.target.closest("[data-root]"), kept = event.target.closest("[data-keep]");
+    if (explained) {
+      Menus.close();
+      Store.explain(explained.dataset.root, explained.dataset.path.split(".").filter(Boolean).map(Number));
+      explained.classList.add("told");
+      return;
+    }
+    if (kept) {
+      Resting.askKeep(kept.dataset.keep);
+      return;
+    }
+    const holder = event.target.closest("[data-go-goal]");
+    if (holder) {
+      const chosen = { goal: holder.dataset.goGoal }, taken = Talk.run.graph.consumerOf(chosen.goal);
+      Menus.close();
+      if (taken !== undefined && taken !== Graph.NONE) {
+        goToStep(Talk.run.graph.numbers.at(taken));
+        return;
+      }
+      Canvas.choose(chosen);
+      Canvas.scrollTo(chosen);
+      if (Canvas.elementOf(chosen)) Menus.open(chosen, Canvas.elementOf(chosen));
+      return;
+    }
+    const tried = event.target.closest("[data-try]"), other = event.target.closest("[data-kept]");
+    if (tried) {
+      Menus.close();
+      Beside.tryClause(...tried.dataset.try.split(" ").map(Number));
+      return;
+    }
+    if (other) {
+      Menus.close();
+      Beside.onClick(Number(other.dataset.kept));
+      return;
+    }
+    const folds = event.target.closest("[data-fold], [data-unfold]");
+    if (folds) {
+      Menus.close();
+      Looking.fold(folds.dataset.fold || folds.dataset.unfold, folds.dataset.fold !== undefined);
+      return;
+    }
+    const before = event.target.closest("[data-go-on]");
+    if (before) {
+      Keeping.goOn(Number(before.dataset.goOn));
+      return;
+    }
+    const link = event.target.closest("[data-goto]");
+    if (link) {
+      goToStep(Number(link.dataset.goto));
+      return;
+    }
+    if (button && (BUTTONS[button.id] || button.dataset.tab)) {
+      Menus.close();
+      (BUTTONS[button.id] || (() => showTab(button.dataset.tab)))();
+      return;
+    }
+    if (button && Guide.onClick(button.id)) return;
+    if (event.target.closest("#menu") && !event.target.closest("[data-close]")) return;
+    const choice = choiceAt(event.target);
+    Menus.close();
+    if (choice) {
+      if (choice.chosen.variable === undefined) Canvas.choose(choice.chosen.taken === undefined ? choice.chosen : null);
+      Menus.open(choice.chosen, choice.found);
+    } else if (event.target.closest("#canvas")) Canvas.choose(null);
+  }
+
+  const KEYS = {
+    s: () => find("step").click(), r: () => find("leap").click(), u: () => find("undo-last").click(), t: () => find("tidy").click(),
+    f: () => { showTab("run"); find("search").focus(); },
+    a: () => { showTab("run"); find("ask-more").click(); }, d: () => setOrder(Canvas.by === "record" ? "depth" : "record"), "/": () => { showTab("console"); find("line").focus(); }, "?": showHelp,
+  };
+
+  function onKey(event) {
+    if (event.key === "Enter" && (event.ctrlKey || event.metaKey) && event.target === find("program")) find("start").requestSubmit();
+    if (event.ctrlKey || event.metaKey || event.altKey || find("help").open) return;
+    if (event.key === "Escape" && !find("busy").hidden && Talk.busy && Talk.busy.canStop) {
+      Talk.stop();
+      return;
+    }
+    if (event.key === "Escape") {
+      const wasOpen = !find("menu").hidden;
+      Menus.close();
+      if (wasOpen) find("canvas").focus();
+      else Canvas.choose(null);
+      return;
+    }
+    if (event.key === "Tab" && event.target.closest("#menu")) Menus.onTab(event);
+    if (event.target.closest("input, textarea, select")) return;
+    const does = KEYS[event.key], isInCanvas = event.target === find("canvas");
+    if ((isInCanvas && Canvas.onKey(event.key)) || does) event.preventDefault();
+    if (does) does();
+  }
+
+  /** The arrows up and down bring back lines that were typed before. */
+  function onLineKey(event) {
+    if (event.key !== "ArrowUp" && event.key !== "ArrowDown") return;
+    event.preventDefault();
+    recall = Math.max(0, Math.min(recall + (event.key === "ArrowUp" ? -1 : 1), typedBefore.length));
+    find("line").value = typedBefore[recall] || "";
+  }
+
+  function onType(event) {
+    event.preventDefault();
+    const line = find("line").value;
+    if (line.trim() === "") return;
+    typedBefore.push(line);
+    recall = typedBefore.length;
+    find("line").value = "";
+    Talk.send(line);
+  }
+
+  function listenToAll() {
+    document.addEventListener("click", onClick);
+    document.addEventListener("keydown", onKey);
+    find("type").addEventListener("submit", onType);
+    find("line").addEventListener("keydown", onLineKey);
+    find("start").addEventListener("submit", (event) => { event.preventDefault(); startTyped(); });
+    find("examples").addEventListener("keydown", onExampleKey);
+    find("examples").addEventListener("change", () => { if (!isPassing) startExample(); });
+    find("examples").addEventListener("pointerdown", () => { isPassing = false; });
+    find("examples").addEventListener("blur", () => { find("examples").value = standing; });
+    for (const field of ["program", "query"]) find(field).addEventListener("input", Panels.followText);
+    Files.listenToAll();
+    find("canvas").addEventListener("scroll", () => {
+      Canvas.stayInSight();
+      if (!Canvas.isOwnScroll()) Menus.close();
+    }, { passive: true });
+    find("canvas").addEventListener("mouseover", (event) => Canvas.addTitle(event.target));
+    window.addEventListener("resize", () => { if (Talk.session) Canvas.draw(); });
+    Overview.listenToAll();
+    Program.listenToAll();
+    Looking.listenToAll();
+    Keeping.listenToAll();
+    window.addEventListener("hashchange", () => Keeping.beginOther(() => { Guide.end(); return fromAddress(); }));
+    setInterval(() => { if (Talk.busy) Panels.showBusy(); }, 100);
+    Talk.listen(onChange);
+  }
+
+  /** The session in the letters of an address; null, and in words why, where none is read. */
+  async function readLink(letters) {
+    const none = { session: null, why: "The address holds no session that can be read." };
+    const tooLong = ({ message }) => `The session in the address is not read: ${message}. Open takes one from a file.`;
+    try {
+      const session = SessionText.read(await Links.unpack(letters), () => undefined);
+      if (session === null || Replies.hasHole(session.history)) return none;
+      Links.testLines(session);
+      return { session };
+    } catch (error) {
+      return error instanceof RangeError ? { session: null, why: tooLong(error) } : none;
+    }
+  }
+
+  /** Does what an address asks for, as `#example=primes&query=primes(30,Ps)&lines=leap&by=depth&theme=dark&step=90`; says whether it holds a session. */
+  async function fromAddress() {
+    const asked = new URLSearchParams(location.hash.slice(1)), name = asked.get("example"), letters = asked.get("s");
+    const { session, why } = letters === null ? { session: null } : await readLink(letters);
+    if (session !== null) {
+      begin(session);
+      if (session.lines.length > 0) Talk.sendAll(session.lines);
+      await Talk.settled();
+      return true;
+    }
+    const example = EXAMPLES.some((other) => other.name === name) ? name : FIRST_EXAMPLE;
+    if (asked.get("theme")) setTheme(asked.get("theme") === "dark" ? "dark" : "light");
+    if (asked.get("by") === "depth") setOrder("depth");
+    chooseExample(example, asked.get("query") || (name ? "" : FIRST_QUERY));
+    const lines = (asked.get("lines") || "").split(";").filter(Boolean);
+    if (lines.length > 0) Talk.sendAll(lines);
+    await Talk.settled();
+    if (why !== undefined) Answers.put(true, why);
+    goToStep(Number(asked.get("step")));
+    return false;
+  }
+
+  async function startPage() {
+    if (typeof WebAssembly === "undefined") throw new Error("it has no WebAssembly, in which the program comes; some browsers switch it off in a strict mode");
+    for (const example of EXAMPLES) find("examples").append(make("option", { value: example.name }, example.name));
+    listenToAll();
+    setTheme(window.matchMedia("(prefers-color-scheme: dark)").matches ? "dark" : "light");
+    showTab("run");
+    Keeping.offer(await fromAddress());
+    document.body.classList.add("started");
+  }
+
+  startPage().catch((error) => {
+    find("note").hidden = false;
+    find("note").textContent = `ghcdb could not start in this browser: ${error.message}`;
+  });
+  return { begin, typed, isChanged, setTyped, showTab, setOrder };
+})();
+
+export default Page;

@@ -1,0 +1,57 @@
+// On what a value or a goal rests, as the console's `explain` tells it: it is lit, and kept alone by `keep` when one has seen what would go.
+import Terms from "../front/run/terms.mjs";
+import Asking from "../front/protocol/asking.mjs";
+import Talk from "./talk.mjs";
+import Canvas from "./canvas.mjs";
+import Answers from "./answers.mjs";
+
+const Resting = (() => {
+  const { find, make, goTo } = Elements;
+  const MOST_LINKS = 12;
+  const plural = (count, word) => `${count} ${word}${count === 1 ? "" : "s"}`;
+
+  /** Lights the steps of a reply to `explain`, and tells what stands in front of them and where another clause could be chosen. */
+  function tell(name, { head, numbers, others, last }) {
+    Canvas.showSlice(numbers, others.map(([step]) => step));
+    const choices = others.slice(0, MOST_LINKS).flatMap(([step, clauses], index) => [index > 0 ? "; " : "", "step ", goTo(step), " by ",
+      ...clauses.flatMap((clause, at) => [at > 0 ? ", " : "", make("button", { class: "link", "data-try": `${step} ${clause}`, title: `keeps this run beside; roll ${step}, then the goal by clause ${clause}` }, String(clause))])]);
+    Answers.put(false, make("code", null, `explain ${name}`), " ", ...head.slice(0, MOST_LINKS).flatMap((line, index) => [index > 0 ? ", " : "", ...Elements.linkedLine(Terms.cut(line, 160))]), `, ${last}. `,
+      ...(choices.length > 0 ? ["Another clause could be chosen (ringed): ", ...choices, others.length > MOST_LINKS ? ` and ${others.length - MOST_LINKS} more.` : "."] : []));
+  }
+
+  /** Rings all that would go if a value or a goal were to stand alone, and asks once more. */
+  async function askKeep(name) {
+    Menus.close();
+    const { run } = Talk, { graph } = run, told = await Talk.ask(`explain ${name}`);
+    if (told === null || run !== Talk.run) return;
+    const { numbers, last } = told.slice;
+    if (!/^steps \d/.test(last)) {
+      Answers.put(true, make("code", null, `explain ${name}`), " was refused: ", ...Elements.linkedLine(last));
+      return;
+    }
+    const isIn = new Uint8Array(graph.count), gone = { size: graph.count - numbers.length, has: (number) => isIn[graph.indexOf(number)] === 0 };
+    for (const number of numbers) isIn[graph.indexOf(number)] = 1;
+    const does = make("button", { class: "danger", disabled: gone.size === 0 }, gone.size === 0 ? "Nothing would go" : `Take back ${gone.size}`);
+    does.addEventListener("click", () => { Menus.close(); Talk.send(`keep ${name}`); });
+    Canvas.choose(null);
+    Menus.openWith([make("div", { class: "menu-title" }, make("b", null, `Keep what ${name} rests on`)),
+      make("p", null, `It rests on ${plural(numbers.length, "step")} of ${graph.count}. The ringed ${plural(gone.size, "step")} would be taken back; redo brings them again.`),
+      make("div", { class: "buttons" }, does, make("button", { "data-close": true }, "Leave it"))], find("store"));
+    Canvas.ring(gone);
+  }
+
+  /** Hands on the text of the goal that a step took, at once or when the console has told it. */
+  async function withGoalText(step, does) {
+    const { run } = Talk;
+    if (run.texts.has(step.goal)) does(run.texts.get(step.goal));
+    if (step.goal === null || run.texts.has(step.goal)) return;
+    const told = await Talk.ask(`goal ${step.number}`), text = told === null ? undefined : Asking.textOfGoal(told.reply, step);
+    if (text === undefined) return;
+    run.texts.set(step.goal, text);
+    does(text);
+  }
+
+  return { tell, askKeep, withGoalText };
+})();
+
+export default Resting;

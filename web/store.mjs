@@ -1,0 +1,107 @@
+// The panel of the store: each value in parts that one can click, which lights the steps that gave them.
+import Terms from "../front/run/terms.mjs";
+import Explain from "../front/run/explain.mjs";
+import Asking from "../front/protocol/asking.mjs";
+import Talk from "./talk.mjs";
+import Overview from "./overview.mjs";
+import Canvas from "./canvas.mjs";
+import Answers from "./answers.mjs";
+
+const Store = (() => {
+  const { find, make, goTo, fillRows } = Elements;
+  const MOST_ROWS = 100, MOST_LOOKED_AT = 2000, MOST_PARTS = 40, MOST_DEEP = 6, LONGEST_ATOM = 60;
+  const { isVariable, argumentsOf } = Explain;
+
+  /** A part of a value as a button; `path` leads to it from the row's variable. */
+  const part = (root, path, ...words) => make("button", { class: "part", type: "button", "data-root": root, "data-path": path.join("."), title: "lights the step that gave this" }, ...words);
+
+  /** The end of a chain of bindings. */
+  function endOf(term) {
+    const { store } = Overview.run().graph;
+    let end = term;
+    while (isVariable(end) && store.has(end)) end = store.get(end);
+    return end;
+  }
+
+  function listParts(root, path, term, room) {
+    const parts = [part(root, path, "[")];
+    let rest = term, at = path, count = 0;
+    while (rest.startsWith("[") && rest !== "[]") {
+      if (room.parts <= 0 || count > MOST_PARTS) return [...parts, ",…", part(root, path, "]")];
+      const [head, tail] = argumentsOf(rest);
+      parts.push(...(count > 0 ? [","] : []), ...termParts(root, [...at, 0], head, room));
+      at = [...at, 1];
+      rest = endOf(tail);
+      count += 1;
+    }
+    return [...parts, ...(rest === "[]" ? [] : ["|", ...termParts(root, at, rest, room)]), part(root, at, "]")];
+  }
+
+  /** A term as far as it is known, each part of it a button. `room` has how many parts more there may be. */
+  function termParts(root, path, term, room) {
+    const end = endOf(term);
+    room.parts -= 1;
+    if (room.parts <= 0 || path.filter((place) => place === 0).length > MOST_DEEP) return ["…"];
+    if (end.startsWith("[") && end !== "[]") return listParts(root, path, end, room);
+    const parts = argumentsOf(end);
+    if (parts.length === 0) return [part(root, path, Terms.cut(end, LONGEST_ATOM))];
+    const inner = parts.flatMap((one, place) => [...(place > 0 ? [","] : []), ...termParts(root, [...path, place], one, room)]);
+    return [part(root, path, `${end.slice(0, end.indexOf("("))}(`), ...inner, ")"];
+  }
+
+  const row = (name, variable, by, room) => make("div", { class: "row value" }, make("button", { class: "name", "data-variable": name, title: "show, who, what it rests on" }, make("b", null, name)), " = ",
+    ...termParts(variable, [], variable, room), by === undefined ? null : make("span", { class: "dim" }, "  by ", goTo(by)));
+
+  /** The values of the query's variables, which are made anew each time; then all bindings, the newest first, each of which stays what it is. */
+  function rows() {
+    const { graph } = Overview.run(), { query } = Talk.given, values = [], bindings = [];
+    for (const [name, variable] of Asking.queryVariables(query)) values.push({ key: null, does: () => row(name, variable, undefined, { parts: MOST_PARTS * 3 }) });
+    for (let at = graph.count - 1; at >= 0 && at > graph.count - MOST_LOOKED_AT && bindings.length < MOST_ROWS; at--) {
+      const step = graph.stepAt(at);
+      for (const { variable, term } of [...step.binds].reverse()) bindings.push({ key: `${variable} ${step.number} ${term}`, does: () => bindingRow(variable, step.number) });
+    }
+    return { values, bindings };
+  }
+
+  /** A binding as it was made, with no binding followed. */
+  function bindingRow(variable, by) {
+    const term = Overview.run().graph.termOf(variable);
+    return make("div", { class: "row value" }, make("button", { class: "name", "data-variable": variable, title: "show, who, what it rests on" }, make("b", null, variable)), " = ",
+      part(variable, [], Terms.cut(term, 160)), make("span", { class: "dim" }, "  by ", goTo(by)));
+  }
+
+  const unmark = () => { for (const one of find("store").querySelectorAll(".part.told")) one.classList.remove("told"); };
+
+  function show() {
+    const { values, bindings } = rows(), all = [...values, ...bindings].slice(0, MOST_ROWS), before = Panels.timeRows();
+    const left = values.length + Overview.run().graph.binders.size - all.length;
+    const words = all.length === 0 ? "nothing is bound" : left > 0 ? `and ${left} more` : "";
+    const more = { key: null, does: () => make(all.length === 0 ? "span" : "div", { class: "dim" }, words) };
+    fillRows(find("store"), [...before, ...all, ...(words ? [more] : [])]);
+    unmark();
+    const last = before.length + Math.min(values.length, MOST_ROWS) - 1;
+    if (values.length > 0) find("store").children[last].classList.add("last-value");
+  }
+
+  /** Lights the steps that gave a part of a value, and tells them. */
+  function explain(root, path) {
+    const { steps, by, part: term } = Explain.explain(Overview.run().graph, root, path);
+    const way = [...new Set(steps)].filter((step) => step !== by);
+    unmark();
+    const words = make("code", null, Terms.cut(term === undefined ? root : term, 60));
+    if (by === undefined) {
+      Answers.put(false, words, isVariable(term || "") ? " is not bound." : " stands in the query.");
+      return;
+    }
+    Canvas.choose({ step: by });
+    Canvas.scrollTo({ step: by });
+    Canvas.markWay(way);
+    const shown = way.slice(-8), before = way.length > shown.length ? `${way.length - shown.length} steps, and ` : "";
+    Answers.put(false, words, isVariable(term) ? " is where step " : " was given by step ", goTo(by), isVariable(term) ? " left it open" : "",
+      ...(shown.length > 0 ? [`. On the way to it: ${before}step `, ...shown.flatMap((step, index) => [index > 0 ? ", " : "", goTo(step)])] : []), ". Its causes are lit.");
+  }
+
+  return { show, explain };
+})();
+
+export default Store;

@@ -1,0 +1,134 @@
+// Tests of what the page asks the console: `since`, `goal`, `explain` and `keep`.
+import assert from "node:assert/strict";
+import test from "node:test";
+import Asking from "../../front/protocol/asking.mjs";
+import Explain from "../../front/run/explain.mjs";
+import Graph from "../../front/run/graph.mjs";
+import RunModel from "../../front/run/run_model.mjs";
+import Told from "../../front/protocol/told.mjs";
+import WorkerSide from "../../front/session/worker_side.mjs";
+import { engineOfPage } from "../../front/session/engine_of_page.mjs";
+import { QUERIES, programOf, chance, plainGraph, lineByChance, follow } from "./chance.mjs";
+import { eachPlay } from "./runs.mjs";
+
+const LINES = 25, SEEDS = 2;
+const bytes = (text) => new TextEncoder().encode(text);
+
+/** The words of all lines that a session is asked from now on. */
+function askedOf(session) {
+  const asked = [], plain = session.bytes.bind(session);
+  session.bytes = (text) => {
+    asked.push(text.trim().split(" ")[0]);
+    return plain(text);
+  };
+  return asked;
+}
+
+test("after each line the steps and the goals' texts are those of the console, and the whole record is not asked for again", async () => {
+  const { engine } = await engineOfPage();
+  let compared = 0;
+  for (const [name, query] of Object.entries(QUERIES)) {
+    const program = programOf(name);
+    for (let seed = 1; seed <= SEEDS; seed++) {
+      const side = new WorkerSide(engine), next = chance(seed * 104729 + name.length), model = new RunModel(program);
+      follow(model, side.open({ given: { program, query, history: "" } }).look);
+      const asked = askedOf(side.session);
+      for (let count = 0; count < LINES; count++) {
+        const line = lineByChance(next, model), before = model.graph.count;
+        asked.length = 0;
+        follow(model, side.lines({ lines: [line] }).look);
+        const words = `${name}, seed ${seed}, line ${count}, ${line}`;
+        if (/^(step|in|ask|redo|undo|roll|leap)/.test(line) && before > 0) assert.ok(!asked.includes("records"), `${words} asked ${asked}`);
+        const steps = Graph.readRecords(side.session.line("records"));
+        assert.deepEqual(plainGraph(model.graph), plainGraph(Graph.graphOf(steps)), words);
+        for (const step of steps) if (step.goal !== null) assert.equal(side.session.line(`goal ${step.number}`)[0], `${step.number} ${step.goal} ${step.act} ${model.texts.get(step.goal)}`, words);
+        compared += 1;
+      }
+    }
+  }
+  assert.ok(compared > 400, `${compared} graphs were compared`);
+});
+
+test("of a run that was too long for the texts of its goals all are asked for once it is short again", async () => {
+  const { engine } = await engineOfPage(), side = new WorkerSide(engine), model = new RunModel(""), given = { program: programOf("primes"), query: "primes(300,Ps)", history: "" };
+  follow(model, side.open({ given }).look);
+  follow(model, side.lines({ lines: ["leap 3100"] }).look);
+  assert.equal(model.texts.size, 1);
+  const { replies, look } = side.lines({ lines: ["roll 1500"] });
+  follow(model, look);
+  assert.ok(model.graph.count <= 3000 && model.graph.count > 100, replies[0][0]);
+  for (const step of model.graph.steps) assert.ok(model.texts.has(step.goal), step.goal);
+});
+
+test("what was told of a record is added to, taken from, and compared with the whole of it", () => {
+  const told = new Told(), line = (number) => `${number} 0.${number} eq reads - binds - makes -\n`, text = () => new TextDecoder().decode(told.bytes);
+  assert.deepEqual([told.lastNumber, told.count], [null, 0]);
+  assert.deepEqual(told.replace(bytes("none\n")), { kept: 0, come: new Uint8Array(0) });
+  told.replace(bytes([1, 12, 3].map(line).join("")));
+  assert.deepEqual([told.count, told.lastNumber], [3, 3]);
+  assert.equal(new TextDecoder().decode(told.addSince(bytes(line(3) + line(20)))), line(20));
+  assert.equal(told.addSince(bytes("F16 not a kept step\n")), null);
+  told.take(new Set([20, 12]));
+  assert.equal(text(), line(1) + line(3));
+  told.take(new Set([3]));
+  assert.deepEqual([text(), told.count, told.lastNumber], [line(1), 1, 1]);
+  const { kept, come } = told.replace(bytes(line(1) + line(4)));
+  assert.deepEqual([kept, new TextDecoder().decode(come), told.count], [1, line(4), 2]);
+});
+
+test("what a reply to `explain` tells: its head, its steps, the other clauses, and how many there are", () => {
+  const lines = ["T = 150", "_1_1 in 4.3 ready", "1 0.1 by 1 reads - binds - makes 1.1,1.2,1.3", "2 1.1 by 2 reads - binds - makes 2.1 or 3", "3 - ask p(X) reads - binds - makes 3.1", "13 6.2 by 9 reads _0_1 binds _0_2=f(a) makes - or 9,10", "steps 4 of 6"];
+  const { head, numbers, others, last } = Asking.sliceIn(lines);
+  assert.deepEqual([head, [...numbers], others, last], [lines.slice(0, 2), [1, 2, 3, 13], [[2, [3]], [13, [9, 10]]], "steps 4 of 6"]);
+  assert.deepEqual(Asking.sliceIn(["F23 no variable"]).head, ["F23 no variable"]);
+});
+
+test("what a value rests on gives the same value when `keep` has taken all the rest back, and nothing else is left", async () => {
+  let kept = 0;
+  await eachPlay((play, session, run) => {
+    const [[name] = []] = [...Asking.queryVariables(play.query)];
+    const before = name === undefined ? ["F23"] : session.line(`show ${name}`);
+    if (/^F\d/.test(before[0]) || run.graph.count === 0 || run.graph.count > 400) return;
+    const { numbers, head, last } = Asking.sliceIn(session.line(`explain ${name}`));
+    assert.deepEqual([head[0], last], [before[0], `steps ${numbers.length} of ${run.graph.count}`], play.name);
+    assert.equal(session.line(`keep ${name}`).at(-1), `kept ${numbers.length}`, play.name);
+    assert.deepEqual(session.line(`show ${name}`), before, play.name);
+    assert.deepEqual(Graph.readRecords(session.line("records")).map((step) => step.number), [...numbers], play.name);
+    kept += 1;
+  });
+  assert.ok(kept > 80, `${kept} runs`);
+});
+
+test("the page follows `keep` of a value and of a goal", async () => {
+  const { engine } = await engineOfPage(), side = new WorkerSide(engine), model = new RunModel("");
+  follow(model, side.open({ given: { program: programOf("quicksort"), query: "quicksort([3,1,2],R)", history: "" } }).look);
+  follow(model, side.lines({ lines: ["leap 12"] }).look);
+  const waiting = model.goals.find((goal) => goal.status === "waits"), inner = model.graph.steps.find((step) => step.binds.length > 0).binds[0].variable;
+  for (const name of [waiting.name, inner]) {
+    const { slice } = side.ask({ line: `explain ${name}` }), { replies, look } = side.lines({ lines: [`keep ${name}`] });
+    assert.equal(replies[0].at(-1), `kept ${slice.numbers.length}`);
+    follow(model, look);
+    assert.deepEqual(model.graph.steps.map((step) => step.number), [...slice.numbers]);
+  }
+});
+
+test("why a goal has failed is found in the program's text and the record, where no line has told the goal's text", async () => {
+  const { engine } = await engineOfPage(), program = "p(X,Y) :- true | X = a, Y = X, q(Y).\nq(Y) :- true | Y = b.\n", side = new WorkerSide(engine), model = new RunModel(program, "p(X,Y)");
+  follow(model, side.open({ given: { program, query: "p(X,Y)", history: "" } }).look);
+  follow(model, side.lines({ lines: ["leap"] }).look);
+  const failed = model.goals.find((goal) => goal.status === "failed"), { words, binders } = Explain.failureOf(model, failed);
+  assert.match(words, /two different things/);
+  assert.ok(!model.texts.has(failed.name) && binders.length > 0 && binders.every(({ variable, step }) => model.graph.binderOf(variable) === step));
+});
+
+test("the texts of goals that are worked out are those that the console tells", async () => {
+  let compared = 0;
+  await eachPlay((play, session, run) => {
+    if (play.lines.some((line) => /^ *(in|ask|undo|roll|redo|arrange) /.test(line)) || run.graph.count > 400) return;
+    for (const step of run.graph.steps) {
+      assert.equal(Explain.writtenText({ ...run, texts: new Map() }, step.goal), run.texts.get(step.goal), `${play.name}, goal ${step.goal}`);
+      compared += 1;
+    }
+  });
+  assert.ok(compared > 300, `${compared} texts compared`);
+});

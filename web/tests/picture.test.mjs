@@ -1,0 +1,133 @@
+// Tests of front/run/lanes.mjs and web/picture.mjs: each kept step once, no two marks on one place, every arrow goes right, well-formed SVG.
+import assert from "node:assert/strict";
+import fs from "node:fs";
+import path from "node:path";
+import test from "node:test";
+import { fileURLToPath } from "node:url";
+import { spawnSync } from "node:child_process";
+import Graph from "../../front/run/graph.mjs";
+import Lanes from "../../front/run/lanes.mjs";
+import Picture from "../picture.mjs";
+import Terms from "../../front/run/terms.mjs";
+import { engineOfPage } from "../../front/session/engine_of_page.mjs";
+import { askedRun, eachPlay, runOf, plays } from "./runs.mjs";
+
+const HERE = path.dirname(fileURLToPath(import.meta.url));
+
+const VIEWS = [{ by: "record", room: 1100 }, { by: "depth", room: 1100 }, { by: "record", room: 340 }, { by: "depth", room: 340 }, { by: "record", room: 9000 }];
+
+function checkPlaces(name, run, view) {
+  assert.deepEqual([...view.marks.keys()], run.graph.steps.map((step) => step.number), `${name}: each kept step once`);
+  assert.deepEqual([...view.goals.keys()].sort(), run.goals.map((goal) => goal.name).sort(), `${name}: each goal once`);
+  const places = [...view.marks.values(), ...view.goals.values(), ...view.taken].map(({ x, y }) => `${x.toFixed(2)} ${y.toFixed(2)}`);
+  assert.equal(new Set(places).size, places.length, `${name}: two marks share a place`);
+  for (const edge of run.graph.edges) assert.ok(view.marks.get(edge.from).x < view.marks.get(edge.to).x, `${name}: ${edge.from} to ${edge.to} goes right`);
+  for (const place of [...view.marks.values(), ...view.goals.values()]) assert.ok(place.x > view.left && place.x < view.width && place.y < view.bottom, `${name}: all in sight`);
+}
+
+test("each kept step has one place, no two marks share one, and every arrow goes right", async () => {
+  const check = (name, run) => VIEWS.forEach((view) => checkPlaces(`${name} by ${view.by} in ${view.room}`, run, Lanes.layout(run, { ...view, top: 34 })));
+  check("a run with asks", askedRun());
+  await eachPlay((play, session, run) => check(play.name, run));
+});
+
+/** Reads an XML text: gives its elements, or throws where it is not well-formed. */
+function elementsOf(text) {
+  const open = [], found = [];
+  const token = /<(\/?)([a-z]+)((?:\s+[a-zA-Z0-9:-]+="[^"<]*")*)\s*(\/?)>|([^<]+)/gy;
+  while (token.lastIndex < text.length) {
+    const at = token.lastIndex, part = token.exec(text);
+    assert.ok(part, `not well-formed at ${text.slice(at, at + 80)}`);
+    const [, isEnd, name, attributes = "", isEmpty, words = ""] = part;
+    assert.ok(!/&(?!(amp|lt|gt|quot);)/.test(attributes + words), `a bare ampersand in ${part[0].slice(0, 80)}`);
+    if (isEnd) assert.equal(open.pop(), name);
+    else if (name) {
+      const values = [...attributes.matchAll(/([a-zA-Z:-]+)="([^"]*)"/g)].map(([, key, value]) => [key, value]);
+      assert.equal(new Set(values.map(([key]) => key)).size, values.length, `an attribute stands twice in ${part[0]}`);
+      found.push({ name, attributes: Object.fromEntries(values) });
+      if (!isEmpty) open.push(name);
+    }
+  }
+  assert.deepEqual(open, []);
+  return found;
+}
+
+test("the SVG of each example is well-formed, has no number that is none, and each kept step once", async () => {
+  await eachPlay((play, session, run) => {
+    for (const by of ["record", "depth"]) {
+      const { svg } = Picture.draw(run, { by, theme: by === "depth" ? "dark" : "light", title: `${play.query} & <more>`, legend: true });
+      assert.ok(!/NaN|undefined|Infinity/.test(svg), play.name);
+      const steps = elementsOf(svg).map((element) => element.attributes["data-step"]).filter(Boolean).map(Number);
+      assert.deepEqual(steps, run.graph.steps.map((step) => step.number), play.name);
+    }
+  });
+});
+
+test("an ask is a step in a lane of its own, which goes on in the last call that it made; its calls and small goals stand beside it", () => {
+  const run = askedRun(), { lanes, laneOf } = Lanes.lanesOf(run);
+  assert.deepEqual(lanes.map((lane) => lane.name), ["0.1", "2", "5", "6.1", "6"]);
+  assert.deepEqual(lanes.map((lane) => (lane.asked ? lane.asked.number : null)), [null, 2, 5, null, 6]);
+  assert.deepEqual(["2.1", "2.2", "4.1", "4.2", "6.1", "6.2"].map((goal) => laneOf.get(goal).name), ["2", "2", "2", "2", "6.1", "6"]);
+  const view = Lanes.layout(run, { by: "record", room: 1100, top: 34 });
+  assert.deepEqual(view.lanes.map((lane) => lane.text), ["append([1],[2],[1|·])", "ask append([1|·],[3],·), …", "ask true", "append([],·,·)", "ask append([],·,·), …"]);
+});
+
+test("the picture shows an ask with no goal before it, arrows from what it names in a look of their own, and says so", () => {
+  const run = askedRun(), { svg, view } = Picture.draw(run, { legend: true });
+  assert.deepEqual(elementsOf(svg).map((element) => element.attributes["data-step"]).filter(Boolean).map(Number), [1, 2, 3, 4, 5, 6]);
+  const arrows = [...svg.matchAll(/data-from="(\d+)" data-to="(\d+)"><path class="read named[ a-z]*"[^>]*marker-end="url\(#head-named\)"\/><title>([^<]*)</g)];
+  assert.deepEqual(arrows.map(([, from, to]) => `${from} ${to}`), ["1 2", "1 6", "2 6", "4 6"]);
+  assert.equal(arrows[0][3], "step 2 named _1_1, which step 1 made");
+  const [lane] = view.lanes.filter((one) => one.name === "2"), { x } = view.marks.get(2);
+  const parts = [...svg.matchAll(/<line class="lane" x1="([\d.]+)" x2="[\d.]+" y1="([\d.]+)"/g)].filter(([, , y]) => Math.abs(Number(y) - lane.y) < 0.1);
+  assert.ok(parts.length > 0 && parts.every(([, from]) => Number(from) > x - 0.1), "nothing of the lane stands before the ask");
+  assert.ok(Picture.tellStep(run, run.graph.byNumber.get(2)).startsWith("step 2: ask append(_0_1,[3],_2_1), _1_1 = [7]\n"));
+  assert.match(svg, /class="legend">.*>ask<.*>named</);
+  const without = Picture.draw({ ...run, graph: Graph.graphOf(run.graph.steps.slice(0, 1)), goals: [], shelf: [] }, { legend: true }).svg;
+  assert.doesNotMatch(without, /class="legend">.*>(ask|named)</);
+});
+
+test("a text that is no SVG is refused by this test's reader", () => {
+  assert.throws(() => elementsOf("<svg><g></svg>"));
+  assert.throws(() => elementsOf("<svg a=1></svg>"));
+  assert.throws(() => elementsOf("<svg>a & b</svg>"));
+});
+
+test("the lanes of quicksort: the partition above the two sorts that it feeds, the great numbers' sort goes on", async () => {
+  const { engine } = await engineOfPage(), [play] = plays().filter((one) => one.name === "quicksort, its query");
+  const session = engine.open(play);
+  session.lines(["step 0.1", "step 1.1"]);
+  const { lanes } = Lanes.lanesOf(runOf(session, play));
+  assert.deepEqual(lanes.map((lane) => lane.name), ["2.1", "2.2", "0.1"]);
+  assert.deepEqual(lanes[2].predicates, ["quicksort/2", "sort/3"]);
+});
+
+test("terms in few letters", () => {
+  const store = new Map([["_0_1", "[1|_1_1]"], ["_1_1", "[2,3|_2_1]"], ["_0_2", "_0_3"], ["_0_3", "f(a,b)"]]);
+  assert.equal(Terms.brief("_0_1", store), "[1,2,3|·]");
+  assert.equal(Terms.brief("_0_2", store), "f(…)");
+  assert.equal(Terms.brief("_9_9", store), "·");
+  assert.equal(Terms.briefCall("filter(_0_1,[],_5_1)", store), "filter([1,2,3|·],[],·)");
+});
+
+test("the pictures of the manuals are those that web/picture draws", () => {
+  const pictures = path.join(HERE, "..", "..", "docs", "pictures");
+  for (const [name, room] of [["quicksort", "900"], ["bill", "700"]]) {
+    const drawn = spawnSync(process.execPath, [path.join(HERE, "..", "picture"), "--room", room, path.join(pictures, `${name}.row`)], { encoding: "utf8" });
+    assert.equal(drawn.stdout, fs.readFileSync(path.join(pictures, `${name}.svg`), "utf8"), `${name}${drawn.stderr}`);
+  }
+});
+
+test("901 steps are laid out and drawn in less than half a second", async () => {
+  const { engine } = await engineOfPage(), [play] = plays().filter((one) => one.name === "primes, its query");
+  const query = "primes(80,Ps)", session = engine.open({ ...play, query });
+  session.line("leap");
+  const run = runOf(session, { ...play, query });
+  assert.equal(run.graph.steps.length, 901);
+  const took = ["record", "depth", "record"].map((by) => {
+    const start = performance.now();
+    Picture.draw(run, { by });
+    return Math.round(performance.now() - start);
+  });
+  assert.ok(Math.min(...took) < 500, `drawing took ${took} ms`); // the least: other work may be done on the machine
+});
