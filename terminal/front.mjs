@@ -2,7 +2,7 @@
 // others are the console's own, as it told them.
 import Causes from "../front/text/causes.mjs";
 import { Ended } from "../front/session/program.mjs";
-import { NotTold, Session, isRefusal } from "../front/session/session.mjs";
+import { NotTold, Session } from "../front/session/session.mjs";
 import { isNoFile } from "../front/session/files.mjs";
 import { helpLines, meaningOf, suggestionFor, usageOf } from "../front/protocol/commands.mjs";
 import * as Own from "../front/run/own.mjs";
@@ -11,6 +11,7 @@ import { whyRefused } from "../front/session/refused.mjs";
 import * as Saving from "./saving.mjs";
 import { notesAfter, plural } from "../front/run/telling.mjs";
 import * as Unsaved from "./unsaved.mjs";
+import Replies from "../front/protocol/replies.mjs";
 
 const MARK = "% ";
 const MOST_NOTES = 6; // on a program that are shown
@@ -325,7 +326,7 @@ class Front {
     if (name === undefined) return this.note(usageOf("watch"));
     const line = `show ${name}`, was = await this.session.ask(line);
     if (was[0] === "F25 command") return this.note(usageOf("watch"));
-    if (isRefusal(was)) return this.send({ name: "show", words: [name], line }, line);
+    if (Replies.isRefused(was)) return this.send({ name: "show", words: [name], line }, line);
     let now = was, last = "", taken = 0;
     for (; taken < MOST_WATCHED && !this.isInterrupted && isUnbound(now); taken += 1) {
       last = (await this.session.ask("leap 1")).at(-1);

@@ -1,24 +1,13 @@
 // Replies as objects, for programs that read JSON. Pure.
-import Graph from "../front/run/graph.mjs";
-import { isRefusal } from "../front/session/session.mjs";
-import { NO_MEMORY } from "../front/session/way_back.mjs";
+import Replies from "../front/protocol/replies.mjs";
 
 const CHANGES = new Set(["step", "leap", "skip", "in", "end", "ask", "undo", "roll", "redo", "arrange", "keep"]);
 
-/** A line of a port. */
-function port(line) {
-  const [name, second, third, ...rest] = line.split(" ");
-  if (name === "REDU") return { port: name, step: Number(second), goal: third === "-" ? null : third, act: rest.join(" ") };
-  if (name === "CALL") return { port: name, goal: second, text: line.slice(`CALL ${second} `.length) };
-  if (name === "SUSP") return { port: name, goal: second, waitsFor: third.split(",") };
-  return name === "FAIL" ? { port: name, goal: second, refusal: third } : { port: name, goal: second };
-}
-
 /** The port that a line of the reply to a change tells; `told` gets what it tells else. */
 function portOrElse(line, told) {
-  if (/^(REDU|CALL|RESU|SUSP|FAIL) /.test(line)) return port(line);
-  const [, numbers] = /^undone (.*)$/.exec(line) ?? [];
-  if (numbers !== undefined) told.undone = (told.undone ?? []).concat(numbers.split(",").map(Number));
+  const port = Replies.readPort(line), numbers = Replies.readUndone(line);
+  if (port !== null) return port;
+  if (numbers !== null) told.undone = (told.undone ?? []).concat(numbers);
   else if (line.startsWith("stopped ")) told.stopped = line.slice("stopped ".length);
   else told.told = line;
   return undefined;
@@ -40,77 +29,59 @@ function goal({ name, status, waitsFor, refusal, text }) {
   return { goal: name, status, ...(waitsFor.length > 0 && { waitsFor }), ...(refusal && { refusal }), text };
 }
 
-function cause(line) {
-  const [number, kind, variable, woke] = line.split(" ");
-  return { step: Number(number), kind, ...(variable && { variable }), ...(woke && { woke: true }) };
-}
+const cause = ({ number, kind, variable, woke }) => ({ step: number, kind, ...(variable && { variable }), ...(woke && { woke }) });
 
 const told = (reply) => (reply[0] === "none" ? [] : reply);
 
-const valueOf = (line) => ({ variable: line.slice(0, line.indexOf(" ")), value: line.slice(line.indexOf(" = ") + 3) });
-
-const OTHERS = / or ([\d,]+)$/;
-
 /** A step of an explanation, with the other clauses that could have been taken in its place. */
-function explainedStep(line, textOf) {
-  const others = OTHERS.exec(line), [record] = Graph.readRecords([line.replace(OTHERS, "")]);
-  return record && { ...step(record, textOf), ...(others && { others: others[1].split(",").map(Number) }) };
-}
+const explainedStep = (record, textOf) => ({ ...step(record, textOf), ...(record.others.length > 0 && { others: record.others }) });
 
 /** What an explanation tells: of a variable its value, of a goal its line; who could bind what is unbound; the steps, and of how many. */
 function explanation(reply, textOf) {
-  const [first] = reply, [, of] = /^steps \d+ of (\d+)$/.exec(reply.at(-1)) ?? [], [subject] = Graph.readGoals([first]);
-  const holders = reply.map((line) => /^(_\d+_\d+) in (\d+\.\d+) (.+)$/.exec(line)).filter(Boolean).map(([, variable, name, status]) => ({ variable, goal: name, status }));
-  const steps = reply.map((line) => explainedStep(line, textOf)).filter(Boolean);
-  return { ...(subject ? { goal: goal(subject) } : valueOf(first)), holders, steps, ...(of && { of: Number(of) }) };
+  const [first] = reply, of = Replies.readExtent(reply.at(-1)), [subject] = Replies.readGoals([first]);
+  const steps = reply.map(Replies.readExplained).filter(Boolean).map((record) => explainedStep(record, textOf));
+  return { ...(subject ? { goal: goal(subject) } : Replies.readValue(first)), holders: reply.map(Replies.readHolder).filter(Boolean), steps, ...(of && { of }) };
 }
 
 /** A direct dependence: the step, and what `why` tells of it. */
 function dependence(line) {
-  const [number] = line.split(" ", 1);
-  const { step: on, ...how } = cause(line.slice(number.length + 1));
-  return { step: Number(number), on, ...how };
+  const { number, cause: found } = Replies.readDependence(line), { step: on, ...how } = cause(found);
+  return { step: number, on, ...how };
 }
-
-const TAKEN = /^(\d+) (?:(\d+\.\d+) (by \d+|eq|is|end|in \S+) (.*)|- (ask .*))$/;
 
 /** The goal that a step took, as it was written then. */
-function taken(line) {
-  const [, number, name, act, text, asked] = TAKEN.exec(line);
-  return { step: Number(number), goal: name ?? null, act: act ?? asked, text: text ?? null };
-}
+const taken = ({ number, name, act, text }) => ({ step: number, goal: name, act, text });
 
 /** What a clause says to a goal. */
-function choice(line) {
-  const [number, says, variables] = line.split(" ");
-  return { clause: Number(number), says, ...(variables && { waitsFor: variables.split(",") }) };
-}
+const choice = ({ number, says, waitsFor }) => ({ clause: number, says, ...(waitsFor.length > 0 && { waitsFor }) });
+
+const binder = ({ variable, number }) => ({ variable, step: number });
 
 const REPLIES = {
-  records: (reply, textOf) => ({ steps: Graph.readRecords(reply).map((record) => step(record, textOf)) }),
-  since: (reply, textOf) => ({ steps: Graph.readRecords(reply).map((record) => step(record, textOf)) }),
-  goal: ([line]) => (TAKEN.test(line) ? taken(line) : { lines: [line] }),
-  clauses: (reply) => ({ clauses: reply.map(choice) }),
+  records: (reply, textOf) => ({ steps: Replies.readRecords(reply).map((record) => step(record, textOf)) }),
+  since: (reply, textOf) => ({ steps: Replies.readRecords(reply).map((record) => step(record, textOf)) }),
+  goal: ([line]) => { const found = Replies.readTakenGoal(line); return found === null ? { lines: [line] } : taken(found); },
+  clauses: (reply) => ({ clauses: reply.map(Replies.readChoice).filter(Boolean).map(choice) }),
   explain: explanation,
   causes: (reply) => ({ dependences: told(reply).map(dependence) }),
-  goals: (reply) => ({ goals: Graph.readGoals(reply).map(goal) }),
-  show: ([line]) => valueOf(line),
-  why: (reply) => ({ causes: told(reply).map(cause) }),
-  who: (reply) => ({ bound: told(reply).map((line) => line.split(" by ")).map(([variable, number]) => ({ variable, step: Number(number) })) }),
-  shelf: (reply) => ({ steps: Graph.readShelf(reply).map(({ number, goal: name, act }) => ({ step: number, goal: name, act })) }),
+  goals: (reply) => ({ goals: Replies.readGoals(reply).map(goal) }),
+  show: ([line]) => Replies.readValue(line),
+  why: (reply) => ({ causes: told(reply).map(Replies.readCause).map(cause) }),
+  who: (reply) => ({ bound: told(reply).map(Replies.readBinder).filter(Boolean).map(binder) }),
+  shelf: (reply) => ({ steps: Replies.readShelf(reply).map(({ number, goal: name, act }) => ({ step: number, goal: name, act })) }),
 };
 
 const firstWord = (line) => line.trim().split(/ +/)[0];
 
 /** How many lines of a listing are not there, for memory was refused for them. */
 function holesIn(reply) {
-  const { length } = reply.filter((line) => line === NO_MEMORY);
+  const { length } = reply.filter((line) => line === Replies.NO_MEMORY);
   return length > 0 && { holes: length };
 }
 
 /** The object of a line and its reply. `textOf` gives the text of a goal by its name. */
 function objectOf(line, reply, textOf) {
-  const word = firstWord(line), start = { command: line, ok: !isRefusal(reply) };
+  const word = firstWord(line), start = { command: line, ok: !Replies.isRefused(reply) };
   if (!start.ok) return { ...start, refused: reply[0] };
   if (CHANGES.has(word)) return { ...start, ...change(reply) };
   return { ...start, ...(REPLIES[word]?.(reply, textOf) ?? { lines: reply }), ...holesIn(reply) };
@@ -127,7 +98,7 @@ class ObjectText {
   /** What can be told of the first lines of a reply, or of others that come after them. */
   hear(lines) {
     if (this.isOpen) return this.ports(lines);
-    this.isOpen = CHANGES.has(firstWord(this.line)) && !isRefusal(lines);
+    this.isOpen = CHANGES.has(firstWord(this.line)) && !Replies.isRefused(lines);
     if (!this.isOpen) {
       this.parts.push(lines);
       return "";

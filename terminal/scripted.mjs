@@ -1,11 +1,10 @@
 // A session whose lines come from standard input, for scripts: replies are handed on as they come, and a status tells
 // how it went.
-import Graph from "../front/run/graph.mjs";
 import { Ended } from "../front/session/program.mjs";
 import { ScriptSession } from "../front/session/script_session.mjs";
-import { isRefusal } from "../front/session/session.mjs";
 import { isWhole } from "../front/session/way_back.mjs";
 import { readWords, isSession } from "../front/protocol/words.mjs";
+import Replies from "../front/protocol/replies.mjs";
 
 const STATUS = { done: 0, commandLine: 2, device: 3, refusedLine: 4, failed: 5, waits: 6, unfinished: 7, untold: 9 };
 
@@ -77,7 +76,7 @@ class Course {
 
   /** Learns lines of a reply: the first ones, or others. */
   learn(lines, isFirst) {
-    if (isFirst && isRefusal(lines)) this.wasRefused = true;
+    if (isFirst && Replies.isRefused(lines)) this.wasRefused = true;
     else if (!isWhole(lines)) this.hasHole = true;
   }
 }
@@ -114,13 +113,13 @@ async function statusOfGoals(session) {
   const course = new Course(), statuses = new Set();
   const learn = (lines) => {
     course.learn(lines, false);
-    Graph.readGoals(lines).forEach(({ status }) => statuses.add(status));
+    Replies.readGoals(lines).forEach(({ status }) => statuses.add(status));
   };
   const last = await session.ask("goals", async (lines) => learn(lines));
   learn(last);
   if (course.hasHole) return STATUS.untold;
   if (statuses.has("failed")) return STATUS.failed;
-  if (statuses.has("ready") || statuses.has("stream") || isRefusal(last)) return STATUS.unfinished;
+  if (statuses.has("ready") || statuses.has("stream") || Replies.isRefused(last)) return STATUS.unfinished;
   return statuses.size === 0 ? STATUS.done : STATUS.waits;
 }
 

@@ -58,7 +58,7 @@ const Answers = (() => {
   const hide = () => { find("answer").hidden = true; };
 
   /** The numbers of the steps that a reply to `who X` names, the last one first. */
-  const stepsBy = (reply) => reply.map((line) => /^\S+ by (\d+)$/.exec(line)).filter(Boolean).map(([, number]) => Number(number)).reverse();
+  const stepsBy = (reply) => reply.map(Replies.readBinder).filter(Boolean).map(({ number }) => number).reverse();
 
   /** Lights the step that a line asked about, or the steps that bound a variable. */
   function light(entry) {

@@ -4,6 +4,7 @@ import Terms from "../front/run/terms.mjs";
 import Compare from "../front/run/compare.mjs";
 import Picture from "./picture.mjs";
 import Talk from "./talk.mjs";
+import Replies from "../front/protocol/replies.mjs";
 
 const Beside = (() => {
   const { find, make, goTo } = Elements;
@@ -88,9 +89,9 @@ const Beside = (() => {
     const drops = make("button", { class: "small", id: "drop-run" }, "Drop it");
     if (!isComparable()) return [`Above is the run that you kept. This one has more than ${MOST_STEPS} steps: too many to be compared. `, drops];
     const { pairs, alone, otherAlone, first, instead } = told(), step = first === null ? null : beside.kept.graph.byNumber.get(first);
-    const words = first === null ? "" : ` The first that differs: step ${first} above (${Graph.wordsOf(step)})`;
+    const words = first === null ? "" : ` The first that differs: step ${first} above (${Replies.wordsOf(step)})`;
     return [`Above is the run that you kept. ${plural(pairs.size, "step")} in both, ${alone} in that one alone, ${otherAlone} in this one (ringed).${words}`,
-      ...(instead === null ? [] : [", here step ", goTo(instead), ` (${Graph.wordsOf(Talk.run.graph.byNumber.get(instead))})`]), first === null ? "" : ".", " ",
+      ...(instead === null ? [] : [", here step ", goTo(instead), ` (${Replies.wordsOf(Talk.run.graph.byNumber.get(instead))})`]), first === null ? "" : ".", " ",
       make("button", { class: "small", id: "swap-runs" }, "Swap"), " ", drops];
   }
 

@@ -8,6 +8,7 @@ import Graph from "../front/run/graph.mjs";
 import Picture from "./picture.mjs";
 import SessionText from "../front/protocol/session_text.mjs";
 import { engineOfPage } from "../front/session/engine_of_page.mjs";
+import Replies from "../front/protocol/replies.mjs";
 
 const HERE = path.dirname(fileURLToPath(import.meta.url));
 
@@ -42,10 +43,10 @@ async function main() {
   const session = engine.open({ program: play.program, query: play.query, history: play.history || undefined });
   if (session.refused) stop(session.start.trim());
   session.lines(play.lines);
-  const told = Asking.whereItStands(session, play.query), steps = Graph.readRecords(told.records), goals = Graph.readGoals(told.goals);
+  const told = Asking.whereItStands(session, play.query), steps = Replies.readRecords(told.records), goals = Replies.readGoals(told.goals);
   const texts = new Map(goals.map((goal) => [goal.name, goal.text]));
   Asking.completeTexts(texts, steps, session);
-  const run = { graph: Graph.graphOf(steps), goals, shelf: Graph.readShelf(told.shelf), texts, clauses: Graph.readClauses(play.program) };
+  const run = { graph: Graph.graphOf(steps), goals, shelf: Replies.readShelf(told.shelf), texts, clauses: Graph.readClauses(play.program) };
   const room = given.room === undefined ? 1100 : Number(given.room);
   const { svg } = Picture.draw(run, { by: given.by, theme: given.theme, room, title: given.title === undefined ? play.query : given.title, legend: true });
   process.stdout.write(`${svg}\n`);

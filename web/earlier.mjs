@@ -14,7 +14,7 @@ const Earlier = (() => {
     if (run !== Talk.run || version !== run.version) return undefined;
     if (goals === null) return null;
     const goalsRefused = Replies.isRefusal(goals[0]) ? goals[0] : "";
-    return { ...run, graph: Graph.partOf(graph, 0, count), goals: Graph.readGoals(goals), goalsRefused, shelf: [] };
+    return { ...run, graph: Graph.partOf(graph, 0, count), goals: Replies.readGoals(goals), goalsRefused, shelf: [] };
   }
 
   return { after };

@@ -1,4 +1,6 @@
 // Makes elements of the page in few words.
+import Replies from "../front/protocol/replies.mjs";
+
 const Elements = (() => {
   const find = (name) => document.getElementById(name);
 
@@ -23,19 +25,14 @@ const Elements = (() => {
   /** A number of a step as a link: a click chooses that step, and brings it into sight. */
   const goTo = (number, words = String(number)) => make("button", { class: "link", type: "button", "data-goto": number, title: `goes to step ${number}` }, words);
 
-  const STEP_IN_LINE = [/^()(\d+)( (?:made|read|named)\b.*)$/, /^(\S+ by )(\d+)()$/, /^(REDU )(\d+)( .*)$/, /^(F17 step )(\d+)( .*)$/, /^()(\d+)( (?:\d+\.\d+|-) .*)$/];
-
-  const GOAL_IN_LINE = [/^(_\d+_\d+ in )(\d+\.\d+)( .*)$/, /^()(\d+\.\d+)( (?:ready|waits|failed|stream) .*)$/, /^((?:CALL|RESU|SUSP|FAIL|stopped spied) )(\d+\.\d+)(.*)$/];
-
   /** The name of a goal as a link: a click chooses that goal, and opens what can be done with it. */
   const goToGoal = (name) => make("button", { class: "link", type: "button", "data-go-goal": name, title: `goes to goal ${name}` }, name);
 
   /** A line of a reply, with the number of its step, or the name of its goal, as a link. */
   function linkedLine(line) {
-    const step = STEP_IN_LINE.map((form) => form.exec(line)).find(Boolean), goal = step ? null : GOAL_IN_LINE.map((form) => form.exec(line)).find(Boolean);
-    if (!step && !goal) return [line];
-    const [, before, name, behind] = step || goal;
-    return [before, step ? goTo(Number(name), name) : goToGoal(name), behind].filter((part) => part !== "");
+    const named = Replies.namedIn(line);
+    if (named === null) return [line];
+    return [named.before, named.step === undefined ? goToGoal(named.goal) : goTo(named.step), named.after].filter((part) => part !== "");
   }
 
   /** The lines of a reply, as one text with links. */

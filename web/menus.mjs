@@ -1,5 +1,4 @@
 // The small windows that open at a step, a goal, a variable, a step that was taken back, or to ask for goals: what can be done there.
-import Graph from "../front/run/graph.mjs";
 import Terms from "../front/run/terms.mjs";
 import Stuck from "../front/run/stuck.mjs";
 import Talk from "./talk.mjs";
@@ -7,6 +6,8 @@ import Overview from "./overview.mjs";
 import Beside from "./beside.mjs";
 import Canvas from "./canvas.mjs";
 import Resting from "./resting.mjs";
+import Printed from "../front/text/printed.mjs";
+import Replies from "../front/protocol/replies.mjs";
 
 const Menus = (() => {
   const { find, make, lineButton, goToGoal } = Elements;
@@ -53,14 +54,13 @@ const Menus = (() => {
 
   /** What a clause says, in words: nothing where it says yes, or the console has not told it yet. */
   function wordsOfClause(told) {
-    if (told === undefined || told === "yes") return null;
-    const waits = told.replace("waits", "waits for").replace(/,/g, ", ");
-    return make("span", { class: "dim" }, told === "no" ? " says no" : ` ${waits}`);
+    if (told === undefined || told.says === "yes") return null;
+    return make("span", { class: "dim" }, told.says === "no" ? " says no" : ` waits for ${told.waitsFor.join(", ")}`);
   }
 
   /** A button for a clause. One that says yes can be clicked: `does` gives what it does then, as attributes. */
   function clauseButton({ clause, number }, told, does) {
-    const how = told === "yes" ? does(number) : { disabled: true };
+    const how = told?.says === "yes" ? does(number) : { disabled: true };
     return make("button", { class: "clause", ...how }, `by ${number}:  ${clause.text}`, wordsOfClause(told));
   }
 
@@ -76,10 +76,9 @@ const Menus = (() => {
     fill(clauses.map((one) => [one, undefined]));
     asked.then((reply) => {
       if (reply === null || !area.isConnected) return;
-      const lines = reply.map((line) => /^(\d+) (.*)$/.exec(line)).filter(Boolean);
-      const says = new Map(lines.map(([, number, told]) => [Number(number), told]));
-      const rank = ([, told = "no"]) => RANKS.indexOf(told.split(" ")[0]);
-      fill(clauses.map((one) => [one, says.get(one.number)]).sort((one, other) => rank(one) - rank(other)));
+      const choices = new Map(reply.map(Replies.readChoice).filter(Boolean).map((choice) => [choice.number, choice]));
+      const rank = ([, told]) => RANKS.indexOf(told?.says ?? "no");
+      fill(clauses.map((one) => [one, choices.get(one.number)]).sort((one, other) => rank(one) - rank(other)));
       Guide.pointAgain();
     });
     return area;
@@ -121,7 +120,7 @@ const Menus = (() => {
   }
 
   function spyButton(goal) {
-    const predicate = Graph.predicateOf(goal.text);
+    const predicate = Printed.predicateOf(goal.text);
     return Talk.spied.has(predicate) ? lineButton(`Do not spy ${predicate}`, `nospy ${predicate}`) : lineButton(`Spy ${predicate}`, `spy ${predicate}`);
   }
 
@@ -152,7 +151,7 @@ const Menus = (() => {
   function clausesToChoose(goal) {
     const does = (number) => ({ "data-line": `step ${goal.name} ${number}`, title: `step ${goal.name} ${number}` });
     const asked = Talk.ask(`clauses ${goal.name}`).then((told) => told && told.reply);
-    return clauseButtons(clausesOf(Graph.predicateOf(goal.text)), asked, does);
+    return clauseButtons(clausesOf(Printed.predicateOf(goal.text)), asked, does);
   }
 
   /** The menu of a goal at an earlier time, where nothing can be done with it. */

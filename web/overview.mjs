@@ -3,6 +3,7 @@ import Graph from "../front/run/graph.mjs";
 import Lanes from "../front/run/lanes.mjs";
 import Picture from "./picture.mjs";
 import Talk from "./talk.mjs";
+import Printed from "../front/text/printed.mjs";
 
 const Overview = (() => {
   const { find } = Elements;
@@ -37,7 +38,7 @@ const Overview = (() => {
     const add = (name, consumer) => {
       if (consumer !== undefined && consumer !== Graph.NONE && consumer < steps) return;
       const text = texts.get(name) || (now.get(name) || { text: "" }).text;
-      there.push({ name, status: "then", waitsFor: [], refusal: "", text, sort: Graph.sortOfText(text) });
+      there.push({ name, status: "then", waitsFor: [], refusal: "", text, sort: Printed.sortOfText(text) });
     };
     for (const place of Lanes.queryPlaces(run())) add(`0.${place}`, graph.consumerAt(0, place));
     for (let index = Math.max(0, steps - MOST_SIZE); index < steps; index++) {

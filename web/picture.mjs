@@ -1,7 +1,7 @@
 // Draws a run that was put into lanes, as the text of an SVG. Pure functions.
-import Graph from "../front/run/graph.mjs";
 import Lanes from "../front/run/lanes.mjs";
 import Terms from "../front/run/terms.mjs";
+import Replies from "../front/protocol/replies.mjs";
 
 const Picture = (() => {
   const LIGHT = {
@@ -218,7 +218,7 @@ const Picture = (() => {
 
   /** What is said of a step where one points at it. */
   function tellStep(run, step) {
-    const lines = [`step ${step.number}: ${Graph.wordsOf(step)}`];
+    const lines = [`step ${step.number}: ${Replies.wordsOf(step)}`];
     if (run.texts.has(step.goal)) lines.push(Terms.cut(run.texts.get(step.goal), 300));
     if (step.clause && run.clauses[step.clause - 1]) lines.push(run.clauses[step.clause - 1].text);
     for (const binding of step.binds) lines.push(`binds ${binding.variable} = ${Terms.cut(binding.term, 200)}`);
@@ -341,7 +341,7 @@ const Picture = (() => {
 
   function drawTaken(view, place, theme) {
     const { step, x, y } = place, radius = round(view.sizes.radius * 0.9);
-    return `<g class="taken" data-taken="${step.number}"><circle class="halo" cx="${round(x)}" cy="${round(y)}" r="${radius + 3}"/><circle class="body" cx="${round(x)}" cy="${round(y)}" r="${radius}" fill="${theme.ground}" stroke="${theme.taken}" stroke-width="1.5" stroke-dasharray="3 2"/>${view.sizes.kind === "tiny" ? "" : `<text x="${round(x)}" y="${round(y + 3)}" font-size="${round(view.sizes.radius * 0.85)}" text-anchor="middle" fill="${theme.dim}" pointer-events="none">${step.number}</text>`}<title>${escaped(`taken back: step ${step.number}, ${Graph.wordsOf(step)}`)}</title></g>`;
+    return `<g class="taken" data-taken="${step.number}"><circle class="halo" cx="${round(x)}" cy="${round(y)}" r="${radius + 3}"/><circle class="body" cx="${round(x)}" cy="${round(y)}" r="${radius}" fill="${theme.ground}" stroke="${theme.taken}" stroke-width="1.5" stroke-dasharray="3 2"/>${view.sizes.kind === "tiny" ? "" : `<text x="${round(x)}" y="${round(y + 3)}" font-size="${round(view.sizes.radius * 0.85)}" text-anchor="middle" fill="${theme.dim}" pointer-events="none">${step.number}</text>`}<title>${escaped(`taken back: step ${step.number}, ${Replies.wordsOf(step)}`)}</title></g>`;
   }
 
   /** The arc from a waiting goal to a goal that has its variable. */

@@ -13,8 +13,9 @@ import Setting from "./setting.mjs";
 import Stepping from "./stepping.mjs";
 import { clauseTaken } from "./told.mjs";
 import { Ended } from "../../front/session/program.mjs";
-import { NotTold, isRefusal } from "../../front/session/session.mjs";
+import { NotTold } from "../../front/session/session.mjs";
 import { notesAfter } from "../../front/run/telling.mjs";
+import Replies from "../../front/protocol/replies.mjs";
 
 const MOST_THREAD_EVENTS = 200; // of one stop; an editor asks for all threads in any case
 
@@ -174,7 +175,7 @@ class Adapter {
   /** Sends a line that changes the session; where it is refused, the request is. */
   async change(line, words = line.split(" ").slice(1)) {
     const reply = await this.session.ask(line);
-    if (isRefusal(reply)) throw new Refused([reply[0], ...await notesAfter(this.session, { name: line.split(" ")[0], words, line }, reply)].join("\n"));
+    if (Replies.isRefused(reply)) throw new Refused([reply[0], ...await notesAfter(this.session, { name: line.split(" ")[0], words, line }, reply)].join("\n"));
     this.tell(reply);
     return reply;
   }

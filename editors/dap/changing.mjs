@@ -1,10 +1,10 @@
 // Requests that change a session otherwise than by a step of a process: lines of the console, values given by hand, undo, roll, redo.
-import { isRefusal } from "../../front/session/session.mjs";
 import { notesAfter } from "../../front/run/telling.mjs";
 import { suggestionFor, NAMES } from "../../front/protocol/commands.mjs";
 import { termOf } from "./options.mjs";
 import { goalsMade } from "./told.mjs";
 import { refused } from "./refused.mjs";
+import Replies from "../../front/protocol/replies.mjs";
 
 const NO_VALUE = ": a value is one term, as 3, red or [1,2]; nothing is computed";
 
@@ -18,7 +18,7 @@ export default {
 
   /** A reply of the console with what is to be added; `before` is the number of changes before the line. */
   async answered(line, word, reply, before) {
-    if (!isRefusal(reply)) {
+    if (!Replies.isRefused(reply)) {
       if (this.session.kept.changes !== before) this.later(() => this.stoppedAnew(line));
       return reply;
     }
@@ -41,8 +41,8 @@ export default {
     if (termOf(value) === undefined) throw refused(`${value}${NO_VALUE}`);
     const asked = await this.change(`ask ${end.variable} = ${value}`), [goal] = goalsMade(asked);
     const reply = await this.session.ask(`step ${goal}`);
-    if (isRefusal(reply)) {
-      await this.session.ask(`undo ${/^REDU (\d+)/.exec(asked[0])[1]}`);
+    if (Replies.isRefused(reply)) {
+      await this.session.ask(`undo ${Replies.readTaken(asked[0]).number}`);
       throw refused(reply[0]);
     }
     this.tell(reply);

@@ -1,8 +1,8 @@
 // Runs: forwards in slices, so that a pause is heard between two of them, and backwards to a breakpoint.
 import Stuck from "../../front/run/stuck.mjs";
 import { Ended } from "../../front/session/program.mjs";
-import { isRefusal } from "../../front/session/session.mjs";
 import { plural } from "../../front/run/telling.mjs";
+import Replies from "../../front/protocol/replies.mjs";
 
 const MOST_TOLD = 200; // steps of a run that it tells in the editor's console
 
@@ -75,7 +75,7 @@ export default {
     if (hit !== undefined) return [hit.kind === "predicate" ? "function breakpoint" : "breakpoint", `${name} ${this.session.run.textOf(name)}`, { thread, hit }];
     const reply = await this.session.ask(`step ${name}`);
     this.tell(reply.filter((line) => line.startsWith("REDU ")));
-    return isRefusal(reply) ? ["pause", reply[0], { thread }] : undefined;
+    return Replies.isRefused(reply) ? ["pause", reply[0], { thread }] : undefined;
   },
 
   async atEnd(reason, name) {
@@ -108,7 +108,7 @@ export default {
       try {
         const reply = await this.session.ask(`skip ${name}`);
         this.tellRun(reply, 0);
-        return isRefusal(reply) ? ["pause", reply[0], { thread }] : ["step", reply.at(-1), { thread }];
+        return Replies.isRefused(reply) ? ["pause", reply[0], { thread }] : ["step", reply.at(-1), { thread }];
       } catch (error) {
         if (!(error instanceof Ended) || this.ending === undefined) throw error;
         await this.ending;

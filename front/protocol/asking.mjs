@@ -1,4 +1,5 @@
 // Asks a session all that the page and the picture show: record, goals, what was taken back, values, and the texts of goals.
+import Replies from "./replies.mjs";
 import Short from "./short.mjs";
 
 const Asking = (() => {
@@ -35,16 +36,13 @@ const Asking = (() => {
   /** Adds to `texts` what CALL lines tell: the text of each goal, by its name. */
   function addCalls(texts, lines) {
     for (const line of lines) {
-      const found = /^CALL (\d+\.\d+) (.*)$/.exec(line);
-      if (found) texts.set(found[1], Short.term(found[2]));
+      const call = Replies.readCall(line);
+      if (call !== null) texts.set(call.name, Short.term(call.text));
     }
   }
 
-  /** The text of the goal that a step took, in the reply to `goal N`: what follows the step's number, the goal's name and the act. */
-  function textOfGoal([line], { number, goal, act }) {
-    const before = `${number} ${goal} ${act} `;
-    return line.startsWith(before) ? line.slice(before.length) : undefined;
-  }
+  /** The text of the goal that a step took, in the reply to `goal N`. */
+  const textOfGoal = ([line]) => Replies.readTakenGoal(line)?.text ?? undefined;
 
   /** Completes the texts of the goals that steps took: as they were written then. False where they are so long that some are not asked for. */
   function completeTexts(texts, steps, session) {
@@ -59,8 +57,6 @@ const Asking = (() => {
     return true;
   }
 
-  const OF_SLICE = /^(\d+) (?:\d+\.\d+|-) .* makes \S+?(?: or ([\d,]+))?$/;
-
   /**
    * What a reply to `explain` tells: the lines in front of its steps, the steps' numbers, the other clauses by which some of them could go
    * (pairs of a number and clauses), and its last line.
@@ -68,10 +64,10 @@ const Asking = (() => {
   function sliceIn(lines) {
     const head = [], numbers = [], others = [];
     for (const line of lines) {
-      const found = OF_SLICE.exec(line);
-      if (found) numbers.push(Number(found[1]));
+      const step = Replies.readExplained(line);
+      if (step !== null) numbers.push(step.number);
       else if (numbers.length === 0) head.push(line);
-      if (found && found[2]) others.push([Number(found[1]), found[2].split(",").map(Number)]);
+      if (step !== null && step.others.length > 0) others.push([step.number, step.others]);
     }
     return { head, numbers: Float64Array.from(numbers), others, last: lines[lines.length - 1] || "" };
   }

@@ -1,4 +1,6 @@
 // Shortens terms that are too long to be shown, before the worker hands them over: `…` stands for what is left out. Pure.
+import Replies from "./replies.mjs";
+
 const Short = (() => {
   const MOST = 20000; // letters of a term, a goal or a binding
   const LINE_END = 10;
@@ -24,24 +26,13 @@ const Short = (() => {
     return `${isRest ? `${text.slice(0, end - 1)}|` : text.slice(0, end)}…${open.reverse().map((bracket) => CLOSING[bracket]).join("")}`;
   }
 
-  function binding(text, most) {
-    const sign = text.indexOf("=") + 1;
-    return text.slice(0, sign) + term(text.slice(sign), most);
-  }
-
   /** A line of `records`, with the terms that its step bound shortened. */
-  function record(line, most = MOST) {
-    const makes = line.lastIndexOf(" makes "), binds = line.lastIndexOf(" binds ", makes - 1) + 7;
-    if (line.length <= most || binds < 7) return line;
-    return line.slice(0, binds) + line.slice(binds, makes).split(";").map((one) => binding(one, most)).join(";") + line.slice(makes);
-  }
-
-  const BEFORE_GOAL = /^(?:CALL )?\d+\.\d+ (?:ready |waits \S+ |failed \S+ |stream )?/;
+  const record = (line, most = MOST) => (line.length <= most ? line : Replies.withTerms(line, (bound) => term(bound, most)));
 
   /** A line of `goals`, or one that tells a goal, with its goal shortened. */
   function goal(line, most = MOST) {
     if (line.length <= most) return line;
-    const before = (BEFORE_GOAL.exec(line) || [""])[0];
+    const before = Replies.beforeGoal(line);
     return before + term(line.slice(before.length), most);
   }
 

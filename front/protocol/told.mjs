@@ -1,6 +1,8 @@
 // The record as a console has told it: its bytes, a line for each step, which are added to, cut, or compared with the whole record. Pure.
+import Replies from "./replies.mjs";
+
 const Told = (() => {
-  const LINE_END = 10, SPACE = 32, FIRST_DIGIT = 48, LAST_DIGIT = 57;
+  const LINE_END = 10;
   const LEAST_ROOM = 4096; // bytes
 
   /** How many bytes two texts have in common at their beginning. */
@@ -20,14 +22,7 @@ const Told = (() => {
   }
 
   /** A record that is empty or refused has no line of a step. */
-  const stepsOf = (reply) => (reply.length > 0 && reply[0] >= FIRST_DIGIT && reply[0] <= LAST_DIGIT ? reply : reply.subarray(0, 0));
-
-  /** The number with which a line begins that stands at a place. */
-  function numberAt(bytes, place) {
-    let number = 0;
-    for (let at = place; bytes[at] !== SPACE && at < bytes.length; at++) number = number * 10 + bytes[at] - FIRST_DIGIT;
-    return number;
-  }
+  const stepsOf = (reply) => (Replies.beginsWithStep(reply) ? reply : reply.subarray(0, 0));
 
   class Told {
     constructor() {
@@ -47,7 +42,7 @@ const Told = (() => {
 
     /** The number of the last step; null where there is none. */
     get lastNumber() {
-      return this.length === 0 ? null : numberAt(this.room, this.lastLine);
+      return this.length === 0 ? null : Replies.numberAt(this.room, this.lastLine);
     }
 
     add(lines) {
@@ -99,7 +94,7 @@ const Told = (() => {
       let to = 0;
       for (let at = 0, end = 0; at < this.length; at = end) {
         end = room.indexOf(LINE_END, at) + 1;
-        if (left.size > 0 && left.delete(numberAt(room, at))) {
+        if (left.size > 0 && left.delete(Replies.numberAt(room, at))) {
           this.count -= 1;
           continue;
         }

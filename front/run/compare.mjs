@@ -1,5 +1,4 @@
 // Pairs the steps of two runs of one program and query: two steps are the same where their goals are, and both did the same with them. Pure.
-import Graph from "./graph.mjs";
 
 const Compare = (() => {
   /** Numbers for texts, the same number for the same text. */

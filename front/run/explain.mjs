@@ -1,8 +1,8 @@
 // Says where a value comes from: which step gave each part of a term, and why a goal has failed. Pure functions.
-import Graph from "./graph.mjs";
 import Terms from "./terms.mjs";
 import Reader from "../text/reader.mjs";
 import Run from "./run.mjs";
+import Printed from "../text/printed.mjs";
 
 const Explain = (() => {
   const VARIABLE = /^_\d+_\d+$/;
@@ -13,18 +13,18 @@ const Explain = (() => {
   /** The arguments of a term as it is written, a list being a cell with a head and a rest; none of what has no arguments. */
   function argumentsOf(term) {
     if (term.startsWith("[") && term !== "[]") {
-      const [heads, rest] = Graph.splitOutside(term.slice(1, -1), "|"), [head, ...others] = Graph.splitOutside(heads, ",");
+      const [heads, rest] = Printed.splitOutside(term.slice(1, -1), "|"), [head, ...others] = Printed.splitOutside(heads, ",");
       const end = rest === undefined ? "[]" : rest;
       return [head, others.length > 0 ? `[${others.join(",")}${rest === undefined ? "" : `|${rest}`}]` : end];
     }
     const open = term.indexOf("(");
-    return open < 0 ? [] : Graph.splitOutside(term.slice(open + 1, -1), ",");
+    return open < 0 ? [] : Printed.splitOutside(term.slice(open + 1, -1), ",");
   }
 
   /** What a term has outside its arguments: `f/2`, `./2` of a list's cell, or the term itself. */
   function functorOf(term) {
     if (term.startsWith("[") && term !== "[]") return "./2";
-    return argumentsOf(term).length > 0 ? Graph.predicateOf(term) : term;
+    return argumentsOf(term).length > 0 ? Printed.predicateOf(term) : term;
   }
 
   /** Follows a chain of bindings, and notes each step on it. */
@@ -67,7 +67,7 @@ const Explain = (() => {
 
   /** The bindings that a text used, as far as it was written: each with the step that made it. */
   function bindersOf(graph, text) {
-    const found = [], left = Graph.variablesIn(text);
+    const found = [], left = Printed.variablesIn(text);
     while (left.length > 0 && found.length < MOST_BINDERS) {
       const variable = left.shift(), step = graph.binderOf(variable);
       if (step === undefined) continue;
@@ -92,7 +92,7 @@ const Explain = (() => {
     const code = (text) => `\`${Terms.cut(text, 60)}\``, written = writtenText(run, goal.name);
     const [left, right] = goal.text.split(" = "), clash = goal.sort === "unification" ? clashOf(left, right) : null;
     const words = {
-      F10: () => `no clause of ${code(Graph.predicateOf(goal.text))} says yes to ${code(goal.text)} (F10)`,
+      F10: () => `no clause of ${code(Printed.predicateOf(goal.text))} says yes to ${code(goal.text)} (F10)`,
       F11: () => (clash ? `${code(clash[0])} and ${code(clash[1])} are two different things (F11, a clash)` : `${code(goal.text)} has another value already (F11, a clash)`),
       F12: () => `${code(goal.text)} would make a term that holds itself (F12)`,
       F13: () => `${code(goal.text)} has no value (F13)`,

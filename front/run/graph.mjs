@@ -1,114 +1,9 @@
-// Reads what ghcdb's console tells of a run, and makes the graph of its steps: who made, read, woke and named what. Pure functions.
+// The graph of a run's steps, as the console's records tell them: who made, read, woke and named what. Pure functions.
+import Replies from "../protocol/replies.mjs";
+import Printed from "../text/printed.mjs";
+
 const Graph = (() => {
-  /** The parts of a text between the marks that stand outside all brackets. */
-  function splitOutside(text, mark) {
-    const parts = [];
-    let depth = 0, start = 0;
-    for (let at = 0; at < text.length; at++) {
-      const letter = text[at];
-      if (letter === "(" || letter === "[") depth++;
-      if (letter === ")" || letter === "]") depth--;
-      if (letter !== mark || depth !== 0) continue;
-      parts.push(text.slice(start, at));
-      start = at + 1;
-    }
-    parts.push(text.slice(start));
-    return parts;
-  }
-
-  const listed = (text) => (text === "-" ? [] : text.indexOf(",") < 0 ? [text] : text.split(","));
-
-  function readBinding(text) {
-    const sign = text.indexOf("=");
-    return { variable: text.slice(0, sign), term: text.slice(sign + 1) };
-  }
-
-  const VARIABLE = /\b_(\d+)_(\d+)\b/g;
-
-  /** The variables that stand in a text, each once, by first occurrence. */
-  const variablesIn = (text) => [...new Set(text.match(VARIABLE) || [])];
-
-  const numbersOf = (variable) => variable.slice(1).split("_").map(Number);
-  const byNumbers = (one, other) => {
-    const [step, place] = numbersOf(one), [otherStep, otherPlace] = numbersOf(other);
-    return step - otherStep || place - otherPlace;
-  };
-
-  const ACTS = { eq: "unify", is: "assign", end: "close" };
-
-  /** What an act does: `reduce`, `unify`, `assign`, `input`, `close` or `ask`; none where it is no act. */
-  function kindOf(act) {
-    if (ACTS[act] !== undefined) return ACTS[act];
-    if (/^by \d+$/.test(act)) return "reduce";
-    return act.startsWith("in ") ? "input" : act.startsWith("ask ") ? "ask" : undefined;
-  }
-
-  /** The variables that an act of the step of a number names, the least first: those of an ask that are not its own. */
-  function namesIn(act, number) {
-    if (!act.startsWith("ask ")) return [];
-    return variablesIn(act).filter((variable) => numbersOf(variable)[0] !== number).sort(byNumbers);
-  }
-
-  const NONE_AT_ALL = Object.freeze([]);
-
-  /** A step as its line tells it, of the number, the goal and the act; null where that is no step. An ask consumes no goal: its `goal` is null. */
-  function readStep(number, goal, act) {
-    const kind = kindOf(act);
-    if (kind === undefined || !/^\d+$/.test(number) || !/^(\d+\.\d+|-)$/.test(goal)) return null;
-    return { number: Number(number), goal: goal === "-" ? null : goal, act, kind, clause: kind === "reduce" ? Number(act.slice(3)) : null };
-  }
-
-  /** A step of a line such as `3 0.1 by 2 reads _0_1 binds - makes 3.1,3.2`, read from its end, since an act can hold these words. */
-  function readRecord(line) {
-    const makes = line.lastIndexOf(" makes "), binds = line.lastIndexOf(" binds ", makes - 1), reads = line.lastIndexOf(" reads ", binds - 1);
-    const first = line.indexOf(" "), second = line.indexOf(" ", first + 1);
-    if (second < 0 || second >= reads || reads < 0) return null;
-    const step = readStep(line.slice(0, first), line.slice(first + 1, second), line.slice(second + 1, reads));
-    if (step === null) return null;
-    const bound = line.slice(binds + 7, makes);
-    step.names = step.kind === "ask" ? namesIn(step.act, step.number) : NONE_AT_ALL;
-    step.reads = listed(line.slice(reads + 7, binds));
-    step.binds = bound === "-" ? NONE_AT_ALL : bound.indexOf(";") < 0 ? [readBinding(bound)] : splitOutside(bound, ";").map(readBinding);
-    step.makes = listed(line.slice(makes + 7));
-    return step;
-  }
-
-  /** The steps of the reply to `records`, in recorded order. */
-  const readRecords = (lines) => lines.map(readRecord).filter(Boolean);
-
-  /** The steps of the reply to `shelf`. */
-  const readShelf = (lines) => lines.map((line) => /^(\d+) (\S+) (.+)$/.exec(line)).filter(Boolean)
-    .map(([, number, goal, act]) => readStep(number, goal, act)).filter(Boolean);
-
-  /** What a step consumes and does, in words: `goal 1.1 by 2`, or the act alone where it consumes no goal. */
-  const wordsOf = (step) => (step.goal === null ? step.act : `goal ${step.goal} ${step.act}`);
-
-  /** What a goal's text is: `stream`, `assignment`, `unification` or `call`. */
-  function sortOfText(text) {
-    if (/^instream \d+ /.test(text)) return "stream";
-    if (text.includes(" := ")) return "assignment";
-    return text.includes(" = ") ? "unification" : "call";
-  }
-
-  /** The predicate of a call, as `append/3`. */
-  function predicateOf(call) {
-    const open = call.indexOf("(");
-    if (open < 0) return `${call}/0`;
-    return `${call.slice(0, open)}/${splitOutside(call.slice(open + 1, -1), ",").length}`;
-  }
-
-  function readGoal(line) {
-    const found = /^(\d+\.\d+) (ready|waits (\S+)|failed (\S+)|stream) (.*)$/.exec(line);
-    if (!found) return null;
-    const [, name, status, waitsFor, refusal, text] = found;
-    return {
-      name, status: status.split(" ")[0], waitsFor: waitsFor ? waitsFor.split(",") : [],
-      refusal: refusal || "", text, sort: sortOfText(text),
-    };
-  }
-
-  /** The goals of the reply to `goals`. */
-  const readGoals = (lines) => lines.map(readGoal).filter(Boolean);
+  const { numbersOf, nameParts, predicateOf } = Printed, { readRecord } = Replies;
 
   /** The clauses of a program text, with their first and last lines: a full stop ends a clause, and stands nowhere else but in comments. */
   function readClauses(program) {
@@ -234,12 +129,6 @@ const Graph = (() => {
       }
       return this.map.get(index);
     }
-  }
-
-  /** A goal's name as the number of the step that made it and the place among the goals that it made. */
-  function nameParts(goal) {
-    const point = goal.indexOf(".");
-    return [Number(goal.slice(0, point)), Number(goal.slice(point + 1))];
   }
 
   /** A variable as a key: a number where its place allows that. Another term is its own key. */
@@ -656,8 +545,7 @@ const Graph = (() => {
   }
 
   return {
-    splitOutside, variablesIn, wordsOf, readRecords, readShelf, readGoals, readClauses, predicateOf, sortOfText, graphOf, partOf, MADE, READ, NAMED, WOKE,
-    allCauses, allEffects, whyLines, tidyOrder, RunGraph, causesReached, effectsReached, nameParts, readRecord, NONE,
+    readClauses, graphOf, partOf, MADE, READ, NAMED, WOKE, allCauses, allEffects, whyLines, tidyOrder, RunGraph, causesReached, effectsReached, NONE,
   };
 })();
 

@@ -2,21 +2,15 @@
 import Replies from "../protocol/replies.mjs";
 
 const Kept = (() => {
-  const TAKEN = /^REDU (\d+) (\d+\.\d+|-) (.+)$/;
-  const RECORDED = /^(\d+) (\d+\.\d+|-) (.+) reads \S+ binds \S+ makes \S+$/;
-  const UNDONE = /^undone ([\d,]+)$/;
-  const CALL = /^CALL (\d+\.\d+) (.*)$/;
   const READING = new Set(["goals", "show", "records", "shelf", "save", "why", "who", "spy", "nospy", "explain", "goal", "clauses", "since", "causes"]); // all others may change it
-
-  function stepOf([, number, goal, act]) {
-    const clause = /^by (\d+)$/.exec(act);
-    return { number: Number(number), goal: goal === "-" ? null : goal, act, clause: clause === null ? null : Number(clause[1]) };
-  }
 
   const firstWord = (line) => line.trim().split(/ +/)[0];
 
   /** May a line change which steps are kept? */
   const mayChange = (line) => !READING.has(firstWord(line));
+
+  /** A step without what it read, bound and made. */
+  const withoutTerms = ({ number, goal, act, kind, clause }) => ({ number, goal, act, kind, clause });
 
   class Kept {
     constructor() {
@@ -45,25 +39,25 @@ const Kept = (() => {
       this.steps.clear();
       this.takers.clear();
       for (const line of records) {
-        const found = RECORDED.exec(line);
-        if (found !== null) this.add(stepOf(found));
+        const step = Replies.readRecord(line);
+        if (step !== null) this.add(withoutTerms(step));
       }
     }
 
     /** Learns what the reply to a line tells. */
     learn(line, reply) {
-      if (!mayChange(line) || Replies.isRefusal(reply[0])) return;
+      if (!mayChange(line) || Replies.isRefused(reply)) return;
       this.changes += 1;
       if (reply[0] === "arranged") this.arrange(line.trim().split(/ +/).slice(1).map(Number));
       for (const told of reply) this.learnLine(told);
     }
 
     learnLine(told) {
-      const taken = TAKEN.exec(told);
-      if (taken !== null) return this.add(stepOf(taken));
-      const undone = UNDONE.exec(told), call = CALL.exec(told);
-      if (undone !== null) for (const number of undone[1].split(",")) this.remove(Number(number));
-      if (call !== null) this.texts.set(call[1], call[2]);
+      const taken = Replies.readTaken(told);
+      if (taken !== null) return this.add(taken);
+      const undone = Replies.readUndone(told), call = Replies.readCall(told);
+      if (undone !== null) for (const number of undone) this.remove(number);
+      if (call !== null) this.texts.set(call.name, call.text);
       return undefined;
     }
 

@@ -2,6 +2,7 @@
 import Graph from "./graph.mjs";
 import Terms from "./terms.mjs";
 import Stuck from "./stuck.mjs";
+import Printed from "../text/printed.mjs";
 
 const Lanes = (() => {
   const between = (least, value, most) => Math.max(least, Math.min(value, most));
@@ -33,7 +34,7 @@ const Lanes = (() => {
     ofThere(name) {
       const goal = goalsByName(this.run.goals).get(name);
       if (goal === undefined) return undefined;
-      if (!this.there.has(name)) this.there.set(name, { sort: goal.sort, predicate: goal.sort === "call" ? Graph.predicateOf(goal.text) : null });
+      if (!this.there.has(name)) this.there.set(name, { sort: goal.sort, predicate: goal.sort === "call" ? Printed.predicateOf(goal.text) : null });
       return this.there.get(name);
     }
 
@@ -50,7 +51,7 @@ const Lanes = (() => {
     }
 
     get(name) {
-      return name === null ? undefined : this.at(...Graph.nameParts(name));
+      return name === null ? undefined : this.at(...Printed.nameParts(name));
     }
 
     has(name) {
@@ -113,7 +114,7 @@ const Lanes = (() => {
 
     /** The lane of a goal that is there or was; undefined where nothing is known of it. */
     ofGoal(graph, name) {
-      const [maker, place] = Graph.nameParts(name);
+      const [maker, place] = Printed.nameParts(name);
       return maker === 0 ? this.ofQuery.get(place) : this.ofMade[graph.madeAt(maker, place)];
     }
 
@@ -261,7 +262,7 @@ const Lanes = (() => {
 
   /** The places of the query's goals, those that are there and those that were consumed. */
   function queryPlaces(run) {
-    const there = run.goals.filter((goal) => goal.name.startsWith("0.")).map((goal) => Graph.nameParts(goal.name)[1]);
+    const there = run.goals.filter((goal) => goal.name.startsWith("0.")).map((goal) => Printed.nameParts(goal.name)[1]);
     return [...new Set([...there, ...run.graph.queryConsumers.keys()])].sort((one, other) => one - other);
   }
 
@@ -334,8 +335,8 @@ const Lanes = (() => {
 
   /** What stands at the beginning of an ask's lane: the word, and its first goal with what is known by now. */
   function askText(step, run, store, longest) {
-    const [first, ...others] = step.makes, text = (first && (run.texts.get(first) || Graph.splitOutside(step.act.slice(4), ",")[0])) || "true";
-    const told = Graph.sortOfText(text) === "call" ? Terms.briefCall(text, store) : text;
+    const [first, ...others] = step.makes, text = (first && (run.texts.get(first) || Printed.splitOutside(step.act.slice(4), ",")[0])) || "true";
+    const told = Printed.sortOfText(text) === "call" ? Terms.briefCall(text, store) : text;
     return Terms.cut(`ask ${told}${others.length > 0 ? ", …" : ""}`, longest);
   }
 

@@ -1,8 +1,8 @@
 // A run as the program's text and `records` tell it: the goals of its steps as written, where they stand in the text, and the names
 // that the text gives to variables. Each of them is computed when it is asked for, and kept: no name of a goal is given twice. Pure.
-import Graph from "./graph.mjs";
 import Reader from "../text/reader.mjs";
 import Print from "../text/print.mjs";
+import Replies from "../protocol/replies.mjs";
 
 const Run = (() => {
   const numbersOf = (name) => name.match(/\d+/g).map(Number);
@@ -22,23 +22,6 @@ const Run = (() => {
 
   // What is thrown where a binding would have to be read whose text is too long for that.
   class TooLong extends Error {}
-  const bindingOf = (text) => ({ variable: text.slice(0, text.indexOf("=")), term: text.slice(text.indexOf("=") + 1) });
-
-  /** The variables of others that an ask names. */
-  function namesIn(line, number, end) {
-    if (!line.startsWith(" - ask ", line.indexOf(" "))) return NONE;
-    return Graph.variablesIn(line.slice(0, end)).filter((variable) => numbersOf(variable)[0] !== number);
-  }
-
-  const numberIn = (line) => Number.parseInt(line, 10);
-
-  /** What a record line tells of reads and bindings; no text of a term has a semicolon or a blank. Undefined where it is none. */
-  function recordOf(line) {
-    const makes = line.lastIndexOf(" makes "), binds = line.lastIndexOf(" binds ", makes), reads = line.lastIndexOf(" reads ", binds);
-    if (reads < 0) return undefined;
-    const number = numberIn(line), read = line.slice(reads + " reads ".length, binds), bound = line.slice(binds + " binds ".length, makes);
-    return { number, reads: read === "-" ? NONE : read.split(","), binds: bound === "-" ? NONE : bound.split(";").map(bindingOf), names: namesIn(line, number, reads) };
-  }
 
   class Run {
     /** The run of a program's clauses and a query, of which no step is known. `kept` tells its steps, as they are now. */
@@ -72,7 +55,7 @@ const Run = (() => {
 
     /** Learns the lines of the reply to `records`, as it is now. */
     learn(lines) {
-      const told = new Set(lines.map(numberIn));
+      const told = new Set(lines.map(Replies.numberIn));
       this.forget([...this.records.keys()].filter((number) => !told.has(number)));
       this.learnMore(lines);
     }
@@ -81,12 +64,13 @@ const Run = (() => {
     learnMore(lines) {
       this.learnedAt = this.kept.changes;
       for (const line of lines) {
-        const record = this.records.has(numberIn(line)) ? undefined : recordOf(line);
-        if (record === undefined) continue;
-        this.records.set(record.number, record);
-        for (const { variable, term } of record.binds) {
+        const record = this.records.has(Replies.numberIn(line)) ? null : Replies.readRecord(line);
+        if (record === null) continue;
+        const { number, reads, binds, names } = record;
+        this.records.set(number, { reads, binds, names });
+        for (const { variable, term } of binds) {
           this.bound.set(variable, term);
-          this.binders.set(variable, record.number);
+          this.binders.set(variable, number);
         }
       }
     }

@@ -2,6 +2,7 @@
 import Graph from "./graph.mjs";
 import Lanes from "./lanes.mjs";
 import Stuck from "./stuck.mjs";
+import Replies from "../protocol/replies.mjs";
 
 const RunModel = (() => {
   const PART = 64, MANY = 4096; // lines that are read, and steps that are moved, between two places where the reader may pause
@@ -33,13 +34,13 @@ const RunModel = (() => {
         yield* this.cut(look.kept);
         yield* this.add(lines);
       }
-      this.goals = yield* this.inParts(look.goals, Graph.readGoals);
+      this.goals = yield* this.inParts(look.goals, Replies.readGoals);
       this.goalsRefused = look.goalsRefused;
       if (this.goals.some(({ status }) => status === "waits")) yield* this.often(Stuck.study(this.goals));
       yield* this.addLanes();
       yield* this.lanes.number();
       for (const [name, text] of look.texts) this.texts.set(name, text);
-      this.shelf = yield* this.inParts(look.shelf, Graph.readShelf);
+      this.shelf = yield* this.inParts(look.shelf, Replies.readShelf);
       yield* this.often(Lanes.gatherTaken(this.shelf, this.goals));
       this.version += 1;
       this.isWhole = true;

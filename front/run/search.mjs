@@ -1,5 +1,4 @@
 // Finds steps of a run: by a number, by the predicate of the goal that they reduced, or by a value that they bound or were given. Pure.
-import Graph from "./graph.mjs";
 
 const Search = (() => {
   const PART = 512; // steps that are looked at between two places where the reader may pause

@@ -2,7 +2,7 @@
 //
 // A variable is bound by a goal that has it. So a goal that waits for one waits for the others that have it, but for those that have
 // failed and those that wait for that same variable alone.
-import Graph from "./graph.mjs";
+import Printed from "../text/printed.mjs";
 
 const Stuck = (() => {
   const finish = (parts) => { while (!parts.next().done); };
@@ -70,7 +70,7 @@ const Stuck = (() => {
   function* gathering(goals) {
     const waits = new Waits();
     for (const goal of goals) {
-      for (const variable of Graph.variablesIn(goal.text)) {
+      for (const variable of Printed.variablesIn(goal.text)) {
         if (!waits.holders.has(variable)) waits.holders.set(variable, []);
         waits.holders.get(variable).push(goal);
       }

@@ -6,8 +6,8 @@ import Reader from "../text/reader.mjs";
 import Stuck from "./stuck.mjs";
 import Nearest from "../text/nearest.mjs";
 import { REFUSALS } from "../protocol/commands.mjs";
-import { isRefusal } from "../session/session.mjs";
 import { causeInTerm } from "../text/causes_in_terms.mjs";
+import Replies from "../protocol/replies.mjs";
 
 const { nearest, predicatesNamed } = Nearest;
 
@@ -200,7 +200,7 @@ async function afterShow(session, reply) {
 }
 
 function afterGoals(session, reply) {
-  const waited = new Set(reply.flatMap((line) => /^\S+ waits (\S+) /.exec(line)?.[1].split(",") ?? []));
+  const waited = new Set(Replies.readGoals(reply).flatMap(({ waitsFor }) => waitsFor));
   const named = [...waited].filter((variable) => session.run.nameOf(variable) !== undefined);
   return named.length === 0 ? [] : [`waited for: ${some(named.map(labelOf(session))).join(", ")}`];
 }
@@ -233,9 +233,8 @@ function namesOfAll(session, reply) {
 
 /** After an explanation: variables by the names of the text, and at which steps another clause could be taken. */
 function afterExplain(session, reply) {
-  const others = reply.map((line) => /^(\d+) (\d+\.\d+) by \d+ reads .* or ([\d,]+)$/.exec(line)).filter(Boolean);
-  const lines = others.map(([, number, goal, clauses]) => {
-    const [first, ...more] = clauses.split(",");
+  const steps = reply.map(Replies.readExplained).filter((step) => step !== null && step.others.length > 0);
+  const lines = steps.map(({ number, goal, others: [first, ...more] }) => {
     return `another clause than step ${number} took: roll ${number}, step ${goal} ${first}${more.length > 0 ? ` (or ${more.join(", ")})` : ""}`;
   });
   return [...namesOfFirst(session, reply), ...some(lines)];
@@ -250,7 +249,7 @@ function afterKeep(reply) {
 
 /** All that is added after a reply to a line of the console. */
 async function notesAfter(session, meaning, reply) {
-  if (isRefusal(reply)) return afterRefusal(session, meaning, reply);
+  if (Replies.isRefused(reply)) return afterRefusal(session, meaning, reply);
   const last = reply.at(-1) ?? "";
   if (last.startsWith("stopped ")) return afterStop(session, last);
   if (meaning.name === "show") return afterShow(session, reply);

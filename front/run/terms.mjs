@@ -1,5 +1,5 @@
 // Terms in few letters, for labels: what a goal's arguments are bound to, as far as it is known. Pure functions.
-import Graph from "./graph.mjs";
+import Printed from "../text/printed.mjs";
 
 const Terms = (() => {
   const VARIABLE = /^_\d+_\d+$/;
@@ -25,8 +25,8 @@ const Terms = (() => {
     const elements = [];
     let rest = endOf(term, store);
     while (rest.startsWith("[") && rest !== "[]" && elements.length < 40) {
-      const [heads, tail] = Graph.splitOutside(rest.slice(1, -1), "|");
-      elements.push(...Graph.splitOutside(heads, ","));
+      const [heads, tail] = Printed.splitOutside(rest.slice(1, -1), "|");
+      elements.push(...Printed.splitOutside(heads, ","));
       rest = tail === undefined ? "[]" : endOf(tail, store);
     }
     return { elements, isClosed: rest === "[]" };
@@ -56,7 +56,7 @@ const Terms = (() => {
   function briefCall(call, store) {
     const open = call.indexOf("(");
     if (open < 0) return call;
-    const shown = Graph.splitOutside(call.slice(open + 1, -1), ",").map((term) => brief(term, store));
+    const shown = Printed.splitOutside(call.slice(open + 1, -1), ",").map((term) => brief(term, store));
     return `${call.slice(0, open)}(${shown.join(",")})`;
   }
 

@@ -1,6 +1,7 @@
 // A session of a script: replies are handed on as they come, and of a long run nothing is kept before somebody looks.
 import Kept from "../run/kept.mjs";
-import { Session, isRefusal } from "./session.mjs";
+import { Session } from "./session.mjs";
+import Replies from "../protocol/replies.mjs";
 
 const MOST_KEPT = 20_000; // steps that are kept as they come; of more, the program is asked again where somebody looks
 
@@ -32,7 +33,7 @@ class ScriptSession extends Session {
   learn(text, lines, isFirst) {
     const { kept } = this;
     if (!Kept.mayChange(text)) return;
-    if (isFirst && this.isForgotten) kept.changes += isRefusal(lines) ? 0 : 1;
+    if (isFirst && this.isForgotten) kept.changes += Replies.isRefused(lines) ? 0 : 1;
     else if (isFirst) kept.learn(text, lines);
     else if (!this.isForgotten) lines.forEach((line) => kept.learnLine(line));
     if (kept.steps.size > this.mostKept) this.forget();

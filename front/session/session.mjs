@@ -1,24 +1,22 @@
 // A session as the terminal and the editors keep it: the program that runs, the steps that its replies told, and a look at the run,
 // which is taken only when something has changed and somebody asks.
-import Graph from "../run/graph.mjs";
 import Kept from "../run/kept.mjs";
 import Reader from "../text/reader.mjs";
 import Replies from "../protocol/replies.mjs";
 import Run from "../run/run.mjs";
 import * as Program from "./program.mjs";
 import { beginningOf, isNoFile, tried, writeWhole } from "./files.mjs";
-import { NO_MEMORY, NOT_BEGUN, NotEnded, WayBack, isWhole } from "./way_back.mjs";
+import { NOT_BEGUN, NotEnded, WayBack, isWhole } from "./way_back.mjs";
 import { readWords, wordsFrom, wordsOfProgram } from "../protocol/words.mjs";
 
 const { HANDED } = Program;
-const isRefusal = ([first]) => Replies.isRefusal(first);
 
 // What is thrown where the console does not list the goals: one is too long to print, or memory was refused for it.
 class NotTold extends Error {}
 
 const WHY_NOT_TOLD = {
   "F6 limit: print": "a goal is longer than 1,048,576 bytes, so that no goal can be listed",
-  [NO_MEMORY]: "memory was refused for the line of a goal",
+  [Replies.NO_MEMORY]: "memory was refused for the line of a goal",
 };
 
 const MOST_BYTES = 1_048_576; // of a program: ghcdb reads one byte further to see that it is longer
@@ -48,7 +46,7 @@ class Session {
     this.kept = new Kept();
     if (this.given.load !== undefined) this.kept.begin(await this.program.ask("records"));
     this.run = new Run(this.clauses, this.given.query, this.kept);
-    this.seen = { records: -1, goals: isWhole(goals) ? 0 : -1, reply: goals, list: Graph.readGoals(goals) };
+    this.seen = { records: -1, goals: isWhole(goals) ? 0 : -1, reply: goals, list: Replies.readGoals(goals) };
     this.savedAt = 0;
     this.way = undefined; // the way back to it, where somebody may end a line
   }
@@ -95,13 +93,13 @@ class Session {
   /** The numbers of the clauses that say yes to a goal. */
   async clausesSayingYes(goal) {
     const reply = await this.ask(`clauses ${goal}`);
-    return reply.map((line) => /^(\d+) yes$/.exec(line)).filter(Boolean).map(([, number]) => Number(number));
+    return reply.map(Replies.readChoice).filter((choice) => choice?.says === "yes").map((choice) => choice.number);
   }
 
   /** The goal that a kept step took, as it was written then. */
   async goalTaken({ number, goal }) {
-    const [line] = await this.ask(`goal ${number}`), [, text] = /^\d+ \d+\.\d+ (?:by \d+|eq|is|end|in \S+) (.*)$/.exec(line) ?? [];
-    return text ?? (await this.look()).textOf(goal);
+    const [line] = await this.ask(`goal ${number}`);
+    return Replies.readTakenGoal(line)?.text ?? (await this.look()).textOf(goal);
   }
 
   /** The goals as they stand. Throws `NotTold` where the console lists none. */
@@ -109,11 +107,11 @@ class Session {
     const { seen, kept } = this;
     if (seen.goals !== kept.changes) {
       seen.reply = await this.ask("goals");
-      if (!isWhole(seen.reply)) throw new NotTold(WHY_NOT_TOLD[NO_MEMORY]);
-      seen.list = Graph.readGoals(seen.reply);
+      if (!isWhole(seen.reply)) throw new NotTold(WHY_NOT_TOLD[Replies.NO_MEMORY]);
+      seen.list = Replies.readGoals(seen.reply);
       seen.goals = kept.changes;
     }
-    if (isRefusal(seen.reply)) throw new NotTold(WHY_NOT_TOLD[seen.reply[0]] ?? `goals: ${seen.reply[0]}`);
+    if (Replies.isRefused(seen.reply)) throw new NotTold(WHY_NOT_TOLD[seen.reply[0]] ?? `goals: ${seen.reply[0]}`);
     return seen.list;
   }
 
@@ -139,7 +137,7 @@ class Session {
     const first = kept.firstBeside(run.records);
     const since = run.records.size === 0 || first === undefined ? undefined : await this.ask(`since ${first}`);
     if (first === undefined) run.learnMore([]);
-    else if (since !== undefined && !isRefusal(since)) run.learnMore(since);
+    else if (since !== undefined && !Replies.isRefused(since)) run.learnMore(since);
     else run.learn(await this.ask("records"));
     this.seen.records = kept.changes;
     return run;
@@ -212,8 +210,8 @@ class Session {
    */
   async save(file, version = "") {
     const reply = await this.ask(`save ${version}`.trim());
-    if (isRefusal(reply)) return reply[0];
-    if (!isWhole(reply)) return NO_MEMORY;
+    if (Replies.isRefused(reply)) return reply[0];
+    if (!isWhole(reply)) return Replies.NO_MEMORY;
     if (version === "") this.way?.begin(textOf(reply), reply.length);
     writeWhole(file, Buffer.from(textOf(reply), "latin1"));
     this.savedAt = this.kept.changes;
@@ -225,4 +223,4 @@ class Session {
   }
 }
 
-export { Session, NotTold, NotEnded, isRefusal };
+export { Session, NotTold, NotEnded };

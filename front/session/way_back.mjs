@@ -6,25 +6,24 @@ import Replies from "../protocol/replies.mjs";
 const AT_ONCE = 1000; // lines that are played again at once
 const LIGHT = 1000; // so many lines of replies are soon told again, however short the history is
 
-const NO_MEMORY = "F1 no memory"; // stands in place of lines of a reply, of a history too
 
 /** Is a history whole? */
-const isWhole = (history) => !history.includes(NO_MEMORY);
+const isWhole = (history) => !history.includes(Replies.NO_MEMORY);
 
 // What is thrown where a line cannot be ended without losing the session.
 class NotEnded extends Error {}
 
 const NOT_BEGUN = "the session could not be begun again";
 
-const TAKEN = /^REDU \d+ (\d+\.\d+) (?:by (\d+)|eq|is)$/, UNDONE = /^undone ([\d,]+)$/;
+const STEPS = new Set(["reduce", "unify", "assign"]);
 const RUNS = /^ *(leap|skip) ?/;
 
 /** The lines that do just what a reply tells, whoever makes the run and wherever memory is refused. */
 function linesThatDo(reply) {
   return reply.flatMap((line) => {
-    const [, goal, clause = ""] = TAKEN.exec(line) ?? [], [, numbers] = UNDONE.exec(line) ?? [];
-    if (numbers !== undefined) return numbers.split(",").reverse().map((number) => `undo ${number}`);
-    return goal === undefined ? [] : [`step ${goal} ${clause}`.trimEnd()];
+    const step = Replies.readTaken(line), numbers = Replies.readUndone(line);
+    if (numbers !== null) return numbers.reverse().map((number) => `undo ${number}`);
+    return step === null || !STEPS.has(step.kind) ? [] : [`step ${step.goal} ${step.clause ?? ""}`.trimEnd()];
   });
 }
 
@@ -44,7 +43,7 @@ class WayBack {
 
   /** Notes a line that was accepted, and its reply. */
   note(line, reply) {
-    if (Replies.isRefusal(reply[0]) || !(Kept.mayChange(line) || /^ *(no)?spy /.test(line))) return;
+    if (Replies.isRefused(reply) || !(Kept.mayChange(line) || /^ *(no)?spy /.test(line))) return;
     const isAlike = !(this.isByMany && RUNS.test(line)) && isWhole(reply) && reply.at(-1) !== "stopped memory";
     const steps = countSteps(reply);
     for (const again of isAlike ? [line] : linesThatDo(reply)) this.lines.push(again);
@@ -77,4 +76,4 @@ class WayBack {
   }
 }
 
-export { NO_MEMORY, NOT_BEGUN, NotEnded, WayBack, isWhole };
+export { NOT_BEGUN, NotEnded, WayBack, isWhole };

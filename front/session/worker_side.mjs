@@ -1,10 +1,10 @@
 // Runs in a worker, or in the page where a browser refuses workers: keeps the engine's session, plays lines, and tells what has changed.
-import Graph from "../run/graph.mjs";
 import Asking from "../protocol/asking.mjs";
 import Told from "../protocol/told.mjs";
 import Short from "../protocol/short.mjs";
 import Engine from "./engine.mjs";
 import Host from "./host.mjs";
+import Replies from "../protocol/replies.mjs";
 
 const WorkerSide = (() => {
   const MOST_WITH_TEXTS = 3000; // steps; the goals of a longer run are not asked for
@@ -24,7 +24,7 @@ const WorkerSide = (() => {
   /** The numbers of the steps that a reply tells to be taken back. */
   function goneIn(reply) {
     const lines = Array.isArray(reply) ? reply : linesOf(reply);
-    return lines.filter((line) => line.startsWith("undone ")).flatMap((line) => line.slice(7).split(",").map(Number));
+    return lines.flatMap((line) => Replies.readUndone(line) ?? []);
   }
 
   class WorkerSide {
@@ -44,7 +44,7 @@ const WorkerSide = (() => {
       this.second = null; // another session, made where somebody asks what was
       this.session = this.engine.open({ program: given.program, query: given.query, history: given.history || undefined });
       const { refused, start } = this.session;
-      if (!refused && !given.history) for (const goal of Graph.readGoals(this.session.line("goals"))) this.texts.set(goal.name, goal.text);
+      if (!refused && !given.history) for (const goal of Replies.readGoals(this.session.line("goals"))) this.texts.set(goal.name, goal.text);
       return { refusal: refused ? start.trim() : "", look: refused ? null : this.look() };
     }
 
@@ -101,7 +101,7 @@ const WorkerSide = (() => {
     /** The texts of goals that were not handed on yet, those that steps took which have come among them. */
     newTexts(come) {
       const isLong = this.told.count > MOST_WITH_TEXTS, lines = () => linesOf(this.lacksTexts ? Short.lines(this.told.bytes, Short.record) : come);
-      this.lacksTexts = isLong || !Asking.completeTexts(this.texts, Graph.readRecords(lines()), this.session);
+      this.lacksTexts = isLong || !Asking.completeTexts(this.texts, Replies.readRecords(lines()), this.session);
       const fresh = [...this.texts].filter(([name]) => !this.sent.has(name));
       for (const [name] of fresh) this.sent.add(name);
       return fresh;

@@ -6,13 +6,13 @@ import test from "node:test";
 import { fileURLToPath } from "node:url";
 import Asking from "../protocol/asking.mjs";
 import Choices from "../run/choices.mjs";
-import Graph from "../run/graph.mjs";
 import Kept from "../run/kept.mjs";
 import Print from "../text/print.mjs";
 import Reader from "../text/reader.mjs";
 import Run from "../run/run.mjs";
 import Stuck from "../run/stuck.mjs";
 import { engineOfPage } from "../session/engine_of_page.mjs";
+import Replies from "../protocol/replies.mjs";
 
 const HERE = path.dirname(fileURLToPath(import.meta.url));
 
@@ -49,8 +49,8 @@ test("goals are as the console wrote them, also where a run told none of them", 
     look();
     assert.strictEqual(kept.steps.size, run.records.size);
     const texts = new Map(), second = engine.open(given);
-    for (const { name, text } of Graph.readGoals(second.line("goals"))) texts.set(name, text);
-    for (const { goal, clause } of Graph.readRecords(session.line("records"))) Asking.addCalls(texts, second.line(clause === null ? `step ${goal}` : `step ${goal} ${clause}`));
+    for (const { name, text } of Replies.readGoals(second.line("goals"))) texts.set(name, text);
+    for (const { goal, clause } of Replies.readRecords(session.line("records"))) Asking.addCalls(texts, second.line(clause === null ? `step ${goal}` : `step ${goal} ${clause}`));
     for (const [name, text] of texts) {
       assert.strictEqual(run.textOf(name), text, `${given.query}: ${name}`);
       compared += 1;
@@ -65,7 +65,7 @@ test("clauses say what the console says of them", async () => {
   for (const given of programs()) {
     const { session, run, type, look } = begin(engine, given);
     for (let steps = 0; steps < 25; steps += 1) {
-      for (const { name, sort } of Graph.readGoals(session.line("goals"))) {
+      for (const { name, sort } of Replies.readGoals(session.line("goals"))) {
         look();
         for (const { clause, says } of sort === "call" ? Choices.choicesOf(run, name) : []) {
           const [reply] = type(`step ${name} ${clause.number}`), number = /^REDU (\d+)/.exec(reply);
@@ -128,12 +128,12 @@ test("kept steps are known from replies, also behind arrange, undo and redo", as
   const { engine } = await engineOfPage();
   const { session, kept, type } = begin(engine, { program: "p(X) :- true | X = 1.\n", query: "p(X), p(Y), p(Z)" });
   for (const line of ["leap", "undo 2", "redo 2", "undo 99", "arrange 3 1 2 4 5 6", "roll 1"]) type(line);
-  assert.deepStrictEqual([...kept.steps.keys()], Graph.readRecords(session.line("records")).map(({ number }) => number));
+  assert.deepStrictEqual([...kept.steps.keys()], Replies.readRecords(session.line("records")).map(({ number }) => number));
   assert.strictEqual(kept.last, [...kept.steps.keys()].at(-1));
 });
 
 test("why nothing goes on: circles, and what nobody can bind", () => {
-  const goals = Graph.readGoals(["1.1 waits _1_1 p(_1_1,_1_2)", "1.2 waits _1_2 p(_1_2,_1_1)", "1.3 waits _1_9 q(_1_9)", "1.4 failed F10 r(_1_9)"]);
+  const goals = Replies.readGoals(["1.1 waits _1_1 p(_1_1,_1_2)", "1.2 waits _1_2 p(_1_2,_1_1)", "1.3 waits _1_9 q(_1_9)", "1.4 failed F10 r(_1_9)"]);
   assert.deepStrictEqual(Stuck.linesOf(goals, (variable) => variable), [
     "1.1 waits for _1_1: held by 1.2 waits", "1.2 waits for _1_2: held by 1.1 waits", "1.3 waits for _1_9: nobody can bind it (only 1.4, which has failed)",
     "a circle: 1.1 waits for 1.2 waits for 1.1",
@@ -141,7 +141,7 @@ test("why nothing goes on: circles, and what nobody can bind", () => {
 });
 
 test("of many goals that wait the first are told", () => {
-  const many = 5000, all = (line) => Graph.readGoals(Array.from({ length: many }, (none, place) => line(place + 1)));
+  const many = 5000, all = (line) => Replies.readGoals(Array.from({ length: many }, (none, place) => line(place + 1)));
   const lines = Stuck.linesOf(all((place) => `${place}.1 waits _0_1 w(_0_1)`), (variable) => variable);
   assert.strictEqual(lines.length, 201);
   assert.match(lines[0], /^1\.1 waits for _0_1: nobody can bind it \(only 2\.1, which waits for it too, .*13\.1, which waits for it too, \.\. \(4999 goals\)\)$/);

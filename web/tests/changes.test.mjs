@@ -9,6 +9,7 @@ import Stuck from "../../front/run/stuck.mjs";
 import Lanes from "../../front/run/lanes.mjs";
 import RunModel from "../../front/run/run_model.mjs";
 import WorkerSide from "../../front/session/worker_side.mjs";
+import Replies from "../../front/protocol/replies.mjs";
 
 const LINES = 40, SEEDS = 12;
 
@@ -22,7 +23,7 @@ test("after each line the graph and the lanes that were changed are those of the
       follow(model, side.open({ given: { program, query, history: "" } }).look);
       for (let count = 0; count < LINES; count++) {
         follow(model, side.lines({ lines: [lineByChance(next, model)] }).look);
-        const words = `${name}, seed ${seed}, line ${count}`, whole = Graph.graphOf(Graph.readRecords(side.session.line("records")));
+        const words = `${name}, seed ${seed}, line ${count}`, whole = Graph.graphOf(Replies.readRecords(side.session.line("records")));
         assert.deepEqual(plainGraph(model.graph), plainGraph(whole), words);
         const here = Lanes.lanesIn(model, model.lanes, 0, model.graph.count, model.goals);
         assert.deepEqual(plainLanes(here), plainLanes(Lanes.lanesOf({ ...model, graph: whole })), words);
@@ -34,14 +35,14 @@ test("after each line the graph and the lanes that were changed are those of the
 });
 
 test("the order that is tidied is lawful, and goes on in a lane as long as it can", () => {
-  const graph = Graph.graphOf(Graph.readRecords(["1 0.1 by 1 reads - binds - makes 1.1,1.2", "2 1.1 by 1 reads - binds - makes 2.1", "3 1.2 by 1 reads - binds _0_1=a makes 3.1",
+  const graph = Graph.graphOf(Replies.readRecords(["1 0.1 by 1 reads - binds - makes 1.1,1.2", "2 1.1 by 1 reads - binds - makes 2.1", "3 1.2 by 1 reads - binds _0_1=a makes 3.1",
     "4 2.1 by 1 reads _0_1 binds - makes -", "5 3.1 by 1 reads - binds - makes -"]));
   assert.deepEqual(Graph.tidyOrder(graph, (number) => (number === 1 || number === 3 || number === 5 ? "a" : "b")), [1, 3, 5, 2, 4]);
 });
 
 test("goals that wait for each other in a chain of many thousands are no circle, and are one when the last waits for the first", () => {
   const chain = Array.from({ length: 15000 }, (none, index) => `0.${index + 1} waits _0_${index + 1} after(_0_${index + 1},_0_${index + 2})`);
-  assert.deepEqual(Stuck.circleOf(Graph.readGoals(chain)), []);
+  assert.deepEqual(Stuck.circleOf(Replies.readGoals(chain)), []);
   const circle = [...chain.slice(0, 5000), "0.5001 waits _0_5001 after(_0_5001,_0_1)"];
-  assert.equal(Stuck.circleOf(Graph.readGoals(circle)).length, 5001);
+  assert.equal(Stuck.circleOf(Replies.readGoals(circle)).length, 5001);
 });

@@ -5,8 +5,9 @@ import Compare from "../../front/run/compare.mjs";
 import Graph from "../../front/run/graph.mjs";
 import { engineOfPage } from "../../front/session/engine_of_page.mjs";
 import { eachPlay, plays } from "./runs.mjs";
+import Replies from "../../front/protocol/replies.mjs";
 
-const graphOf = (session) => Graph.graphOf(Graph.readRecords(session.line("records")));
+const graphOf = (session) => Graph.graphOf(Replies.readRecords(session.line("records")));
 
 test("the two choices of a clause in the bill: they share four steps, and differ first in the step that took 1.1", async () => {
   const { engine } = await engineOfPage(), [play] = plays().filter((one) => one.name === "bill, its query"), session = engine.open({ ...play, query: "bill(12,3,T)" });
@@ -40,7 +41,7 @@ test("a run is the same as itself, in whatever lawful order and under whatever n
 
 test("two asks of one text are two steps", () => {
   const lines = ["1 - ask p(_1_1) reads - binds - makes 1.1", "2 - ask p(_2_1) reads - binds - makes 2.1", "3 2.1 by 1 reads - binds - makes -"];
-  const one = Graph.graphOf(Graph.readRecords(lines)), other = Graph.graphOf(Graph.readRecords([lines[0], lines[1], "4 1.1 by 1 reads - binds - makes -"]));
+  const one = Graph.graphOf(Replies.readRecords(lines)), other = Graph.graphOf(Replies.readRecords([lines[0], lines[1], "4 1.1 by 1 reads - binds - makes -"]));
   const told = Compare.compare(one, other);
   assert.deepEqual([...told.pairs], [[1, 1], [2, 2]]);
   assert.deepEqual([told.first, told.instead], [3, null]);

@@ -2,7 +2,6 @@
 // comes in parts.
 import assert from "node:assert/strict";
 import test from "node:test";
-import Graph from "../../front/run/graph.mjs";
 import Links from "../links.mjs";
 import RunModel from "../../front/run/run_model.mjs";
 import SessionText from "../../front/protocol/session_text.mjs";
@@ -16,7 +15,7 @@ import { plays, rows } from "./runs.mjs";
 const MOST_STEPS = 30, LEAST_TIMES = 300, LEAST_CLAUSES = 100;
 const MOST_IN_ONE_PART = 5000; // steps that are worked on between two places where the page may pause
 
-const stepsOf = (session) => Graph.readRecords(session.line("records"));
+const stepsOf = (session) => Replies.readRecords(session.line("records"));
 
 /** A history of the first kept steps of a session. */
 function historyOf(session, count) {
@@ -76,7 +75,7 @@ test("what a clause says is what `step G C` replies; also to the goal of a step,
   let compared = 0;
   for await (const { engine, side, given } of sides()) {
     const open = () => engine.open({ ...given, history: `${side.session.line("save").join("\n")}\n` });
-    const calls = Graph.readGoals(side.session.line("goals")).filter(({ sort }) => sort === "call").slice(0, 3);
+    const calls = Replies.readGoals(side.session.line("goals")).filter(({ sort }) => sort === "call").slice(0, 3);
     for (const { name } of calls) compared += compareClauses(side.ask({ line: `clauses ${name}` }).reply, name, open);
     const step = stepsOf(side.session).find(({ kind }) => kind === "reduce"), rolled = () => {
       const session = open();
@@ -128,7 +127,7 @@ test("a roll of the middle of a long run is followed in parts, and so is what wa
   const parts = model.change({ ...look, goals: linesOf(look.goals), shelf: linesOf(look.shelf) }, []);
   while (!parts.next().done) sincePause = 0;
   assert.ok(model.graph.count < 30000 && most <= MOST_IN_ONE_PART, `${most} steps at once`);
-  const goals = Graph.readGoals(WAITING.map((at) => `${at}.1 waits _0_1 w(_0_1)`)), study = Stuck.study(goals);
+  const goals = Replies.readGoals(WAITING.map((at) => `${at}.1 waits _0_1 w(_0_1)`)), study = Stuck.study(goals);
   let count = 0;
   while (!study.next().done) count += 1;
   assert.ok(count >= goals.length, `${count} parts`);
@@ -136,7 +135,7 @@ test("a roll of the middle of a long run is followed in parts, and so is what wa
 
 test("30,000 goals that wait for one variable, or for two, are looked at in linear time", () => {
   for (const [waits, text] of [["_0_1", "w(_0_1)"], ["_0_1,_0_2", "w(_0_1,_0_2)"]]) {
-    const goals = Graph.readGoals(WAITING.map((at) => `${at}.1 waits ${waits} ${text}`)), start = performance.now();
+    const goals = Replies.readGoals(WAITING.map((at) => `${at}.1 waits ${waits} ${text}`)), start = performance.now();
     Stuck.circleOf(goals);
     Stuck.edgesOf(goals, [goals[17]]);
     assert.ok(performance.now() - start < 10000, `${Math.round(performance.now() - start)} ms`);

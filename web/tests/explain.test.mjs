@@ -3,7 +3,6 @@ import assert from "node:assert/strict";
 import test from "node:test";
 import Asking from "../../front/protocol/asking.mjs";
 import Explain from "../../front/run/explain.mjs";
-import Graph from "../../front/run/graph.mjs";
 import Search from "../../front/run/search.mjs";
 import { engineOfPage } from "../../front/session/engine_of_page.mjs";
 import { eachPlay, plays, runOf } from "./runs.mjs";

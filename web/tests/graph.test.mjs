@@ -7,36 +7,38 @@ import Graph from "../../front/run/graph.mjs";
 import Stuck from "../../front/run/stuck.mjs";
 import { engineOfPage } from "../../front/session/engine_of_page.mjs";
 import { askedRun, eachPlay } from "./runs.mjs";
+import Printed from "../../front/text/printed.mjs";
+import Replies from "../../front/protocol/replies.mjs";
 
 /** Takes the steps of a run again, one by one, in a session that has not begun: the texts that it tells are those of the run. Gives how many. */
 function compareTexts(play, run, session) {
-  const texts = new Map(Graph.readGoals(session.line("goals")).map((goal) => [goal.name, goal.text]));
+  const texts = new Map(Replies.readGoals(session.line("goals")).map((goal) => [goal.name, goal.text]));
   for (const { goal, clause } of run.graph.steps) Asking.addCalls(texts, session.line(clause === null ? `step ${goal}` : `step ${goal} ${clause}`));
   for (const { goal } of run.graph.steps) assert.equal(run.texts.get(goal), texts.get(goal), `${play.name}, goal ${goal}`);
   return run.graph.count;
 }
 
 test("record lines of docs/FORMATS.md are read", () => {
-  const [step] = Graph.readRecords(["3 0.1 by 12 reads _0_1,_0_2 binds _0_1=_0_2;_0_2=[a,f(b)|_3_1];_0_3=1 makes 3.1,3.2"]);
+  const [step] = Replies.readRecords(["3 0.1 by 12 reads _0_1,_0_2 binds _0_1=_0_2;_0_2=[a,f(b)|_3_1];_0_3=1 makes 3.1,3.2"]);
   assert.deepEqual(step, {
     number: 3, goal: "0.1", act: "by 12", kind: "reduce", clause: 12, names: [], reads: ["_0_1", "_0_2"],
     binds: [{ variable: "_0_1", term: "_0_2" }, { variable: "_0_2", term: "[a,f(b)|_3_1]" }, { variable: "_0_3", term: "1" }], makes: ["3.1", "3.2"],
   });
-  const kinds = Graph.readRecords(["1 0.1 eq reads - binds - makes -", "2 0.2 is reads - binds _0_1=1 makes -", "3 0.3 in f(a,[b]) reads - binds - makes 3.1", "4 3.1 end reads - binds - makes -"]);
+  const kinds = Replies.readRecords(["1 0.1 eq reads - binds - makes -", "2 0.2 is reads - binds _0_1=1 makes -", "3 0.3 in f(a,[b]) reads - binds - makes 3.1", "4 3.1 end reads - binds - makes -"]);
   assert.deepEqual(kinds.map((one) => one.kind), ["unify", "assign", "input", "close"]);
-  assert.deepEqual(Graph.readRecords(["none"]), []);
+  assert.deepEqual(Replies.readRecords(["none"]), []);
 });
 
 test("goals and what was taken back are read", () => {
-  const goals = Graph.readGoals(["1.1 ready price(12,_1_1)", "1.3 waits _1_1,_1_2 _0_1 := _1_1 + _1_2", "1.4 failed F11 1 = 2", "0.1 stream instream 1 _0_1", "none"]);
+  const goals = Replies.readGoals(["1.1 ready price(12,_1_1)", "1.3 waits _1_1,_1_2 _0_1 := _1_1 + _1_2", "1.4 failed F11 1 = 2", "0.1 stream instream 1 _0_1", "none"]);
   assert.deepEqual(goals.map((goal) => [goal.name, goal.status, goal.waitsFor.join(), goal.refusal, goal.sort]), [
     ["1.1", "ready", "", "", "call"], ["1.3", "waits", "_1_1,_1_2", "", "assignment"], ["1.4", "failed", "", "F11", "unification"], ["0.1", "stream", "", "", "stream"]]);
-  const [shelved] = Graph.readShelf(["2 1.1 by 2"]);
+  const [shelved] = Replies.readShelf(["2 1.1 by 2"]);
   assert.deepEqual([shelved.number, shelved.goal, shelved.clause], [2, "1.1", 2]);
 });
 
 test("an ask is read as a step that consumes no goal, with what it names", () => {
-  const [step, words, none] = Graph.readRecords(["2 - ask append(_0_1,[3],_2_1), _1_2 = [_1_1] reads - binds - makes 2.1,2.2",
+  const [step, words, none] = Replies.readRecords(["2 - ask append(_0_1,[3],_2_1), _1_2 = [_1_1] reads - binds - makes 2.1,2.2",
     "3 - ask reads = binds, makes reads - binds - makes 3.1,3.2", "4 - ask true reads - binds - makes -"]);
   assert.deepEqual(step, {
     number: 2, goal: null, act: "ask append(_0_1,[3],_2_1), _1_2 = [_1_1]", kind: "ask", clause: null, names: ["_0_1", "_1_1", "_1_2"],
@@ -44,10 +46,10 @@ test("an ask is read as a step that consumes no goal, with what it names", () =>
   });
   assert.deepEqual([words.act, words.names, words.makes], ["ask reads = binds, makes", [], ["3.1", "3.2"]]);
   assert.deepEqual([none.act, none.makes], ["ask true", []]);
-  const [shelved, input] = Graph.readShelf(["2 - ask append(_0_1,[3],_2_1), _1_1 = [7]", "3 0.1 in ask"]);
+  const [shelved, input] = Replies.readShelf(["2 - ask append(_0_1,[3],_2_1), _1_1 = [7]", "3 0.1 in ask"]);
   assert.deepEqual([shelved.goal, shelved.kind, shelved.act], [null, "ask", "ask append(_0_1,[3],_2_1), _1_1 = [7]"]);
   assert.deepEqual([input.goal, input.kind], ["0.1", "input"]);
-  assert.deepEqual([shelved, input].map(Graph.wordsOf), ["ask append(_0_1,[3],_2_1), _1_1 = [7]", "goal 0.1 in ask"]);
+  assert.deepEqual([shelved, input].map(Replies.wordsOf), ["ask append(_0_1,[3],_2_1), _1_1 = [7]", "goal 0.1 in ask"]);
 });
 
 test("an ask depends on the steps that made what it names, and on no other; what it made descends from it", () => {
@@ -57,26 +59,26 @@ test("an ask depends on the steps that made what it names, and on no other; what
   assert.deepEqual([...Graph.allEffects(graph, 1)].sort(), [1, 2, 3, 4, 6]);
   assert.deepEqual([...Graph.allEffects(graph, 2)].sort(), [2, 4, 6]);
   assert.deepEqual([1, 2, 3, 4, 5, 6].map((number) => graph.depth.get(number)), [0, 1, 1, 2, 0, 3]);
-  const least = Graph.graphOf(Graph.readRecords(["10 0.1 by 1 reads - binds - makes 10.1", "11 - ask p(_10_11,_10_2) reads - binds - makes 11.1"]));
+  const least = Graph.graphOf(Replies.readRecords(["10 0.1 by 1 reads - binds - makes 10.1", "11 - ask p(_10_11,_10_2) reads - binds - makes 11.1"]));
   assert.deepEqual(Graph.whyLines(least, 11), ["10 named _10_2"]);
 });
 
 test("clauses and predicates are read from a program", () => {
   const clauses = Graph.readClauses("% p(a). in a comment\np :- true | q([1,2],f(a,b)).\nq(_, [A|X]) :- true.\n");
   assert.deepEqual(clauses.map((clause) => clause.predicate), ["p/0", "q/2"]);
-  assert.equal(Graph.predicateOf("append([1,2],[3|_0_1],f(a,b))"), "append/3");
+  assert.equal(Printed.predicateOf("append([1,2],[3|_0_1],f(a,b))"), "append/3");
 });
 
 test("the causes of docs/LANGUAGE.md: woke, made before read, the present order", () => {
   const first = ["1 0.2 eq reads - binds _0_1=[_0_2|_0_3] makes -", "2 0.3 eq reads - binds _0_2=a makes -", "3 0.1 by 1 reads _0_1,_0_2 binds - makes -"];
-  assert.deepEqual(Graph.whyLines(Graph.graphOf(Graph.readRecords(first)), 3), ["1 read _0_1", "2 read _0_2 woke"]);
-  const turned = Graph.graphOf(Graph.readRecords([first[1], first[0], first[2]]));
+  assert.deepEqual(Graph.whyLines(Graph.graphOf(Replies.readRecords(first)), 3), ["1 read _0_1", "2 read _0_2 woke"]);
+  const turned = Graph.graphOf(Replies.readRecords([first[1], first[0], first[2]]));
   assert.deepEqual(Graph.whyLines(turned, 3), ["2 read _0_2", "1 read _0_1 woke"]);
   assert.deepEqual(Graph.whyLines(turned, 1), ["none"]);
 });
 
 test("causes, effects and depths of a run of four steps", () => {
-  const graph = Graph.graphOf(Graph.readRecords(["1 0.1 by 2 reads - binds - makes 1.1,1.2", "2 1.1 eq reads - binds _0_1=[1|_1_1] makes -",
+  const graph = Graph.graphOf(Replies.readRecords(["1 0.1 by 2 reads - binds - makes 1.1,1.2", "2 1.1 eq reads - binds _0_1=[1|_1_1] makes -",
     "3 1.2 by 1 reads - binds - makes 3.1", "4 3.1 eq reads - binds _1_1=[2] makes -"]));
   assert.deepEqual([...Graph.allEffects(graph, 1)].sort(), [1, 2, 3, 4]);
   assert.deepEqual([...Graph.allEffects(graph, 3)].sort(), [3, 4]);
@@ -85,9 +87,9 @@ test("causes, effects and depths of a run of four steps", () => {
 });
 
 test("three goals that wait for each other are a circle, a chain of waits is none", () => {
-  const circle = Graph.readGoals(["0.1 waits _0_1 after(_0_1,_0_2)", "0.2 waits _0_2 after(_0_2,_0_3)", "0.3 waits _0_3 after(_0_3,_0_1)"]);
+  const circle = Replies.readGoals(["0.1 waits _0_1 after(_0_1,_0_2)", "0.2 waits _0_2 after(_0_2,_0_3)", "0.3 waits _0_3 after(_0_3,_0_1)"]);
   assert.deepEqual(Stuck.circleOf(circle), ["0.1", "0.3", "0.2"]);
-  const chain = Graph.readGoals(["0.1 waits _0_1 after(_0_1,_0_2)", "0.2 waits _0_2 after(_0_2,_0_3)", "0.3 ready _0_1 = done"]);
+  const chain = Replies.readGoals(["0.1 waits _0_1 after(_0_1,_0_2)", "0.2 waits _0_2 after(_0_2,_0_3)", "0.3 ready _0_1 = done"]);
   assert.deepEqual(Stuck.edgesOf(chain), [{ from: "0.1", to: "0.3", variable: "_0_1" }, { from: "0.2", to: "0.1", variable: "_0_2" }]);
   assert.deepEqual(Stuck.circleOf(chain), []);
 });
@@ -108,7 +110,7 @@ test("on every step of the examples and of the rows the edges are those of `why 
     compare(play, session, run.graph);
     const order = Graph.tidyOrder(run.graph, (number) => run.graph.byNumber.get(number).goal);
     assert.deepEqual(session.line(`arrange ${order.join(" ")}`), ["arranged"], play.name);
-    compare(play, session, Graph.graphOf(Graph.readRecords(session.line("records"))));
+    compare(play, session, Graph.graphOf(Replies.readRecords(session.line("records"))));
   });
   assert.ok(compared > 500, `${compared} steps compared`);
 });
@@ -123,8 +125,8 @@ test("the goals' texts that a run does not tell are those that single steps tell
     }
     for (const goal of run.goals) {
       const text = Explain.writtenText(run, goal.name);
-      assert.equal(Graph.sortOfText(text), goal.sort, `${play.name}, goal ${goal.name}`);
-      if (goal.sort === "call") assert.equal(Graph.predicateOf(text), Graph.predicateOf(goal.text), `${play.name}, goal ${goal.name}`);
+      assert.equal(Printed.sortOfText(text), goal.sort, `${play.name}, goal ${goal.name}`);
+      if (goal.sort === "call") assert.equal(Printed.predicateOf(text), Printed.predicateOf(goal.text), `${play.name}, goal ${goal.name}`);
     }
   });
   assert.ok(compared > 300, `${compared} texts compared`);

@@ -10,6 +10,7 @@ import WorkerSide from "../../front/session/worker_side.mjs";
 import { engineOfPage } from "../../front/session/engine_of_page.mjs";
 import { QUERIES, programOf, chance, plainGraph, lineByChance, follow } from "./chance.mjs";
 import { eachPlay } from "./runs.mjs";
+import Replies from "../../front/protocol/replies.mjs";
 
 const LINES = 25, SEEDS = 2;
 const bytes = (text) => new TextEncoder().encode(text);
@@ -39,7 +40,7 @@ test("after each line the steps and the goals' texts are those of the console, a
         follow(model, side.lines({ lines: [line] }).look);
         const words = `${name}, seed ${seed}, line ${count}, ${line}`;
         if (/^(step|in|ask|redo|undo|roll|leap)/.test(line) && before > 0) assert.ok(!asked.includes("records"), `${words} asked ${asked}`);
-        const steps = Graph.readRecords(side.session.line("records"));
+        const steps = Replies.readRecords(side.session.line("records"));
         assert.deepEqual(plainGraph(model.graph), plainGraph(Graph.graphOf(steps)), words);
         for (const step of steps) if (step.goal !== null) assert.equal(side.session.line(`goal ${step.number}`)[0], `${step.number} ${step.goal} ${step.act} ${model.texts.get(step.goal)}`, words);
         compared += 1;
@@ -93,7 +94,7 @@ test("what a value rests on gives the same value when `keep` has taken all the r
     assert.deepEqual([head[0], last], [before[0], `steps ${numbers.length} of ${run.graph.count}`], play.name);
     assert.equal(session.line(`keep ${name}`).at(-1), `kept ${numbers.length}`, play.name);
     assert.deepEqual(session.line(`show ${name}`), before, play.name);
-    assert.deepEqual(Graph.readRecords(session.line("records")).map((step) => step.number), [...numbers], play.name);
+    assert.deepEqual(Replies.readRecords(session.line("records")).map((step) => step.number), [...numbers], play.name);
     kept += 1;
   });
   assert.ok(kept > 80, `${kept} runs`);

@@ -8,6 +8,7 @@ import ExampleNotes from "../example_notes.mjs";
 import Graph from "../../front/run/graph.mjs";
 import SessionText from "../../front/protocol/session_text.mjs";
 import { engineOfPage } from "../../front/session/engine_of_page.mjs";
+import Replies from "../../front/protocol/replies.mjs";
 
 const HERE = path.dirname(fileURLToPath(import.meta.url));
 
@@ -46,10 +47,10 @@ function rows() {
 
 /** What the page would show of a run. */
 function runOf(session, play) {
-  const told = Asking.whereItStands(session, play.query), steps = Graph.readRecords(told.records), goals = Graph.readGoals(told.goals);
+  const told = Asking.whereItStands(session, play.query), steps = Replies.readRecords(told.records), goals = Replies.readGoals(told.goals);
   const texts = new Map();
   Asking.completeTexts(texts, steps, session);
-  return { given: play, graph: Graph.graphOf(told.records), goals, shelf: Graph.readShelf(told.shelf), texts, clauses: Graph.readClauses(play.program), told };
+  return { given: play, graph: Graph.graphOf(told.records), goals, shelf: Replies.readShelf(told.shelf), texts, clauses: Graph.readClauses(play.program), told };
 }
 
 /** Plays all: calls `look(play, session, run)` where the lines of each are told, unless it was refused, has ended, or is too long. */
@@ -69,14 +70,14 @@ async function eachPlay(look) {
 /** What the page would show of a run in which goals were asked for, by what the console tells of it (docs/LANGUAGE.md, "Goals asked for"). */
 function askedRun() {
   const program = fs.readFileSync(path.join(EXAMPLES, "append.ghc"), "utf8");
-  const steps = Graph.readRecords(["1 0.1 by 2 reads - binds - makes 1.1,1.2", "2 - ask append(_0_1,[3],_2_1), _1_1 = [7] reads - binds - makes 2.1,2.2",
+  const steps = Replies.readRecords(["1 0.1 by 2 reads - binds - makes 1.1,1.2", "2 - ask append(_0_1,[3],_2_1), _1_1 = [7] reads - binds - makes 2.1,2.2",
     "3 1.1 eq reads - binds _0_1=[1|_1_1] makes -", "4 2.1 by 2 reads _0_1 binds - makes 4.1,4.2", "5 - ask true reads - binds - makes -",
     "6 - ask append([],_4_1,_6_1), append(_2_1,_1_1,_6_2) reads - binds - makes 6.1,6.2"]);
-  const goals = Graph.readGoals(["1.2 ready append([],[2],_1_1)", "2.2 ready _1_1 = [7]", "4.1 ready _2_1 = [1|_4_1]", "4.2 waits _1_1 append(_1_1,[3],_4_1)",
+  const goals = Replies.readGoals(["1.2 ready append([],[2],_1_1)", "2.2 ready _1_1 = [7]", "4.1 ready _2_1 = [1|_4_1]", "4.2 waits _1_1 append(_1_1,[3],_4_1)",
     "6.1 ready append([],_4_1,_6_1)", "6.2 waits _2_1 append(_2_1,_1_1,_6_2)"]);
   const texts = new Map(goals.map((goal) => [goal.name, goal.text]));
   for (const [name, text] of [["0.1", "append([1],[2],_0_1)"], ["1.1", "_0_1 = [1|_1_1]"], ["2.1", "append(_0_1,[3],_2_1)"]]) texts.set(name, text);
-  return { graph: Graph.graphOf(steps), goals, shelf: Graph.readShelf(["7 - ask append(_6_1,[],_7_1)"]), texts, clauses: Graph.readClauses(program) };
+  return { graph: Graph.graphOf(steps), goals, shelf: Replies.readShelf(["7 - ask append(_6_1,[],_7_1)"]), texts, clauses: Graph.readClauses(program) };
 }
 
 export { askedRun, eachPlay, plays, rows, runOf };

@@ -1,10 +1,10 @@
 // Tests of terms that are too long to be shown: front/protocol/short.mjs, and a worker that hands no more of them over than a page can use.
 import assert from "node:assert/strict";
 import test from "node:test";
-import Graph from "../../front/run/graph.mjs";
 import Short from "../../front/protocol/short.mjs";
 import WorkerSide from "../../front/session/worker_side.mjs";
 import { engineOfPage } from "../../front/session/engine_of_page.mjs";
+import Replies from "../../front/protocol/replies.mjs";
 
 const MOST_HANDED = 3e6; // letters and bytes of one answer
 const DOUBLES = "d(0,X,Y) :- true | Y = X.\nd(N,X,Y) :- N > 0 | M := N - 1, d(M,f(X,X),Y).\n";
@@ -22,7 +22,7 @@ test("a long term is shortened at a part of it, and its brackets are closed", ()
 test("a record's step, and a goal, are read from their shortened lines as from the whole ones, but for the terms", () => {
   const line = "3 0.1 by 12 reads _0_1,_0_2 binds _0_1=_0_2;_0_2=[a,f(b)|_3_1];_0_3=1 makes 3.1,3.2", short = Short.record(line, 7);
   assert.equal(short, "3 0.1 by 12 reads _0_1,_0_2 binds _0_1=_0_2;_0_2=[a,f(…)];_0_3=1 makes 3.1,3.2");
-  const [whole, read] = Graph.readRecords([line, short]);
+  const [whole, read] = Replies.readRecords([line, short]);
   assert.deepEqual({ ...read, binds: [] }, { ...whole, binds: [] });
   assert.equal(Short.goal("1.2 waits _1_1,_1_2 p(f(a,b,c),_1_1)", 8), "1.2 waits _1_1,_1_2 p(f(a,b,…))");
   const bytes = new TextEncoder().encode(`${line}\n1 0.1 eq reads - binds - makes -\n`);
@@ -41,14 +41,14 @@ async function sideOn(query) {
 test("of a term that doubles 22 times a worker hands over the beginning", async () => {
   const side = await sideOn("d(22,a,Y)"), { look } = side.lines({ lines: ["leap 46"] });
   assert.ok(lettersOf(look) < MOST_HANDED, `${lettersOf(look)} are handed over`);
-  const steps = Graph.readRecords(new TextDecoder().decode(look.come).split("\n"));
+  const steps = Replies.readRecords(new TextDecoder().decode(look.come).split("\n"));
   assert.equal(steps.length, 46);
   assert.match(steps[45].binds[0].term, /^f\(f\(.*…\)+$/);
   assert.match(side.ask({ line: "goal 46" }).reply[0], /^46 45\.1 eq _0_1 = f\(.*…\)+$/);
 });
 
 test("a goal that is long is handed over shortened; where the console refuses to tell the goals, that is handed over", async () => {
-  const side = await sideOn("d(16,a,Y)"), { look } = side.lines({ lines: ["leap 33"] }), [goal] = Graph.readGoals(new TextDecoder().decode(look.goals).split("\n"));
+  const side = await sideOn("d(16,a,Y)"), { look } = side.lines({ lines: ["leap 33"] }), [goal] = Replies.readGoals(new TextDecoder().decode(look.goals).split("\n"));
   assert.equal(look.goalsRefused, "");
   assert.equal(goal.status, "ready");
   assert.match(goal.text, /^_0_1 = f\(f\(.*…\)+$/);

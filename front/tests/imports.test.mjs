@@ -1,0 +1,52 @@
+// Which module imports which: an arrow goes down only, none goes in a circle, and no product imports a test.
+import assert from "node:assert";
+import fs from "node:fs";
+import path from "node:path";
+import test from "node:test";
+import { fileURLToPath } from "node:url";
+
+const ROOT = fileURLToPath(new URL("../../", import.meta.url));
+const LAYERS = ["front/text", "front/protocol", "front/run", "front/session", "terminal", "editors", "web"]; // the last three stand side by side
+const VIEWS = LAYERS.slice(4);
+
+const filesBelow = (folder) => fs.readdirSync(path.join(ROOT, folder), { withFileTypes: true }).flatMap((entry) => {
+  const name = path.posix.join(folder, entry.name);
+  return entry.isDirectory() ? filesBelow(name) : [name];
+});
+const files = ["front", ...VIEWS].flatMap(filesBelow).filter((name) => name.endsWith(".mjs"));
+
+/** The modules that a module imports, but for those of Node. */
+function importsOf(file) {
+  const text = fs.readFileSync(path.join(ROOT, file), "utf8");
+  return [...text.matchAll(/(?:^|[\s(])(?:from|import\(?) *"(\.[^"]+)"/g)].map(([, name]) => path.posix.join(path.posix.dirname(file), name));
+}
+
+const arrows = new Map(files.map((file) => [file, importsOf(file)]));
+const isTest = (file) => file.includes("/tests/");
+const layerOf = (file) => LAYERS.findIndex((layer) => file.startsWith(`${layer}/`));
+const products = files.filter((file) => !isTest(file));
+
+test("each import names a module that is there", () => {
+  assert.ok(files.length > 100);
+  for (const [file, others] of arrows) for (const other of others) assert.ok(arrows.has(other), `${file} imports ${other}`);
+});
+
+test("no product imports a test", () => {
+  assert.deepStrictEqual(products.flatMap((file) => arrows.get(file).filter(isTest).map((other) => `${file} imports ${other}`)), []);
+});
+
+test("an arrow goes down, and no view knows another", () => {
+  const isLawful = (file, other) => layerOf(other) <= layerOf(file) && (!VIEWS.includes(LAYERS[layerOf(other)]) || layerOf(other) === layerOf(file));
+  assert.deepStrictEqual(products.flatMap((file) => arrows.get(file).filter((other) => !isLawful(file, other)).map((other) => `${file} imports ${other}`)), []);
+});
+
+test("no modules go in a circle", () => {
+  const seen = new Set();
+  const visit = (file, way) => {
+    assert.ok(!way.includes(file), [...way.slice(way.indexOf(file)), file].join(" imports "));
+    if (seen.has(file)) return;
+    for (const other of arrows.get(file)) visit(other, [...way, file]);
+    seen.add(file);
+  };
+  for (const file of files) visit(file, []);
+});
