@@ -2,6 +2,7 @@
 import Terms from "../front/run/terms.mjs";
 import Explain from "../front/run/explain.mjs";
 import Asking from "../front/protocol/asking.mjs";
+import Printed from "../front/text/printed.mjs";
 import Talk from "./talk.mjs";
 import Overview from "./overview.mjs";
 import Canvas from "./canvas.mjs";
@@ -18,9 +19,7 @@ const Store = (() => {
   /** The end of a chain of bindings. */
   function endOf(term) {
     const { store } = Overview.run().graph;
-    let end = term;
-    while (isVariable(end) && store.has(end)) end = store.get(end);
-    return end;
+    return Printed.endOfChain(term, (end) => (isVariable(end) ? store.get(end) : undefined));
   }
 
   function listParts(root, path, term, room) {

@@ -29,12 +29,8 @@ const Explain = (() => {
 
   /** Follows a chain of bindings, and notes each step on it. */
   function follow(graph, term, steps) {
-    let end = term;
-    while (isVariable(end) && graph.binderOf(end) !== undefined) {
-      steps.push(graph.binderOf(end));
-      end = graph.termOf(end);
-    }
-    return end;
+    const isBound = (end) => isVariable(end) && graph.binderOf(end) !== undefined;
+    return Printed.endOfChain(term, (end) => (isBound(end) ? graph.termOf(end) : undefined), (end) => steps.push(graph.binderOf(end)));
   }
 
   /**

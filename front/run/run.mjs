@@ -1,6 +1,7 @@
 // A run as the program's text and `records` tell it: the goals of its steps as written, where they stand in the text, and the names
 // that the text gives to variables. Each of them is computed when it is asked for, and kept: no name of a goal is given twice. Pure.
 import Reader from "../text/reader.mjs";
+import Printed from "../text/printed.mjs";
 import Print from "../text/print.mjs";
 import Replies from "../protocol/replies.mjs";
 
@@ -97,24 +98,16 @@ const Run = (() => {
 
     /** Where the chain of a term ends, as far as it is known. */
     endOf(term) {
-      let end = term;
-      if (!this.isFresh) return end;
-      while (end.variable !== undefined && this.bound.has(end.variable)) end = this.termOf(end.variable);
-      return end;
+      return this.isFresh ? Printed.endOfChain(term, ({ variable }) => (variable === undefined ? undefined : this.termOf(variable))) : term;
     }
 
     /** The store as it is shown: of a binding that is too long to be read its first letters stand for it. */
     get shown() {
-      const endOf = (term) => {
-        let end = term;
-        while (this.isFresh && end.variable !== undefined && this.bound.has(end.variable)) {
-          const bound = this.bound.get(end.variable);
-          if (bound.length > LONGEST) return { name: `${bound.slice(0, SHOWN)}${Print.CUT}`, arguments: [] };
-          end = this.termOf(end.variable);
-        }
-        return end;
+      const boundTo = ({ variable }) => {
+        const bound = variable === undefined ? undefined : this.bound.get(variable);
+        return bound?.length > LONGEST ? { name: `${bound.slice(0, SHOWN)}${Print.CUT}`, arguments: [] } : bound && this.termOf(variable);
       };
-      return { endOf };
+      return { endOf: (term) => (this.isFresh ? Printed.endOfChain(term, boundTo) : term) };
     }
 
     /** The step that made a goal; undefined for a goal of the query, and where the step is not kept. */

@@ -1,6 +1,7 @@
 // What the terminal adds after a reply: why it was refused and what would help, what a stop means, and the names of variables.
 import Causes from "../text/causes.mjs";
 import Choices from "./choices.mjs";
+import Printed from "../text/printed.mjs";
 import Print from "../text/print.mjs";
 import Reader from "../text/reader.mjs";
 import Stuck from "./stuck.mjs";
@@ -30,12 +31,10 @@ async function whyNoClause(session, goal, clause) {
 
 /** The variable that was bound to the value of a term, at the end of its chain; undefined where the term is no variable, or unbound. */
 function boundVariable(run, term) {
-  for (let at = term.variable; run.bound.has(at);) {
-    const bound = run.bound.get(at), next = typeof bound !== "string" ? bound.variable : /^_\d+_\d+$/.test(bound) ? bound : undefined;
-    if (next === undefined) return at;
-    at = next;
-  }
-  return undefined;
+  let last;
+  const termOf = (bound) => (typeof bound !== "string" ? bound : { variable: Reader.isState(bound) ? bound : undefined });
+  const end = Printed.endOfChain(term, ({ variable }) => termOf(run.bound.get(variable)), ({ variable }) => { last = variable; });
+  return end.variable === undefined ? last : undefined;
 }
 
 /** Which steps had bound the two sides of what could not be made equal. */

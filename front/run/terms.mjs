@@ -14,11 +14,7 @@ const Terms = (() => {
   }
 
   /** Where the chain of a term ends. */
-  function endOf(term, store) {
-    let end = term;
-    while (store.has(end)) end = store.get(end);
-    return end;
-  }
+  const endOf = (term, store) => Printed.endOfChain(term, (end) => store.get(end));
 
   /** The elements of a list as far as they are known, and what comes after them: nothing, or something unknown. */
   function elementsOf(term, store) {
