@@ -1,11 +1,11 @@
 #!/usr/bin/env python3
 """Times schedules of many lines, and prints a table: bench/schedule.py [--lines N] [PROGRAM]
 
-PROGRAM is the built program, ../crates/ghcdb/out/ghcdb where none is named; N is 1,000,000. Each row is a schedule of N lines
-that is played once, on the query `X = 1, Y = 2` without clauses: processor time, the peak of memory, and that of the same program
-on an empty schedule, beside the length of the schedule's text, which lies in memory while it is played. Proposals leave nothing
-behind; what is committed and undone has its entries in the journal and its step on the shelf. Nothing here passes or fails: figures
-depend on the machine.
+PROGRAM is the built program, ../crates/ghcdb/out/ghcdb where none is named; N is 1,000,000. Each row is a schedule of N
+lines that is played once, on the query `X = 1, Y = 2` without clauses: processor time, the peak of memory, and that of
+the same program on an empty schedule, beside the length of the schedule's text, which lies in memory while it is
+played. Proposals leave nothing behind; what is committed and undone has its entries in the journal and its step on the
+shelf. Nothing here passes or fails: figures depend on the machine.
 """
 
 import argparse
@@ -61,7 +61,9 @@ def play(program, lines):
         with open(schedule, "w") as out:
             out.write(text)
         words = [program, file, "--query", "X = 1, Y = 2", "--schedule", schedule]
-        told = subprocess.run([sys.executable, "-S", "-c", MEASURE, *words], check=True, capture_output=True, text=True).stdout
+        told = subprocess.run(
+            [sys.executable, "-S", "-c", MEASURE, *words], check=True, capture_output=True, text=True
+        ).stdout
         seconds, peak = told.split()
     return float(seconds), int(peak) / 1024, len(text) / 2**20
 

@@ -3,23 +3,26 @@
 
     bench/workers.py [--runs N] [--only WORD] [--workers N,N,..] [--own-processors] [--instructions] [PROGRAM]
 
-PROGRAM is the built program, ../crates/ghcdb/out/ghcdb where none is named. Each row is one `leap`: of a program whose matching is heavy,
-and of some whose steps are light. Columns are numbers of workers (1, 2 and 4): the time by the clock, the processor time of all threads,
-and how many times faster by the clock it is than the first. The first line is about what this machine can give: runs of the first row by
-one worker each, as many side by side as the column has workers, so that they share nothing but the processors. Read medians of many runs:
-on a shared machine best times differ from them by a half. What the program takes to start is taken off; the lines of the steps are made and
-thrown away. The figure is the median of N runs (5), without those during which the hypervisor gave a processor to others; the last line
-tells how many those were. The columns of a row are played by turns, so that a machine which grows slower does so for all of them. --only
-takes the rows whose name has WORD. Where there is `strace`, a last column tells in how many rounds the most workers made the run: each
-round starts one thread fewer than there are workers. Where there is `valgrind`, --instructions tells in place of the times how many
-instructions all threads took together, in millions; there threads take turns, so those that rest look for goals more often.
+PROGRAM is the built program, ../crates/ghcdb/out/ghcdb where none is named. Each row is one `leap`: of a program whose
+matching is heavy, and of some whose steps are light. Columns are numbers of workers (1, 2 and 4): the time by the
+clock, the processor time of all threads, and how many times faster by the clock it is than the first. The first line is
+about what this machine can give: runs of the first row by one worker each, as many side by side as the column has
+workers, so that they share nothing but the processors. Read medians of many runs: on a shared machine best times differ
+from them by a half. What the program takes to start is taken off; the lines of the steps are made and thrown away. The
+figure is the median of N runs (5), without those during which the hypervisor gave a processor to others; the last line
+tells how many those were. The columns of a row are played by turns, so that a machine which grows slower does so for
+all of them. --only takes the rows whose name has WORD. Where there is `strace`, a last column tells in how many rounds
+the most workers made the run: each round starts one thread fewer than there are workers. Where there is `valgrind`,
+--instructions tells in place of the times how many instructions all threads took together, in millions; there threads
+take turns, so those that rest look for goals more often.
 
-A system may let threads share a processor for some milliseconds after one starts or wakes. On a virtual machine started with
-`sched_vcpu_pack` (/proc/cmdline) four threads of a plain program had 31 of their first 40 ms of processor time, under the real-time policy
-39.6. --own-processors plays each session, of one worker too, under that policy, by `chrt`. It needs the right to it, and is no figure of what
-a user has: for that, read the table without it.
+A system may let threads share a processor for some milliseconds after one starts or wakes. On a virtual machine started
+with `sched_vcpu_pack` (/proc/cmdline) four threads of a plain program had 31 of their first 40 ms of processor time,
+under the real-time policy 39.6. --own-processors plays each session, of one worker too, under that policy, by `chrt`.
+It needs the right to it, and is no figure of what a user has: for that, read the table without it.
 
-Nothing here passes or fails: times depend on the machine, and on what else it does, so compare only what one run has measured.
+Nothing here passes or fails: times depend on the machine, and on what else it does, so compare only what one run has
+measured.
 """
 
 import argparse
@@ -57,7 +60,8 @@ def on_own_processors(words):
 
 
 def stolen():
-    """How long the hypervisor gave processors to others so far, in hundredths of a second; 0 where the system does not tell."""
+    """How long the hypervisor gave processors to others so far, in hundredths of a second; 0 where the system does not
+    tell."""
     try:
         with open("/proc/stat", encoding="ascii") as told:
             return int(told.readline().split()[8])
@@ -66,8 +70,8 @@ def stolen():
 
 
 def undisturbed(plays, runs):
-    """What each of the plays gives in so many runs by turns, without those during which more was stolen than a hundredth of a second; all
-    of one, where that leaves it none."""
+    """What each of the plays gives in so many runs by turns, without those during which more was stolen than a
+    hundredth of a second; all of one, where that leaves it none."""
     played: list[list] = [[] for _ in plays]
     for _ in range(runs):
         for play, given in zip(plays, played):
@@ -94,7 +98,8 @@ def medians(played):
 
 
 def timed(words_by_workers, runs):
-    """Of each command line the medians of the seconds by the clock and of processor time that a leap takes, without the start."""
+    """Of each command line the medians of the seconds by the clock and of processor time that a leap takes, without the
+    start."""
     plays = [partial(play, words, lines) for words in words_by_workers for lines in (b"", b"leap\n")]
     told = [medians(played) for played in undisturbed(plays, runs)]
     return [[max(0.0, them - those) for those, them in zip(start, leap)] for start, leap in zip(told[::2], told[1::2])]
@@ -117,12 +122,15 @@ def most_of_machine(words, given):
     plays = [partial(side_by_side, words, copies, b"leap\n") for copies in given.workers]
     clocks = [statistics.median(played) for played in undisturbed(plays, given.runs)]
     first = clocks[0] / given.workers[0]
-    columns = (f"{clock * 1000:>11.1f} ms{'':11}{first * copies / clock:>7.2f}" for clock, copies in zip(clocks, given.workers))
+    columns = (
+        f"{clock * 1000:>11.1f} ms{'':11}{first * copies / clock:>7.2f}" for clock, copies in zip(clocks, given.workers)
+    )
     return "".join(columns)
 
 
 def rounds_of(words, workers):
-    """In how many rounds the leap was made, as text: by one thread there are none, and without `strace` nothing is told."""
+    """In how many rounds the leap was made, as text: by one thread there are none, and without `strace` nothing is
+    told."""
     if workers == 1 or not shutil.which("strace"):
         return ""
     with tempfile.NamedTemporaryFile() as told:
@@ -135,7 +143,9 @@ def rounds_of(words, workers):
 def instructions_of(words):
     """How many instructions the session takes, by all threads."""
     watch = ["valgrind", "--tool=callgrind", "--callgrind-out-file=/dev/null"]
-    told = subprocess.run([*watch, *words], input=b"leap\n", stdout=subprocess.DEVNULL, stderr=subprocess.PIPE, check=True).stderr
+    told = subprocess.run(
+        [*watch, *words], input=b"leap\n", stdout=subprocess.DEVNULL, stderr=subprocess.PIPE, check=True
+    ).stderr
     return int(re.search(rb"Collected : (\d+)", told)[1])
 
 
@@ -149,7 +159,10 @@ def columns_of_times(words_by_workers, runs):
     """The columns of a row: for each number of workers the times of its run."""
     times = timed(words_by_workers, runs)
     first = times[0][0]
-    columns = (f"{clock * 1000:>11.1f} ms{processor * 1000:>8.1f} ms{first / max(clock, 1e-6):>7.2f}" for clock, processor in times)
+    columns = (
+        f"{clock * 1000:>11.1f} ms{processor * 1000:>8.1f} ms{first / max(clock, 1e-6):>7.2f}"
+        for clock, processor in times
+    )
     return "".join(columns)
 
 
@@ -180,12 +193,20 @@ def main():
         if given.only not in name:
             continue
         words = [words_of(given.program, file, query, workers) for workers in given.workers]
-        line = columns_of_instructions(words) if given.instructions else columns_of_times(list(map(as_played, words)), given.runs)
+        line = (
+            columns_of_instructions(words)
+            if given.instructions
+            else columns_of_times(list(map(as_played, words)), given.runs)
+        )
         steps, ended = steps_of(words[0])
         rounds = rounds_of(words[-1], given.workers[-1])
-        print(f"{name:28}{steps:>9,}{line}{rounds:>14}" + ("" if ended == "stopped quiet" else f"  {ended}"), flush=True)
+        print(
+            f"{name:28}{steps:>9,}{line}{rounds:>14}" + ("" if ended == "stopped quiet" else f"  {ended}"), flush=True
+        )
     if COUNTED["left out"]:
-        print(f"left out: {COUNTED['left out']} of {COUNTED['runs']} runs, during which the hypervisor took a processor")
+        print(
+            f"left out: {COUNTED['left out']} of {COUNTED['runs']} runs, during which the hypervisor took a processor"
+        )
 
 
 if __name__ == "__main__":

@@ -1,13 +1,13 @@
 #!/usr/bin/env python3
-"""Plays all rows of tests/run_rows.py, and the lines of a shell of tests/devices.py, through ./ghcdb where it has no native program: on
-the program that the page carries, by Node, with the system's own streams and files.
+"""Plays all rows of tests/run_rows.py, and the lines of a shell of tests/devices.py, through ./ghcdb where it has no
+native program: on the program that the page carries, by Node, with the system's own streams and files.
 
     python3 tests/by_node.py [--all]     with those of the tables, too
 
-Each row starts Node, so the rows of the tables, which differ in a text alone, are left out without --all: web/test plays them on the
-same program in one process. So it takes half a minute, with --all two. Left out are the lines of a shell that limit the memory, for
-Node takes more. Last a session is played where bash, coreutils and Node are all that is there. The last line is
-`N passed, M failed`; the exit status is 1 where one failed, and where there is no Node.
+Each row starts Node, so the rows of the tables, which differ in a text alone, are left out without --all: web/test
+plays them on the same program in one process. So it takes half a minute, with --all two. Left out are the lines of a
+shell that limit the memory, for Node takes more. Last a session is played where bash, coreutils and Node are all that
+is there. The last line is `N passed, M failed`; the exit status is 1 where one failed, and where there is no Node.
 """
 import os
 import shutil
@@ -58,7 +58,9 @@ def play(with_tables):
     rows = [it for it in run_rows.all_rows([]) if with_tables or ".table:" not in it[0]]
     with ThreadPoolExecutor(os.cpu_count()) as pool:
         judged = list(zip([name for name, _ in rows], pool.map(run_rows.judge, [row for _, row in rows])))
-        return judged + [(it.what, [wrong] if wrong else []) for it, wrong in zip(shells, pool.map(devices.shell, shells))]
+        return judged + [
+            (it.what, [wrong] if wrong else []) for it, wrong in zip(shells, pool.map(devices.shell, shells))
+        ]
 
 
 def main():

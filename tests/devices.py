@@ -1,10 +1,11 @@
 #!/usr/bin/env python3
 """Lets devices fail under sessions: tests/devices.py
 
-Each read of standard input and each write of standard output of two sessions fails once, in turn. What is written has to be what
-was written before that call, and nothing behind it; the status is 3, with `session: F26 device`. Then the lines of a shell below
-are tried, each in a folder of its own, for what a system does itself: ends that are closed, a reader that goes away, a full
-device, a file that may not grow, memory that runs out, files that do not end, and a signal in a run.
+Each read of standard input and each write of standard output of two sessions fails once, in turn. What is written has
+to be what was written before that call, and nothing behind it; the status is 3, with `session: F26 device`. Then the
+lines of a shell below are tried, each in a folder of its own, for what a system does itself: ends that are closed, a
+reader that goes away, a full device, a file that may not grow, memory that runs out, files that do not end, and a
+signal in a run.
 
 It needs a C compiler; where there is none that is said, and nothing is tried. The last line is `N passed, M failed`.
 """
@@ -32,8 +33,8 @@ STEPS = "\n".join(f"REDU {n} {n - 1}.1 by 1" for n in range(1, 1001)) + "\nstopp
 
 
 class Shell(NamedTuple):
-    """A line of a shell, with what it has to write, on both streams, and its status. `$ghcdb` is the program, `loop.ghc` a program
-    of one clause that calls itself, and `append.ghc` that of the examples."""
+    """A line of a shell, with what it has to write, on both streams, and its status. `$ghcdb` is the program,
+    `loop.ghc` a program of one clause that calls itself, and `append.ghc` that of the examples."""
 
     what: str
     line: str
@@ -53,7 +54,13 @@ SHELLS = [
         "0.1 ready _0_1 = 1\n",
         "session: F26 device\n3\n",
     ),
-    Shell("the device is full", "echo leap 1000 | $ghcdb loop.ghc --query 'loop(X)' >/dev/full", "", "session: F26 device\n", 3),
+    Shell(
+        "the device is full",
+        "echo leap 1000 | $ghcdb loop.ghc --query 'loop(X)' >/dev/full",
+        "",
+        "session: F26 device\n",
+        3,
+    ),
     Shell(
         "the file may not grow",
         "trap '' XFSZ; ulimit -f 4; echo leap 1000 | $ghcdb loop.ghc --query 'loop(X)' >written; echo $?; cat written",
@@ -61,7 +68,8 @@ SHELLS = [
         "session: F26 device\n",
     ),
     Shell(
-        # With 131,072 steps the tables are full, and to double one takes more than the limit leaves: so the next line has memory.
+        # With 131,072 steps the tables are full, and to double one takes more than the limit leaves: so the next line
+        # has memory.
         "memory runs out",
         "ulimit -v 51500; printf 'leap\\nshow X\\n' | $ghcdb loop.ghc --query 'loop(X)' | grep -v -e '^REDU' -e '^F1 no memory$'",
         "stopped memory\nX = _0_1\n",
@@ -80,10 +88,21 @@ SHELLS = [
     ),
     Shell(
         "the device is full behind several workers",
-        "echo leap 1000 | $ghcdb loop.ghc --query 'loop(X), loop(Y)' --workers 4 >/dev/full", "", "session: F26 device\n", 3,
+        "echo leap 1000 | $ghcdb loop.ghc --query 'loop(X), loop(Y)' --workers 4 >/dev/full",
+        "",
+        "session: F26 device\n",
+        3,
     ),
-    Shell("the program has no end", "ulimit -v 60000; $ghcdb /dev/zero --query true", "", "program: F6 limit: text\n", 1),
-    Shell("the program is large", "truncate -s 10G large; ulimit -v 60000; $ghcdb large --query true", "", "program: F6 limit: text\n", 1),
+    Shell(
+        "the program has no end", "ulimit -v 60000; $ghcdb /dev/zero --query true", "", "program: F6 limit: text\n", 1
+    ),
+    Shell(
+        "the program is large",
+        "truncate -s 10G large; ulimit -v 60000; $ghcdb large --query true",
+        "",
+        "program: F6 limit: text\n",
+        1,
+    ),
     Shell(
         "no more is read of a program than a byte past its limit",
         "head -c 2000000 /dev/zero | { $ghcdb /dev/stdin --query true; wc -c; }",
@@ -91,7 +110,13 @@ SHELLS = [
         "program: F6 limit: text\n",
     ),
     Shell("the program cannot be read", "$ghcdb /proc/self/mem --query true", "", "program: F26 device\n", 3),
-    Shell("a history is none and has no end", "ulimit -v 60000; $ghcdb append.ghc --query true --load /dev/zero", "", "history: F24 history line 1\n", 1),
+    Shell(
+        "a history is none and has no end",
+        "ulimit -v 60000; $ghcdb append.ghc --query true --load /dev/zero",
+        "",
+        "history: F24 history line 1\n",
+        1,
+    ),
     Shell(
         "no more is read of a file that is no history than the first line of one has",
         "yes ghc-history 3 | head -c 2000000 | { $ghcdb append.ghc --query true --load /dev/stdin; wc -c; }",
@@ -100,7 +125,10 @@ SHELLS = [
     ),
     Shell(
         "a history has no end",
-        "ulimit -v 60000; { echo ghc-history 1; cat /dev/zero; } | { $ghcdb append.ghc --query true --load /dev/stdin; }", "", "history: F1 no memory\n", 1,
+        "ulimit -v 60000; { echo ghc-history 1; cat /dev/zero; } | { $ghcdb append.ghc --query true --load /dev/stdin; }",
+        "",
+        "history: F1 no memory\n",
+        1,
     ),
     Shell(
         "what was replied before a run is written when a signal ends it",
@@ -114,7 +142,12 @@ SHELLS = [
 def sessions(folder):
     """A session whose replies are each one write, and one with a reply of several."""
     for name, program, query, lines in [
-        ("append", (EXAMPLES / "append.ghc").read_text(), "append([1],[2],R)", "step 0.1;step 1.1;nonsense;step 1.2;step 3.1;show R;undo 2;ask append(R,[3],Q);records;quit"),
+        (
+            "append",
+            (EXAMPLES / "append.ghc").read_text(),
+            "append([1],[2],R)",
+            "step 0.1;step 1.1;nonsense;step 1.2;step 3.1;show R;undo 2;ask append(R,[3],Q);records;quit",
+        ),
         ("loop", LOOP, "loop(X)", "leap 1000;goals;leap 500;show X"),
     ]:
         (folder / name).mkdir()
@@ -126,16 +159,24 @@ def fails(name, session, whole, setting):
     """What is wrong where a call of the session fails, if it did not write what came before that call, and no more."""
     played = session.play(**setting)
     output = b"".join(played.replies)
-    if whole.startswith(output) and len(output) == played.failed_behind and (played.errors, played.status) == (DEVICE, 3):
+    if (
+        whole.startswith(output)
+        and len(output) == played.failed_behind
+        and (played.errors, played.status) == (DEVICE, 3)
+    ):
         return None
-    return f"{name}, {setting}: {len(output)} bytes, failed behind {played.failed_behind}: {played.errors} {played.status}"
+    return (
+        f"{name}, {setting}: {len(output)} bytes, failed behind {played.failed_behind}: {played.errors} {played.status}"
+    )
 
 
 def calls(folder, pool):
     """Lets each call of the sessions fail, and says what is wrong with each."""
     for name, session in sessions(folder):
         plain = session.play()
-        settings = [{"FAIL_READ": n} for n in range(1, plain.reads + 1)] + [{"FAIL_WRITE": n} for n in range(1, plain.writes + 1)]
+        settings = [{"FAIL_READ": n} for n in range(1, plain.reads + 1)] + [
+            {"FAIL_WRITE": n} for n in range(1, plain.writes + 1)
+        ]
         whole = b"".join(plain.replies)
         yield from pool.map(lambda setting: fails(name, session, whole, setting), settings)
 

@@ -1,9 +1,9 @@
 #!/usr/bin/env python3
 """Looks that what a line costs grows no faster than what it looks at: tests/growth.py
 
-Each session below is played at a size and at four times that size. The processor time may grow to SLOWER times four, which leaves room
-for a logarithm and for caches; what grows with the square grows to sixteen times. Of each, the least of three runs counts. The last line
-is `N passed, M failed`, and the status is 1 where one failed.
+Each session below is played at a size and at four times that size. The processor time may grow to SLOWER times four,
+which leaves room for a logarithm and for caches; what grows with the square grows to sixteen times. Of each, the least
+of three runs counts. The last line is `N passed, M failed`, and the status is 1 where one failed.
 """
 import os
 import resource
@@ -54,9 +54,12 @@ class Session(NamedTuple):
 
 
 def causes(size):
-    """`why` of a step that read what so many steps bound: three a variable and two at the end make the chain, and one asks for the reader."""
+    """`why` of a step that read what so many steps bound: three a variable and two at the end make the chain, and one
+    asks for the reader."""
     reader = 3 * size + 4
-    return Session(CHAIN, f"al({size},X)", ["leap", "ask r(X)", f"step {reader - 1}.1", f"why {reader}"], last=f"{reader - 1} made")
+    return Session(
+        CHAIN, f"al({size},X)", ["leap", "ask r(X)", f"step {reader - 1}.1", f"why {reader}"], last=f"{reader - 1} made"
+    )
 
 
 def searched(hashed):
@@ -78,7 +81,12 @@ def walks(size):
 def undone(size):
     """A walk along a list of so many elements, and the undo of each of its steps, the last one first."""
     listed = ",".join(size * "1")
-    return Session(WALK, f"walk([{listed}])", ["leap"] + [f"undo {step}" for step in range(size + 1, 0, -1)] + ["save 1"], last=f"end {size + 2}")
+    return Session(
+        WALK,
+        f"walk([{listed}])",
+        ["leap"] + [f"undo {step}" for step in range(size + 1, 0, -1)] + ["save 1"],
+        last=f"end {size + 2}",
+    )
 
 
 def doubled(size):

@@ -1,10 +1,11 @@
 #!/usr/bin/env python3
-"""Tries the launcher ./ghcdb on a copy of it, with a PATH of its own: stubs of `rt`, Node, the programs, `rlwrap` and git.
+"""Tries the launcher ./ghcdb on a copy of it, with a PATH of its own: stubs of `rt`, Node, the programs, `rlwrap` and
+git.
 
     python3 tests/launcher.py
 
-Nothing is proved, and nothing of the repository is run but the launcher, its tools, and terminal/test where it tries nothing. The last
-line is `N passed, M failed`; the exit status is 1 where a case failed.
+Nothing is proved, and nothing of the repository is run but the launcher, its tools, and terminal/test where it tries
+nothing. The last line is `N passed, M failed`; the exit status is 1 where a case failed.
 """
 
 import os
@@ -20,7 +21,19 @@ ROOT = Path(__file__).resolve().parent.parent
 SECONDS = 20
 TABLE = (ROOT / "tools" / "proof-seconds.txt").read_text()
 SECONDS_OF = {name: int(seconds) for name, seconds in re.findall(r"^(\w+) (\d+)$", TABLE, re.MULTILINE)}
-TOOLS = ("bash", "basename", "cp", "dirname", "env", "mkdir", "mv", "readlink", "sha256sum", "sort", "touch")  # no find, sed or awk
+TOOLS = (
+    "bash",
+    "basename",
+    "cp",
+    "dirname",
+    "env",
+    "mkdir",
+    "mv",
+    "readlink",
+    "sha256sum",
+    "sort",
+    "touch",
+)  # no find, sed or awk
 
 PROGRAM = """#!/usr/bin/env bash
 printf '%s\\n' "the program: $*"
@@ -83,7 +96,15 @@ class Copy:
         for name in TOOLS:
             self.tool("tools", name).symlink_to(shutil.which(name))
         self.write(self.folder / "stub", PROGRAM)
-        stubs = {"cat": CAT, "nproc": "#!/bin/sh\necho 4\n", "rt": RT, "node": NODE, "python3": PYTHON, "rlwrap": RLWRAP, "git": GIT}
+        stubs = {
+            "cat": CAT,
+            "nproc": "#!/bin/sh\necho 4\n",
+            "rt": RT,
+            "node": NODE,
+            "python3": PYTHON,
+            "rlwrap": RLWRAP,
+            "git": GIT,
+        }
         for name, text in stubs.items():
             self.write(self.tool("tools" if name in ("cat", "nproc") else name, name), text)
         shutil.copytree(self.folder / "bin" / "tools", self.folder / "bin" / "no sums", symlinks=True)
@@ -105,7 +126,9 @@ class Copy:
 
     def sum(self):
         """The sum of its sources."""
-        return subprocess.run([self.folder / "tools" / "sources-sum"], capture_output=True, text=True, check=True).stdout.strip()
+        return subprocess.run(
+            [self.folder / "tools" / "sources-sum"], capture_output=True, text=True, check=True
+        ).stdout.strip()
 
     def put_page(self, sources, proved="true"):
         """Puts a page there that says of which sources its program is."""
@@ -127,7 +150,12 @@ class Copy:
     def run(self, *words, path=(), tools="tools", terminal="xterm", settings=(), **streams):
         """What the launcher writes to pipes, and its status; `streams` puts others in the place of pipes."""
         places = [str(self.folder / "bin" / name) for name in (tools, *path)]
-        known = {"PATH": ":".join(places), "ASKED": str(self.folder / "asked"), "STUB": str(self.folder / "stub"), "TERM": terminal}
+        known = {
+            "PATH": ":".join(places),
+            "ASKED": str(self.folder / "asked"),
+            "STUB": str(self.folder / "stub"),
+            "TERM": terminal,
+        }
         streams = {"stdin": subprocess.DEVNULL, "stdout": subprocess.PIPE, "stderr": subprocess.PIPE} | streams
         environment = known | dict(settings)
         ended = subprocess.run([self.folder / "ghcdb", *words], env=environment, timeout=SECONDS, text=True, **streams)
@@ -181,9 +209,17 @@ def engine_line(sources=HERE, time=ESTIMATE):
 def without_a_native_program(copy):
     """Cases where no native program was built."""
     yield "nothing is there", copy.run("a"), ("", SCREEN.format(MISSING, MISSING, ESTIMATE), 127)
-    yield "a page alone is of no help", copy.run("a", path=["node"]), ("", SCREEN.format("here it is v18.0.0", MISSING, ESTIMATE), 127)
+    yield "a page alone is of no help", copy.run("a", path=["node"]), (
+        "",
+        SCREEN.format("here it is v18.0.0", MISSING, ESTIMATE),
+        127,
+    )
     copy.put_page(copy.sum())
-    yield "rt alone proves nothing unasked", copy.run("a", path=["rt"]), ("", SCREEN.format(MISSING, "it is here", ESTIMATE), 127)
+    yield "rt alone proves nothing unasked", copy.run("a", path=["rt"]), (
+        "",
+        SCREEN.format(MISSING, "it is here", ESTIMATE),
+        127,
+    )
     old = copy.run("a", path=["node"], settings={"NODE_VERSION": "v16.20.2"})
     yield "a Node that is too old", old, ("", SCREEN.format("here it is v16.20.2", MISSING, ESTIMATE), 127)
     yield "no rows where nothing runs", copy.run("--test"), ("", SCREEN.format(MISSING, MISSING, ESTIMATE), 127)
@@ -199,17 +235,25 @@ def without_a_native_program(copy):
         env={"PATH": ":".join(str(copy.folder / "bin" / name) for name in ("tools", "node"))},
     )
     yield "the engine, and the input is closed", closed.stdout, "node: console a, closed: 0\n"
-    yield "the rows on the engine", copy.run("--test", "a", path=["node", "python3"]), ("node: rows.mjs a\n", engine_line(), 4)
+    yield "the rows on the engine", copy.run("--test", "a", path=["node", "python3"]), (
+        "node: rows.mjs a\n",
+        engine_line(),
+        4,
+    )
     no_python = "ghcdb: the rows are read by python3, which is not on the PATH\n"
     yield "the rows without Python", copy.run("--test", path=["node"]), ("", engine_line() + no_python, 127)
     version = "node: console --version\ncommit {}\nkit the kit of the page\n"
-    yield "the version on the engine", copy.run("--version", path=["node"]), (version.format("unknown"), engine_line(), 0)
+    yield "the version on the engine", copy.run("--version", path=["node"]), (
+        version.format("unknown"),
+        engine_line(),
+        0,
+    )
     copy.put_page(copy.sum(), proved="false")
     unproved = engine_line().replace("the proved program", "a program WITHOUT PROOF")
     yield "a page whose program is not proved", copy.run("a", path=["node"]), ("node: console a\n", unproved, 4)
     copy.put_page("0")
     yield "a page of other sources", copy.run("a", path=["node", "rt"]), ("node: console a\n", engine_line(OTHER), 4)
-    copy.page.write_text("<script>\nconst MADE_WITH = {\"commit\": \"0abc\", \"kit\": \"k\", \"proved\": true};\n</script>\n")
+    copy.page.write_text('<script>\nconst MADE_WITH = {"commit": "0abc", "kit": "k", "proved": true};\n</script>\n')
     yield "a page that names no sources", copy.run("a", path=["node"]), ("node: console a\n", engine_line(OTHER), 4)
 
 
@@ -251,7 +295,9 @@ def proving(copy):
     copy.change(third)
     copy.run("--prove", path=["rt"])
     table.write_text(kept)
-    yield "what it noted, with the time", re.sub(r"seconds \d+", "seconds N", copy.noted.read_text()), f"sources {copy.sum()}\nseconds N\n"
+    yield "what it noted, with the time", re.sub(
+        r"seconds \d+", "seconds N", copy.noted.read_text()
+    ), f"sources {copy.sum()}\nseconds N\n"
 
 
 def with_a_native_program(copy):
@@ -271,9 +317,17 @@ def with_a_native_program(copy):
     stale = NATIVE_OF_OTHER.format(time)
     yield "a source has changed", copy.run("a", "b c", **all_there), ("the program: a b c\n", stale, 3)
     yield "and there is no Node", copy.run("a", "b c", path=["rt"]), ("the program: a b c\n", stale, 3)
-    yield "the rows on a program of other sources", copy.run("--test", path=["python3"]), ("python: run_rows.py  on ghcdb\n", stale, 6)
+    yield "the rows on a program of other sources", copy.run("--test", path=["python3"]), (
+        "python: run_rows.py  on ghcdb\n",
+        stale,
+        6,
+    )
     copy.put_page(copy.sum())
-    yield "the page is of the changed source", copy.run("a", **all_there), ("node: console a\n", engine_line(time=time), 4)
+    yield "the page is of the changed source", copy.run("a", **all_there), (
+        "node: console a\n",
+        engine_line(time=time),
+        4,
+    )
     copy.noted.unlink()
     yield "and nothing is noted", copy.run("a", **all_there), ("node: console a\n", engine_line(), 4)
     copy.put_program()
@@ -299,7 +353,11 @@ def without_sums(copy):
     copy.change(copy.crates[0])
     native = NATIVE_OF_OTHER.format(ESTIMATE)
     unknown = native.replace("OTHER SOURCES than those here", UNKNOWN)
-    yield "nobody knows of which sources it is", copy.run("a", "b c", tools="no sums"), ("the program: a b c\n", unknown, 3)
+    yield "nobody knows of which sources it is", copy.run("a", "b c", tools="no sums"), (
+        "the program: a b c\n",
+        unknown,
+        3,
+    )
     copy.noted.unlink()
     yield "it is noted of none", copy.run("a", "b c", tools="no sums"), ("the program: a b c\n", native, 3)
     copy.program.unlink()
@@ -322,7 +380,11 @@ def with_input(copy):
     for tools, sources in (("tools", HERE), ("no sums", f"{UNKNOWN}, of commit 0abc")):
         with lines.open() as given:
             ended = copy.run("a", tools=tools, path=["node"], settings={"READING": "1"}, stdin=given)
-        yield f"with {tools} the session gets its whole input", ended, ("leap\nnode: console a\n", engine_line(sources), 4)
+        yield f"with {tools} the session gets its whole input", ended, (
+            "leap\nnode: console a\n",
+            engine_line(sources),
+            4,
+        )
 
 
 def without_what_tests_need(copy):
@@ -345,7 +407,9 @@ def with_words_for_scripts(copy):
 def at_a_terminal(copy):
     """Cases with a native program of these sources, at a terminal."""
     written = "the program: a b c\n"
-    wrapped = f"rlwrap: --command-name ghcdb --substitute-prompt >  --file {copy.folder}/commands.txt {copy.program} a b c\n"
+    wrapped = (
+        f"rlwrap: --command-name ghcdb --substitute-prompt >  --file {copy.folder}/commands.txt {copy.program} a b c\n"
+    )
     yield "at a terminal with rlwrap", copy.run_at_terminal("a", "b c", path=["rlwrap"]), (wrapped, 5)
     yield "at a terminal without it", copy.run_at_terminal("a", "b c"), (written, 3)
     yield "at a dumb terminal", copy.run_at_terminal("a", "b c", path=["rlwrap"], terminal="dumb"), (written, 3)
@@ -354,11 +418,20 @@ def at_a_terminal(copy):
         yield f"at a terminal, but for {name}", status, 3
     greeting = "ghcdb: type goals, step G, leap, records, why N, undo N or quit; ./ghcdb --help tells all commands\n"
     words = ("a", "--query", "q")
-    yield "a session at a terminal is greeted", copy.run_at_terminal(*words), (f"{greeting}the program: a --query q\n", 3)
+    yield "a session at a terminal is greeted", copy.run_at_terminal(*words), (
+        f"{greeting}the program: a --query q\n",
+        3,
+    )
     front = "node: ghcdb a --query q, on ghcdb\n"
-    yield "with Node a session at a terminal gets the front", copy.run_at_terminal(*words, path=["node", "rlwrap"]), (front, 4)
+    yield "with Node a session at a terminal gets the front", copy.run_at_terminal(*words, path=["node", "rlwrap"]), (
+        front,
+        4,
+    )
     yield "one in a pipe is not", copy.run(*words), ("the program: a --query q\n", "", 3)
-    yield "nor is a schedule", copy.run_at_terminal(*words, "--schedule", "s"), ("the program: a --query q --schedule s\n", 3)
+    yield "nor is a schedule", copy.run_at_terminal(*words, "--schedule", "s"), (
+        "the program: a --query q --schedule s\n",
+        3,
+    )
 
 
 def versions(copy):
@@ -373,8 +446,14 @@ def versions(copy):
 
 def texts(copy):
     """The commands that other texts list are those of docs/FORMATS.md."""
-    helped = (ROOT / "crates" / "ghcdb" / "src" / "help.rt").read_text().partition("a line each:\n")[2].partition("\n\n")[0]
-    named = {word for line in helped.splitlines() for word in re.findall(r"(?:^  |, )([a-z]+)", line[:20].partition("   ")[0])}
+    helped = (
+        (ROOT / "crates" / "ghcdb" / "src" / "help.rt").read_text().partition("a line each:\n")[2].partition("\n\n")[0]
+    )
+    named = {
+        word
+        for line in helped.splitlines()
+        for word in re.findall(r"(?:^  |, )([a-z]+)", line[:20].partition("   ")[0])
+    }
     yield "the commands that --help lists", sorted(named), commands()
     yield "the words that are completed", (copy.folder / "commands.txt").read_text().split(), commands()
 

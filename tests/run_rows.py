@@ -1,6 +1,6 @@
 #!/usr/bin/env python3
-"""Runs the rows and tables of tests/rows/, and the examples of some pages, on the proved program, crates/ghcdb/out/ghcdb, or on the
-one that the environment names as GHCDB.
+"""Runs the rows and tables of tests/rows/, and the examples of some pages, on the proved program,
+crates/ghcdb/out/ghcdb, or on the one that the environment names as GHCDB.
 
     python3 tests/run_rows.py [WORD..]     the files whose names hold one of the words; without words, all
     python3 tests/run_rows.py --tell [WORD..]     runs nothing, and tells these rows as JSON, a line each, for others who play them
@@ -54,19 +54,19 @@ What it has to do:
                        the options
     status             the exit status, 0 where it is left out
 
-A table is a file NAME.table of many small rows on texts that are refused or accepted. Each of its lines is a row: KIND, a
-tab, the text with its braces, a tab, and the line on standard error, with which the status is 1, or the word `accepted`,
-with which the session begins and, without input, ends with status 0. KIND is `program`, and then the query is `true`;
-`query`, and then the program is empty; or `history`, and then program and query are those of examples/append.ghc. Lines
-that begin with `#` and empty lines are left out.
+A table is a file NAME.table of many small rows on texts that are refused or accepted. Each of its lines is a row: KIND,
+a tab, the text with its braces, a tab, and the line on standard error, with which the status is 1, or the word
+`accepted`, with which the session begins and, without input, ends with status 0. KIND is `program`, and then the query
+is `true`; `query`, and then the program is empty; or `history`, and then program and query are those of
+examples/append.ghc. Lines that begin with `#` and empty lines are left out.
 
-The examples of README.md, and of LANGUAGE.md, FORMATS.md, TUTORIAL.md, RACE.md and TERMINAL.md in docs/, are rows too: each block that
-begins with `program` and `query`, and then has a session; one that begins with `continued` goes on with the session of the block before
-it, and one that begins with `after the first run` with that of the page's first.
+The examples of README.md, and of LANGUAGE.md, FORMATS.md, TUTORIAL.md, RACE.md and TERMINAL.md in docs/, are rows too:
+each block that begins with `program` and `query`, and then has a session; one that begins with `continued` goes on with
+the session of the block before it, and one that begins with `after the first run` with that of the page's first.
 
-A block that begins with `$ ./ghcdb FILE --query "QUERY"` is a session on a file of the repository as a terminal shows it. Its lines
-that begin with `% ` are the terminal's; here they are left out, and with them what is typed and answered by such lines alone. Where
-`% sent: LINE` stands, LINE is given in place of what was typed.
+A block that begins with `$ ./ghcdb FILE --query "QUERY"` is a session on a file of the repository as a terminal shows
+it. Its lines that begin with `% ` are the terminal's; here they are left out, and with them what is typed and answered
+by such lines alone. Where `% sent: LINE` stands, LINE is given in place of what was typed.
 """
 
 import json
@@ -92,7 +92,19 @@ AT_TERMINAL = re.compile(rb'\$ \./ghcdb (\S+) --query "(.*)"')
 MARK, SENT = b"% ", b"% sent: "
 
 SINGLE = {
-    "program", "example", "file", "query", "options", "words", "input", "in turns", "left open", "session", "schedule", "output", "errors",
+    "program",
+    "example",
+    "file",
+    "query",
+    "options",
+    "words",
+    "input",
+    "in turns",
+    "left open",
+    "session",
+    "schedule",
+    "output",
+    "errors",
     "status",
 }
 LISTED = {"output contains", "errors contain"}
@@ -206,7 +218,11 @@ def table_row(line):
     try:
         row: dict = {key: [] for key in LISTED}
         if columns[0] == b"history":
-            row |= {"example": b"append.ghc", "file run.history": expand(columns[1]), "options": b"--load\nrun.history\n"}
+            row |= {
+                "example": b"append.ghc",
+                "file run.history": expand(columns[1]),
+                "options": b"--load\nrun.history\n",
+            }
             take_example(row)
         else:
             row |= {"program": b"", "query": b"true", columns[0].decode(): expand(columns[1])}
@@ -363,7 +379,12 @@ def read_some(stream, length):
 def run_in_turns(row, folder):
     """The same of a session in which no line is given before the replies to those above it were written."""
     with subprocess.Popen(
-        [PROGRAM, *words_of(row)], stdin=subprocess.PIPE, stdout=subprocess.PIPE, stderr=subprocess.PIPE, cwd=folder, bufsize=0
+        [PROGRAM, *words_of(row)],
+        stdin=subprocess.PIPE,
+        stdout=subprocess.PIPE,
+        stderr=subprocess.PIPE,
+        cwd=folder,
+        bufsize=0,
     ) as program:
         output = b""
         for given, written in row["turns"]:
@@ -434,20 +455,29 @@ def told(name, row):
     """A row as JSON: what the program is given, and what it has to do."""
     if isinstance(row, BadRow):
         return json.dumps({"name": name, "bad": str(row)})
-    return json.dumps({
-        "name": name,
-        "words": [letters(word) for word in words_of(row)],
-        "files": {file: letters(text) for file, text in files_of(row).items()},
-        "input": letters(row.get("input", b"")),
-        "turns": [[letters(given), letters(written)] for given, written in row["turns"]] if "in turns" in row else None,
-        "left open": "left open" in row,
-        "to": [[number, key.removeprefix(to)] for number, to in ((1, "to "), (2, "errors to ")) for key in row if key.startswith(to)],
-        "output": letters(row.get("output", b"")),
-        "errors": letters(row.get("errors", b"")),
-        "output contains": [letters(text) for text in row["output contains"]],
-        "errors contain": [letters(text) for text in row["errors contain"]],
-        "status": int(row.get("status", b"0")),
-    })
+    return json.dumps(
+        {
+            "name": name,
+            "words": [letters(word) for word in words_of(row)],
+            "files": {file: letters(text) for file, text in files_of(row).items()},
+            "input": letters(row.get("input", b"")),
+            "turns": [[letters(given), letters(written)] for given, written in row["turns"]]
+            if "in turns" in row
+            else None,
+            "left open": "left open" in row,
+            "to": [
+                [number, key.removeprefix(to)]
+                for number, to in ((1, "to "), (2, "errors to "))
+                for key in row
+                if key.startswith(to)
+            ],
+            "output": letters(row.get("output", b"")),
+            "errors": letters(row.get("errors", b"")),
+            "output contains": [letters(text) for text in row["output contains"]],
+            "errors contain": [letters(text) for text in row["errors contain"]],
+            "status": int(row.get("status", b"0")),
+        }
+    )
 
 
 def all_rows(words):

@@ -1,20 +1,20 @@
 #!/usr/bin/env python3
 """Tries `explain` and `keep` in sessions made by chance: tests/slices.py [--sessions N] [--first N] [--only NAME]
 
-So many sessions are played, 200 where N is left out, of the kinds of tests/lib/random_sessions.py, by one worker. Behind each, for the
-query's variables, some that steps made, and some goals:
+So many sessions are played, 200 where N is left out, of the kinds of tests/lib/random_sessions.py, by one worker.
+Behind each, for the query's variables, some that steps made, and some goals:
 
   - what `explain` tells are lines of `records`, in their order, as many as its last line says;
-  - in front of them it tells a goal as `goals` does; and who holds a variable of the term, or one that the goal waits for, just where
-    `goals` shows it there;
-  - these steps alone, loaded as a history, are the whole record of a session where the variable stands for the same term, or the goal
-    has the same status, and where `explain` tells the same steps;
-  - behind `keep`, these steps are the record, and the variable or the goal is as it was; and what was taken back comes back by `redo`,
-    in recorded order, to the same record, term and goals;
+  - in front of them it tells a goal as `goals` does; and who holds a variable of the term, or one that the goal waits
+    for, just where `goals` shows it there;
+  - these steps alone, loaded as a history, are the whole record of a session where the variable stands for the same
+    term, or the goal has the same status, and where `explain` tells the same steps;
+  - behind `keep`, these steps are the record, and the variable or the goal is as it was; and what was taken back comes
+    back by `redo`, in recorded order, to the same record, term and goals;
   - a clause is told behind `or` just where `step` takes it behind the `roll` of that step.
 
-Sessions whose kept steps ask for goals are left out of the second, as no history of version 1 tells them. The program is the proved
-one, or the one that the environment names as GHCDB. The last line is `N passed, M failed`.
+Sessions whose kept steps ask for goals are left out of the second, as no history of version 1 tells them. The program
+is the proved one, or the one that the environment names as GHCDB. The last line is `N passed, M failed`.
 """
 import argparse
 import os
@@ -41,8 +41,8 @@ CLAUSES = range(1, 5)
 
 
 class Slice(NamedTuple):
-    """What `explain` told: the lines in front of the steps, the record lines without what stands behind them, the other clauses of each
-    by its number, and how many steps are kept."""
+    """What `explain` told: the lines in front of the steps, the record lines without what stands behind them, the other
+    clauses of each by its number, and how many steps are kept."""
 
     front: list[str]
     steps: list[str]
@@ -65,7 +65,10 @@ def slice_of(told, records):
     steps, kept = bare[first:], len(records)
     if [it for it in records if it in steps] != steps or (int(counts[1]), int(counts[2])) != (len(steps), kept):
         raise Wrong(f"`explain` tells {steps} and {last!r} of {records}")
-    others = {number_of(line): [int(it) for it in found[1].split(",")] if (found := OTHERS.search(line)) else [] for line in lines[first:]}
+    others = {
+        number_of(line): [int(it) for it in found[1].split(",")] if (found := OTHERS.search(line)) else []
+        for line in lines[first:]
+    }
     return Slice(lines[:first], steps, others, kept)
 
 
@@ -75,7 +78,8 @@ def look(word):
 
 
 def seen(told):
-    """What of the first line of a reply stays where the rest of the run goes: the term of a variable, or the name and status of a goal."""
+    """What of the first line of a reply stays where the rest of the run goes: the term of a variable, or the name and
+    status of a goal."""
     goal = GOAL.match(told)
     return f"{goal[1]} {goal[2]}" if goal else told.split("\n")[0]
 
@@ -87,7 +91,12 @@ def holders_in(goals, first):
     free = sorted({(int(it[1]), int(it[2])) for it in VARIABLE.finditer(told)})
     others = [it for it in map(GOAL.fullmatch, goals.splitlines()) if it and not (own and it[1] == own[1])]
     names = [f"_{step}_{place}" for step, place in free]
-    return [f"{name} in {it[1]} {it[2]}" for name in names for it in others if name in {found[0] for found in VARIABLE.finditer(it[4])}]
+    return [
+        f"{name} in {it[1]} {it[2]}"
+        for name in names
+        for it in others
+        if name in {found[0] for found in VARIABLE.finditer(it[4])}
+    ]
 
 
 def records_of(told):
@@ -137,7 +146,9 @@ def judge_alone(session, word, found):
     """The steps of the slice alone are a record that gives the same."""
     if session.saved.startswith("F6"):
         return
-    shown, records, explained = session.play([look(word), "records", f"explain {word}"], history_of(session.saved, found.steps))
+    shown, records, explained = session.play(
+        [look(word), "records", f"explain {word}"], history_of(session.saved, found.steps)
+    )
     again = slice_of(explained, records_of(records))
     if seen(shown) != seen(found.front[0]) or records_of(records) != found.steps or again.steps != found.steps:
         raise Wrong(f"the slice of {word} alone gives {shown!r}, {records!r} and {explained!r}")
@@ -147,7 +158,9 @@ def judge_keep(session, word, found):
     """`keep` leaves the slice, and what went comes back."""
     line = look(word)
     gone = [number_of(it) for it in session.records if it not in found.steps]
-    replies = session.play([line, f"keep {word}", line, "records", *(f"redo {it}" for it in gone), "records", "goals", line])
+    replies = session.play(
+        [line, f"keep {word}", line, "records", *(f"redo {it}" for it in gone), "records", "goals", line]
+    )
     before, kept, behind, records = replies[:4]
     undone = [int(it) for row in re.findall(r"undone ([\d,]+)", kept) for it in row.split(",")]
     if (kept.splitlines()[-1:], sorted(undone)) != ([f"kept {len(found.steps)}"], sorted(gone)):

@@ -1,29 +1,29 @@
 #!/usr/bin/env python3
 """Refuses memory in sessions and schedules: tests/sweep.py [WORD..]      those whose names hold one of the words; without words, all
 
-Each request for memory of each line of the sessions below is refused in turn, alone and with all behind it in its line, and so is
-each request of the start; and what the program then writes is compared with what itself writes with ample memory, with the line
-and without it. Of a line with more than 400 requests every second is refused, of one with more than 800 every third, and so on.
-The reply to a line that was refused memory has to be
+Each request for memory of each line of the sessions below is refused in turn, alone and with all behind it in its line,
+and so is each request of the start; and what the program then writes is compared with what itself writes with ample
+memory, with the line and without it. Of a line with more than 400 requests every second is refused, of one with more
+than 800 every third, and so on. The reply to a line that was refused memory has to be
 
   - that of a session with ample memory; or
   - `F1 no memory`, and all other replies are those of a session without the line; or
-  - where the line is a change, its own reply with `F1 no memory` in place of the lines SUSP and FAIL, which are settling's, and all
-    other replies are as ever; or
-  - where it is `keep`, the beginning of its own reply, up to some rollback, and then `F1 no memory`; the line behind it is the same
-    again, and its reply is the rest; or
-  - where it is `records`, `goals`, `shelf`, `save` or `save 1`, its own reply with `F1 no memory` in place of some of its lines, and all
-    other replies are as ever; or
-  - where it is a run, a line for each step that it took, by number, or `F1 no memory` in its place, and then `stopped REASON`, or
-    `F1 no memory` in its place. `records` before and behind the run tell which steps these are; behind it no line is refused
-    memory, and each `show` and `goals` between the last run and the next change is answered as ever.
+  - where the line is a change, its own reply with `F1 no memory` in place of the lines SUSP and FAIL, which are
+    settling's, and all other replies are as ever; or
+  - where it is `keep`, the beginning of its own reply, up to some rollback, and then `F1 no memory`; the line behind it
+    is the same again, and its reply is the rest; or
+  - where it is `records`, `goals`, `shelf`, `save` or `save 1`, its own reply with `F1 no memory` in place of some of
+    its lines, and all other replies are as ever; or
+  - where it is a run, a line for each step that it took, by number, or `F1 no memory` in its place, and then `stopped
+    REASON`, or `F1 no memory` in its place. `records` before and behind the run tell which steps these are; behind it
+    no line is refused memory, and each `show` and `goals` between the last run and the next change is answered as ever.
 
-Schedules are swept by the requests of their whole run: tests/lib/sweep_schedules.py says how, and what has to be written then; and runs by
-several workers, whose order is free, as tests/lib/sweep_workers.py says.
+Schedules are swept by the requests of their whole run: tests/lib/sweep_schedules.py says how, and what has to be
+written then; and runs by several workers, whose order is free, as tests/lib/sweep_workers.py says.
 
-Of each of these listings one line is refused among others at least once. What a session says of a line by hand (`told`) has to hold,
-too. Before the first line the program ends with status 2 for its words, or with status 1 and `PART: F1 no memory`, in the order of its
-parts, or it goes on as ever. It ends by itself, and by no signal.
+Of each of these listings one line is refused among others at least once. What a session says of a line by hand (`told`)
+has to hold, too. Before the first line the program ends with status 2 for its words, or with status 1 and `PART: F1 no
+memory`, in the order of its parts, or it goes on as ever. It ends by itself, and by no signal.
 
 It needs a C compiler; where there is none that is said, and nothing is tried. The last line is `N passed, M failed`.
 """
@@ -72,8 +72,8 @@ class Told(NamedTuple):
 
 
 class Story(NamedTuple):
-    """A session that uses some of the commands; a run in it stands between two lines `records`. Other words of the command line,
-    as those for schedules and workers, are its options."""
+    """A session that uses some of the commands; a run in it stands between two lines `records`. Other words of the
+    command line, as those for schedules and workers, are its options."""
 
     program: str
     query: str
@@ -121,7 +121,11 @@ STORIES = {
         "f(A,B) = f(1,2), p(A,B,3,4), C = D, E = 5, D = 6",
         "step 0.1;step 0.2;step 0.3;step 0.4;step 0.5;keep C;keep C;shelf;goals;keep B;keep B;records;keep Z;redo 2;redo 1;redo 2;records;save",
     ),
-    "words": Story(APPEND, "append([1],[2],R)", "nonsense;step 9.9;show Q;spy foo/1;spy append/3;nospy append/3;skip 9.9;goals;quit"),
+    "words": Story(
+        APPEND,
+        "append([1],[2],R)",
+        "nonsense;step 9.9;show Q;spy foo/1;spy append/3;nospy append/3;skip 9.9;goals;quit",
+    ),
     "leap": Story(
         SUM,
         "instream(S), sum(S,0,R)",
@@ -146,10 +150,19 @@ STORIES = {
         "records;leap;records;leap;records;goals;why 5;who Q;show Q;undo 9;roll 20;shelf;goals;roll 2;goals;redo 20;redo 2;records;save",
     ),
     "doubled": Story(DOUBLED, "d(7,X), d(7,Y)", "records;leap;records;ask X = Y;step 47.1;why 48;records"),
-    "load_stream": Story(SUM, "instream(S), sum(S,0,R)", "goals;records;show R;in 1 3;roll 2;goals;in 1 4;shelf;redo 2;records;save 1;save", SUM_HISTORY),
+    "load_stream": Story(
+        SUM,
+        "instream(S), sum(S,0,R)",
+        "goals;records;show R;in 1 3;roll 2;goals;in 1 4;shelf;redo 2;records;save 1;save",
+        SUM_HISTORY,
+    ),
     "load_long": Story(SUM, "instream(S), sum(S,0,R)", "save 1;records;save", LONG_HISTORY),
-    "load_whole": Story(APPEND, "append([1],[2],R)", "goals;records;shelf;save;redo 2;redo 6;redo 5;save 1;records;save", WHOLE_HISTORY),
-    "load": Story(APPEND, "append([1],[2],R)", "goals;records;show R;undo 2;records;leap;records;leap;show R;save", HISTORY),
+    "load_whole": Story(
+        APPEND, "append([1],[2],R)", "goals;records;shelf;save;redo 2;redo 6;redo 5;save 1;records;save", WHOLE_HISTORY
+    ),
+    "load": Story(
+        APPEND, "append([1],[2],R)", "goals;records;show R;undo 2;records;leap;records;leap;show R;save", HISTORY
+    ),
 }
 # What follows a command in a run of append of which one step is taken, by the word of commands.table.
 SAMPLES = {"": "1", "goal": "1.2", "kept": "1", "variable": "R", "value": "R", "predicate": "append/3"}
@@ -161,8 +174,13 @@ def used_commands():
 
 
 def looks_by_table():
-    """Lines for the commands that only look and that no session above uses, so that a new one is tried by its row alone."""
-    rows = [row for row in commands.rows_of(commands.read_groups(ROOT)) if row.effect == "looks" and row.name not in used_commands()]
+    """Lines for the commands that only look and that no session above uses, so that a new one is tried by its row
+    alone."""
+    rows = [
+        row
+        for row in commands.rows_of(commands.read_groups(ROOT))
+        if row.effect == "looks" and row.name not in used_commands()
+    ]
     return [f"{row.name} {SAMPLES[row.follows]}" if row.rest else row.name for row in rows]
 
 
@@ -220,7 +238,11 @@ class Case:
         if trial.at == 0:
             right = part is not None or outcome(played) == outcome(self.plain)
         else:
-            right = outcome(played)[1:] == (b"", 0) and self.fits(trial.at, played.replies) and self.holds(trial.at, played.replies)
+            right = (
+                outcome(played)[1:] == (b"", 0)
+                and self.fits(trial.at, played.replies)
+                and self.holds(trial.at, played.replies)
+            )
         if right:
             return Judged(None, part)
         reply = b"".join(played.replies[trial.at : trial.at + 1])[-200:]
@@ -259,7 +281,12 @@ class Case:
     def fits_keep(self, at, got):
         """Whether the replies fit a session in which memory was refused to roll back all that is outside of a slice."""
         plain, told = self.plain.replies, got[at]
-        return told.endswith(F1) and told[: -len(F1)] + got[at + 1] == plain[at] and got[:at] == plain[:at] and got[at + 2 :] == plain[at + 2 :]
+        return (
+            told.endswith(F1)
+            and told[: -len(F1)] + got[at + 1] == plain[at]
+            and got[:at] == plain[:at]
+            and got[at + 2 :] == plain[at + 2 :]
+        )
 
     def shown(self):
         """The lines `show` and `goals` behind the last run, up to the next change."""
@@ -301,7 +328,8 @@ def part_of(played):
 
 
 def are_in_order(parts, order):
-    """Whether the start comes to its parts in their order, by their first letters. Some requests are refused without a sign."""
+    """Whether the start comes to its parts in their order, by their first letters. Some requests are refused without a
+    sign."""
     return bool(re.fullmatch(order, "".join(part[0] for part in parts if part)))
 
 

@@ -1,24 +1,28 @@
 #!/usr/bin/env python3
 """Tries runs by several workers: tests/workers.py [--runs N] [--first N] [--workers N,N,..] [--only NAME]
 
-By 4 workers, and by 16, three sessions written by hand are played, and sessions made by chance (tests/lib/random_sessions.py tells how)
-until they had N runs, 200 where N is left out. With another number behind --first these are other sessions; --only plays one, by the
-name that a failure tells. A run may take any order, so what is written is compared with no text, but
+By 4 workers, and by 16, three sessions written by hand are played, and sessions made by chance
+(tests/lib/random_sessions.py tells how) until they had N runs, 200 where N is left out. With another number behind
+--first these are other sessions; --only plays one, by the name that a failure tells. A run may take any order, so what
+is written is compared with no text, but
 
-  - it ends, and tells the steps that `records` has behind it and had not before, which are reductions, unifications and assignments,
-    at most as many as its limit, of goals in question, and none of a spied predicate; and there is none where before it one of these
-    goals had failed, or was ready and spied;
-  - the reason for which it stopped holds of what `goals` tells behind it, and none that stands before it; it is never want of memory;
-  - what is saved behind the session, in either version, is loaded by a session of one worker, where `records`, `goals`, each `show`,
-    `shelf` (version 2) and what is saved are the same;
-  - where all orders leave the same, one worker and several stop for the same reason in the end, and where that is `quiet`, they keep
-    as many steps, and leave the same values of the query's variables, but for the names of those that are unbound.
+  - it ends, and tells the steps that `records` has behind it and had not before, which are reductions, unifications and
+    assignments, at most as many as its limit, of goals in question, and none of a spied predicate; and there is none
+    where before it one of these goals had failed, or was ready and spied;
+  - the reason for which it stopped holds of what `goals` tells behind it, and none that stands before it; it is never
+    want of memory;
+  - what is saved behind the session, in either version, is loaded by a session of one worker, where `records`, `goals`,
+    each `show`, `shelf` (version 2) and what is saved are the same;
+  - where all orders leave the same, one worker and several stop for the same reason in the end, and where that is
+    `quiet`, they keep as many steps, and leave the same values of the query's variables, but for the names of those
+    that are unbound.
 
-Besides, tests/lib/real_workers.py shows that these runs are made by several workers; its parts can be named behind --only, too.
+Besides, tests/lib/real_workers.py shows that these runs are made by several workers; its parts can be named behind
+--only, too.
 
-Where there is a C compiler, the library of tests/refuse.c lets some requests for memory sleep, so that workers overtake each other.
-With `--workers 1` the option is left out. The program is the proved one, or the one that the environment names as GHCDB. A session
-of more than 60 seconds is wrong. The last line is `N passed, M failed`.
+Where there is a C compiler, the library of tests/refuse.c lets some requests for memory sleep, so that workers overtake
+each other. With `--workers 1` the option is left out. The program is the proved one, or the one that the environment
+names as GHCDB. A session of more than 60 seconds is wrong. The last line is `N passed, M failed`.
 """
 import argparse
 import os
@@ -59,7 +63,8 @@ def fits_lists(replies):
 
 
 def fits_stream(replies):
-    """Whether these are the replies of the session on a stream: with the first input all nine steps are taken back, in recorded order."""
+    """Whether these are the replies of the session on a stream: with the first input all nine steps are taken back, in
+    recorded order."""
     kept = [step.number for step in steps_of(replies[6])]
     is_summed = replies[5].endswith("stopped quiet\n") and replies[7:9] == ["none\n", "R = 12\n"]
     is_undone = sorted(map(int, kept)) == list(range(1, 10)) and replies[9].startswith(f"undone {','.join(kept)}\n")
@@ -108,7 +113,8 @@ def left_by(case, reason, replies):
 
 
 def judge(folder, case, workers):
-    """Says what is wrong with a case that is played by so many workers, and gives the replies to the lines of its session."""
+    """Says what is wrong with a case that is played by so many workers, and gives the replies to the lines of its
+    session."""
     lines, length = case.lines + lines_behind(case), len(case.lines)
     replies = play(folder, case, lines, workers)
     left = left_by(case, judge_runs(case, replies), replies[length:])
@@ -139,7 +145,8 @@ def run_count(case):
 
 
 def cases(given):
-    """The case that is named, or those by hand, and some of each kind in turn, which have so many runs; each with a test of its own."""
+    """The case that is named, or those by hand, and some of each kind in turn, which have so many runs; each with a
+    test of its own."""
     if given.only:
         return [it for it in BY_HAND if it[0].name == given.only] or [(case_of(given.only), None)]
     found, kinds, made = list(BY_HAND), cycle(KINDS), 0
@@ -157,12 +164,16 @@ def all_wrong(folder, played, workers):
     with ThreadPoolExecutor(os.cpu_count()) as pool:
         wrong = [it for it in pool.map(lambda it: tried(folder, it[0], it[1], workers), played) if it]
     runs = sum(run_count(case) for case, _ in played)
-    print(f"workers: {runs} runs by {workers} workers in {len(played)} sessions, {time.monotonic() - started:.0f} seconds", flush=True)
+    print(
+        f"workers: {runs} runs by {workers} workers in {len(played)} sessions, {time.monotonic() - started:.0f} seconds",
+        flush=True,
+    )
     return wrong
 
 
 def not_shown(above, name, workers):
-    """What is wrong with the part of tests/lib/real_workers.py of that name, if anything, in a folder below that one."""
+    """What is wrong with the part of tests/lib/real_workers.py of that name, if anything, in a folder below that
+    one."""
     with tempfile.TemporaryDirectory(dir=above) as folder:
         try:
             SHOWN[name](Path(folder), workers)

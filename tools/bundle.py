@@ -8,11 +8,15 @@ EXPORT = re.compile(r"^export default (\w+);\n", re.MULTILINE)
 
 
 def bundle(entry, root, there, way=()):
-    """The text of a module, after the texts of those that it imports and that are not yet `there`. Each exports one name, the same
-    for all who import it, so in one script they need neither import nor export. Where they go in a circle, it ends."""
+    """The text of a module, after the texts of those that it imports and that are not yet `there`. Each exports one
+    name, the same for all who import it, so in one script they need neither import nor export. Where they go in a
+    circle, it ends."""
     path = entry.resolve()
     if path in way:
-        sys.exit("modules go in a circle: " + " -> ".join(str(it.relative_to(root)) for it in (*way[way.index(path) :], path)))
+        sys.exit(
+            "modules go in a circle: "
+            + " -> ".join(str(it.relative_to(root)) for it in (*way[way.index(path) :], path))
+        )
     if path in there:
         return ""
     text = path.read_text()

@@ -1,4 +1,5 @@
-"""Rattle's `rt` as a module, for tools that use what it keeps: tests/edits, tools/keep-proofs, tools/give-libraries, web/build."""
+"""Rattle's `rt` as a module, for tools that use what it keeps: tests/edits, tools/keep-proofs, tools/give-libraries,
+web/build."""
 import importlib.machinery
 import importlib.util
 import os
@@ -28,11 +29,14 @@ def keeps(rt):
 def need_kept(rt):
     """Ends the tool where the kit keeps nothing."""
     if not keeps(rt):
-        sys.exit("this kit's rt keeps nothing of what it passed: ./ghcdb --prove proves all crates in this checkout, for web/build too")
+        sys.exit(
+            "this kit's rt keeps nothing of what it passed: ./ghcdb --prove proves all crates in this checkout, for web/build too"
+        )
 
 
 def is_built_here(root):
-    """Whether `rt run` has proved and built the program in this checkout as all stands now, so that building it again proves nothing."""
+    """Whether `rt run` has proved and built the program in this checkout as all stands now, so that building it again
+    proves nothing."""
     rtlib = load_rt().rtlib
     program = next(it for it in rtlib.crates_below(str(root)) if it.is_program)
     stamp = rtlib.text_of(f"{program.folder}/out/{program.name}.stamp") or ""
@@ -40,8 +44,8 @@ def is_built_here(root):
 
 
 def fill_in(rt):
-    """Gives a kit that keeps nothing what tests/edits uses of one that does: the folder of what `rt check` left in a crate, and one check
-    of a crate in a folder of its own."""
+    """Gives a kit that keeps nothing what tests/edits uses of one that does: the folder of what `rt check` left in a
+    crate, and one check of a crate in a folder of its own."""
 
     def work_for(crate):
         left = os.path.join(crate.folder, rt.rtlib.KEPT[1])

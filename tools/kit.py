@@ -1,4 +1,5 @@
-"""Rattle's kit, for tools that take the module of the program which it hands to its own clang: web/build, tools/unproved, tests/edits."""
+"""Rattle's kit, for tools that take the module of the program which it hands to its own clang: web/build,
+tools/unproved, tests/edits."""
 import shutil
 import subprocess
 import sys
@@ -35,8 +36,8 @@ def link_all(folder, copy, but=()):
 
 
 def keeping_kit(kit, room, kept, then="true"):
-    """A kit of links in the room. Its clang puts the module of a program there where it is to be kept, does what the words of a shell
-    say then, as `exit 1`, and goes on as the kit's."""
+    """A kit of links in the room. Its clang puts the module of a program there where it is to be kept, does what the
+    words of a shell say then, as `exit 1`, and goes on as the kit's."""
     copy = room / "kit"
     link_all(kit, copy, but=("bin", "toolchain"))
     link_all(kit / "toolchain", copy / "toolchain", but=("bin",))
@@ -45,7 +46,9 @@ def keeping_kit(kit, room, kept, then="true"):
     for script in ("rt", "rtlib.py"):  # they go by the folder that they stand in
         shutil.copy(kit / "bin" / script, copy / "bin" / script)
     clang = copy / "toolchain" / "bin" / "clang"
-    clang.write_text(KEEPING_CLANG.format(least=LEAST_MODULE, kept=kept, then=then, clang=kit / "toolchain" / "bin" / "clang"))
+    clang.write_text(
+        KEEPING_CLANG.format(least=LEAST_MODULE, kept=kept, then=then, clang=kit / "toolchain" / "bin" / "clang")
+    )
     clang.chmod(0o755)
     return copy
 

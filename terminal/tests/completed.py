@@ -1,5 +1,6 @@
 #!/usr/bin/env python3
-"""Completes command lines in bash at a pseudo-terminal: what a file or its name holds comes to ghcdb as it is, nothing runs.
+"""Completes command lines in bash at a pseudo-terminal: what a file or its name holds comes to ghcdb as it is, nothing
+runs.
 
     python3 terminal/tests/completed.py [PATTERN]      the lines in which the pattern is, or all, several at once
 

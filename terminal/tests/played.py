@@ -1,5 +1,6 @@
 #!/usr/bin/env python3
-"""Plays sessions at a pseudo-terminal: what people type who have not read the manual, ^C, ^D, Tab, the tutorial, and examples/wrong.
+"""Plays sessions at a pseudo-terminal: what people type who have not read the manual, ^C, ^D, Tab, the tutorial, and
+examples/wrong.
 
     python3 terminal/tests/played.py [PATTERN]      those whose names have the pattern, or all, several at once
     python3 terminal/tests/played.py --write PAGE   plays the sessions of a page, and writes what is shown into it: look at each line
@@ -125,7 +126,10 @@ def test_greeting_follows_the_program(home):
 
 def test_file_that_is_not_there(home):
     terminal = start(home, "nosuch.ghc", "--query", "true")
-    wants(terminal.start.splitlines() == ["program: F26 device", "% nosuch.ghc: no such file"] and terminal.status == 3, terminal.start)
+    wants(
+        terminal.start.splitlines() == ["program: F26 device", "% nosuch.ghc: no such file"] and terminal.status == 3,
+        terminal.start,
+    )
 
 
 def test_interrupt_at_the_prompt(home):
@@ -166,7 +170,10 @@ def test_interrupt_of_a_long_list(home):
             terminal.read_until(first)  # nobody reads on, so that the terminal is full, and the rest is not shown yet
             terminal.press("\x03")
             shown = terminal.read()
-            wants(shown.count("\n") < 9000 and re.search(r"% \.\. \d+ lines more \.\.\n", shown), f"{listing}: {shown[-200:]}")
+            wants(
+                shown.count("\n") < 9000 and re.search(r"% \.\. \d+ lines more \.\.\n", shown),
+                f"{listing}: {shown[-200:]}",
+            )
             wants(is_met("20000 steps", terminal.type("stat")), "the session is gone")
         terminal.end()
 
@@ -190,7 +197,13 @@ def test_goals_that_are_too_long_to_print(home):
         program.write_text("d(0,T,R) :- true | R = T.\nd(N,T,R) :- N > 0 | M := N - 1, d(M,f(T,T),R).\n")
         terminal = start(home, str(program), "--query", "d(24,a,R)")
         wants(terminal.type("leap 45")[-2:] == ["stopped limit", "% leap goes on"], "no note")
-        wants(is_met("% a goal is longer than 1,048,576 bytes, so that no goal can be listed; step and leap go on", terminal.type("stuck")), "no reason")
+        wants(
+            is_met(
+                "% a goal is longer than 1,048,576 bytes, so that no goal can be listed; step and leap go on",
+                terminal.type("stuck"),
+            ),
+            "no reason",
+        )
         wants(terminal.type("R") == ["% sent: show R", "R = _0_1", "% _0_1 (R of the query) is unbound"], "no value")
         wants(terminal.type("step")[:2] == ["% sent: leap 1", "REDU 46 45.1 is"], "no step")
         wants(terminal.type("run")[-2:] == ["stopped quiet", "% all is done"], "no end")
@@ -296,8 +309,13 @@ def test_save_and_load(home):
         terminal = start(home, *words)
         terminal.type("leap")
         wants(is_met(f"saved in {file}", terminal.type(f"save {file}")), "not saved")
-        wants(is_met("is there and is no history", terminal.type(f"save {ROOT / 'README.md'}")), "would be written over")
-        wants(is_met("its folder is not there; nothing was saved", terminal.type(f"save {folder}/none/run.history")), "no reason")
+        wants(
+            is_met("is there and is no history", terminal.type(f"save {ROOT / 'README.md'}")), "would be written over"
+        )
+        wants(
+            is_met("its folder is not there; nothing was saved", terminal.type(f"save {folder}/none/run.history")),
+            "no reason",
+        )
         wants(is_met("it is a folder; nothing was saved", terminal.type(f"save {folder}")), "no reason")
         terminal.type("quit")
         wants(terminal.status == 0, "asks though it is saved")
@@ -320,10 +338,17 @@ def test_restart(home):
         wants(is_met("T = 126", terminal.type("T")), "the old program")
         program.write_text("price(N,P) :- N > 0 P := N.\n")
         terminal.type("restart")
-        wants(is_met("% the session before stands", terminal.type("restart")), "it is not told that the new text is refused")
+        wants(
+            is_met("% the session before stands", terminal.type("restart")),
+            "it is not told that the new text is refused",
+        )
         wants(is_met("T = 126", terminal.type("T")), "the session is gone")
         history = str(Path(folder, "kept"))
-        wants(is_met("saved in", terminal.type(f"save 1 {history}")) and Path(history).read_text().startswith("ghc-history 1\n"), "no history 1")
+        wants(
+            is_met("saved in", terminal.type(f"save 1 {history}"))
+            and Path(history).read_text().startswith("ghc-history 1\n"),
+            "no history 1",
+        )
         terminal.end()
 
 
@@ -385,8 +410,17 @@ def test_on_a_pipe_nothing_is_added(home):
     lines = "help\nstep\nR\nexplain\nexplain R\nleap\nundo\nshow R\n\n\xff\n".encode("latin-1")
     environment = {**os.environ, "GHCDB": native if is_there else "page", "GHCDB_QUIET": "1"}
     alone = [native] if is_there else ["node", str(ROOT / "web" / "console")]
-    programs = [alone, ["node", FRONT], ["node", str(ROOT / "terminal" / "check")], [str(ROOT / "ghcdb")], [str(ROOT / "ghcdb"), "--check"]]
-    told = [subprocess.run([*program, *words], input=lines, capture_output=True, env=environment, timeout=300) for program in programs]
+    programs = [
+        alone,
+        ["node", FRONT],
+        ["node", str(ROOT / "terminal" / "check")],
+        [str(ROOT / "ghcdb")],
+        [str(ROOT / "ghcdb"), "--check"],
+    ]
+    told = [
+        subprocess.run([*program, *words], input=lines, capture_output=True, env=environment, timeout=300)
+        for program in programs
+    ]
     for program, one in zip(programs, told):
         wants((one.stdout, one.stderr) == (told[0].stdout, told[0].stderr), f"{program}: {one}")
     wants([one.returncode for one in told] == [0, 0, 4, 0, 4], str([one.returncode for one in told]))

@@ -73,7 +73,8 @@ class Terminal:
         self.read_until(f"{line}\n")
 
     def press_tab(self, line):
-        """Types the beginning of a line and Tab. Once the line is shown Tab was read, and no key is before it is answered."""
+        """Types the beginning of a line and Tab. Once the line is shown Tab was read, and no key is before it is
+        answered."""
         self.press(f"{line}\t")
         return self.read_until(line)
 
@@ -90,7 +91,8 @@ class Terminal:
         return shown.partition(LAST)[0].split("> ")[-1]
 
     def offered(self, line):
-        """Types the beginning of a line and the Tab key twice; the words that are shown then. The line is dropped again."""
+        """Types the beginning of a line and the Tab key twice; the words that are shown then. The line is dropped
+        again."""
         self.press_tab(line)
         self.press("\t")
         shown = self.read_until("\n> ")

@@ -1,5 +1,6 @@
-"""Sessions at a terminal: for each its program, its query, and the lines typed, each with what has to be shown. A pattern is text that a
-line shown has; with a leading = it is the whole line. Here is what people type who know other debuggers and have read no manual."""
+"""Sessions at a terminal: for each its program, its query, and the lines typed, each with what has to be shown. A
+pattern is text that a line shown has; with a leading = it is the whole line. Here is what people type who know other
+debuggers and have read no manual."""
 
 APPEND = ("examples/append.ghc", "append([1],[2],R)")
 BILL = ("examples/bill.ghc", "bill(12,3,T)")
@@ -101,7 +102,11 @@ AGAIN = [
     ("leap", "=stopped quiet"),
     ("roll 2", "=undone 2,3,6"),
     ("redo 3", "=F7 no goal", "=% step 3 takes 2.1, which step 2 made: redo 2 first"),
-    ("redo 6", "=F19 changed", "=% it rested on steps that are not there: redo those before it first; shelf lists what was taken back"),
+    (
+        "redo 6",
+        "=F19 changed",
+        "=% it rested on steps that are not there: redo those before it first; shelf lists what was taken back",
+    ),
     ("step 1.1 3", "=REDU 7 1.1 by 3"),
     ("redo 2", "=F7 no goal", "=% step 2 takes 1.1, which step 7 has taken: take that back first"),
     ("redo 4", "=F18 not on the shelf", "=% that number was not taken back, or is there again"),
@@ -120,7 +125,13 @@ AGAIN = [
 CLASH = [
     ("ask T = Q, Q = 1, T = 2", "REDU 1"),
     ("step 1.1", "=REDU 2 1.1 eq"),
-    ("step 1.2", "=REDU 3 1.2 eq", "=% 1.3 has failed: F11", "=% 1 and 2", "=% _1_1 was bound by step 3; explain _1_1 tells why"),
+    (
+        "step 1.2",
+        "=REDU 3 1.2 eq",
+        "=% 1.3 has failed: F11",
+        "=% 1 and 2",
+        "=% _1_1 was bound by step 3; explain _1_1 tells why",
+    ),
     ("leap", "=stopped clash 1.3", "=% 1 = 2 has failed: F11", "=% _1_1 was bound by step 3; explain _1_1 tells why"),
     ("ask T := 2 + 3", "REDU 4"),
     ("step 4.1", "=F11 clash", "=% 1 and 2 + 3", "=% _1_1 was bound by step 3; explain _1_1 tells why"),
@@ -133,24 +144,52 @@ SESSIONS = {
     "again": (*BILL, AGAIN),
     "without the manual": (*APPEND, WITHOUT_THE_MANUAL),
     "refused": (*BILL, REFUSED),
-    "failed": (*BILL, [("ask price(0,T)", "REDU 1"), ("leap", "stopped clash 1.1", "price(0,_0_1) has failed: F10", "clause 2: N > 0 says no (N = 0)")]),
-    "deadlock": ("examples/deadlock.ghc", "after(A,B), after(B,C), after(C,A)", [
-        ("leap", "=stopped quiet", "=% 3 goals wait: stuck tells why"),
-        ("stuck", "% 0.1 waits for _0_1 (A of the query): held by 0.3 waits", "% a circle: 0.1 waits for 0.3 waits for 0.2 waits for 0.1"),
-        ("goals", "% waited for: _0_1 (A of the query)"),
-    ]),
-    "stream": ("examples/sum.ghc", "instream(S), sum(S,0,R)", [
-        ("leap", "=stopped quiet", "=% 1 goal waits: stuck tells why", "% 1 input stream open: in K TERM feeds one, end K closes it"),
-        ("step 0.1", "=F7 no goal", "% 0.1 is an input stream: in K TERM feeds it"),
-        ("in 3 5", "=F14 no open stream", "% open: 1"),
-        ("in 1 5", "REDU 1 0.1 in 5"),
-        ("in 1 f(", "=F2 syntax at 1:3", "=% syntax: the term ends within brackets", "%   = '(' of column 2 is not closed"),
-        ("in 1 f(X)", "=F2 syntax at 1:3", "=% syntax: an input term has no variables", "%  --> in:1:3"),
-        ("in 1 5.", "=F2 syntax at 1:2", "=% syntax: no full stop stands after a term"),
-        ("in 1 5 6", "=F2 syntax at 1:3", "=% syntax: one term is fed at a time"),
-        ("in 1 2 + 3", "=F2 syntax at 1:3", "=% syntax: a term is not computed"),
-        ('in 1 "a"', "=F2 syntax at 1:1", "=% syntax: there are no strings"),
-        ("end 1", "REDU 2"),
-        ("watch R", "=R = 5", "bound by step"),
-    ]),
+    "failed": (
+        *BILL,
+        [
+            ("ask price(0,T)", "REDU 1"),
+            ("leap", "stopped clash 1.1", "price(0,_0_1) has failed: F10", "clause 2: N > 0 says no (N = 0)"),
+        ],
+    ),
+    "deadlock": (
+        "examples/deadlock.ghc",
+        "after(A,B), after(B,C), after(C,A)",
+        [
+            ("leap", "=stopped quiet", "=% 3 goals wait: stuck tells why"),
+            (
+                "stuck",
+                "% 0.1 waits for _0_1 (A of the query): held by 0.3 waits",
+                "% a circle: 0.1 waits for 0.3 waits for 0.2 waits for 0.1",
+            ),
+            ("goals", "% waited for: _0_1 (A of the query)"),
+        ],
+    ),
+    "stream": (
+        "examples/sum.ghc",
+        "instream(S), sum(S,0,R)",
+        [
+            (
+                "leap",
+                "=stopped quiet",
+                "=% 1 goal waits: stuck tells why",
+                "% 1 input stream open: in K TERM feeds one, end K closes it",
+            ),
+            ("step 0.1", "=F7 no goal", "% 0.1 is an input stream: in K TERM feeds it"),
+            ("in 3 5", "=F14 no open stream", "% open: 1"),
+            ("in 1 5", "REDU 1 0.1 in 5"),
+            (
+                "in 1 f(",
+                "=F2 syntax at 1:3",
+                "=% syntax: the term ends within brackets",
+                "%   = '(' of column 2 is not closed",
+            ),
+            ("in 1 f(X)", "=F2 syntax at 1:3", "=% syntax: an input term has no variables", "%  --> in:1:3"),
+            ("in 1 5.", "=F2 syntax at 1:2", "=% syntax: no full stop stands after a term"),
+            ("in 1 5 6", "=F2 syntax at 1:3", "=% syntax: one term is fed at a time"),
+            ("in 1 2 + 3", "=F2 syntax at 1:3", "=% syntax: a term is not computed"),
+            ('in 1 "a"', "=F2 syntax at 1:1", "=% syntax: there are no strings"),
+            ("end 1", "REDU 2"),
+            ("watch R", "=R = 5", "bound by step"),
+        ],
+    ),
 }

@@ -1,5 +1,5 @@
-"""Judges runs by what `records` and `goals` tell before and behind them, for tests/workers.py and sweep_workers.py. A run may take
-any order, so what it tells is compared with no text."""
+"""Judges runs by what `records` and `goals` tell before and behind them, for tests/workers.py and sweep_workers.py. A
+run may take any order, so what it tells is compared with no text."""
 import re
 from typing import NamedTuple
 
@@ -34,8 +34,8 @@ class Goal(NamedTuple):
 
 
 class Run(NamedTuple):
-    """A run: its line and its reply, the goals that are there and the steps that are kept before it and behind it, and the predicates
-    that are spied."""
+    """A run: its line and its reply, the goals that are there and the steps that are kept before it and behind it, and
+    the predicates that are spied."""
 
     line: str
     told: str
@@ -78,7 +78,8 @@ def predicates_of(program):
 
 
 def is_spied(goal, spied):
-    """Whether the goal is a call of one of these predicates. Unifications and assignments are printed with spaces, and calls without."""
+    """Whether the goal is a call of one of these predicates. Unifications and assignments are printed with spaces, and
+    calls without."""
     return " " not in goal.text and predicate_of(goal.text) in spied
 
 
@@ -121,19 +122,27 @@ def judge_told(run, added, is_refused):
     lines, told = run.told.splitlines()[:-1], [step.line() for step in added]
     if run.behind[: len(run.before)] != run.before:
         raise Wrong(f"it left {run.behind} of {run.before}")
-    if lines != told and not (is_refused and len(lines) == len(told) and all(one in (other, F1) for one, other in zip(lines, told))):
+    if lines != told and not (
+        is_refused and len(lines) == len(told) and all(one in (other, F1) for one, other in zip(lines, told))
+    ):
         raise Wrong(f"it told {run.told!r}, and added {added}")
 
 
 def judge_run(run, predicates, is_refused=False):
-    """Says what is wrong with a run, where the clauses have these predicates, and gives why it stopped. Where requests for memory were
-    refused it may stop for that, and each of its lines may be F1."""
-    if run.told == "F7 no goal\n" and run.before == run.behind and run.line.split()[1] not in [goal.name for goal in run.found]:
+    """Says what is wrong with a run, where the clauses have these predicates, and gives why it stopped. Where requests
+    for memory were refused it may stop for that, and each of its lines may be F1."""
+    if (
+        run.told == "F7 no goal\n"
+        and run.before == run.behind
+        and run.line.split()[1] not in [goal.name for goal in run.found]
+    ):
         return "none"
     added, is_asked = run.behind[len(run.before) :], in_question(run.line, run.behind)
     limit = int(run.line.split()[1]) if re.match("leap .", run.line) else MOST
     judge_told(run, added, is_refused)
-    if len(added) > limit or (added and reasons_of([goal for goal in run.found if is_asked(goal.name)], run.spied, True) != ["limit"]):
+    if len(added) > limit or (
+        added and reasons_of([goal for goal in run.found if is_asked(goal.name)], run.spied, True) != ["limit"]
+    ):
         raise Wrong(f"it added {len(added)} steps where there were {run.found}")
     for step in added:
         judge_step(step, run, is_asked, predicates)
@@ -146,7 +155,8 @@ def judge_run(run, predicates, is_refused=False):
 
 
 def runs_of(lines, replies):
-    """The runs among the lines of a session, each with its place. Each stands behind `goals` and `records`, and before both in turn."""
+    """The runs among the lines of a session, each with its place. Each stands behind `goals` and `records`, and before
+    both in turn."""
     spied = set()
     for at, line in enumerate(lines):
         word, _, rest = line.partition(" ")
@@ -156,4 +166,6 @@ def runs_of(lines, replies):
             spied.discard(rest)
         if word in RUNS:
             before, behind = steps_of(replies[at - 1]), steps_of(replies[at + 1])
-            yield at, Run(line, replies[at], goals_of(replies[at - 2]), before, behind, goals_of(replies[at + 2]), set(spied))
+            yield at, Run(
+                line, replies[at], goals_of(replies[at - 2]), before, behind, goals_of(replies[at + 2]), set(spied)
+            )

@@ -19,8 +19,8 @@ def words_of(folder, case, workers):
 
 
 def environment_of(folder, name, workers):
-    """The environment in which several workers are made to overlap: that which is there, with the library of tests/refuse.c, where it
-    lies beside the folder. How long they pause depends on the name."""
+    """The environment in which several workers are made to overlap: that which is there, with the library of
+    tests/refuse.c, where it lies beside the folder. How long they pause depends on the name."""
     library = folder.parent / "refuse.so"
     if workers == 1 or not library.exists():
         return os.environ.copy()
@@ -28,8 +28,8 @@ def environment_of(folder, name, workers):
 
 
 def play(folder, case, lines, workers, history=None, settings=None):
-    """The replies to the lines, by so many workers, on the history where there is one. Several workers are made to overtake each other,
-    if there is the library for that, under these settings of tests/refuse.c."""
+    """The replies to the lines, by so many workers, on the history where there is one. Several workers are made to
+    overtake each other, if there is the library for that, under these settings of tests/refuse.c."""
     words = words_of(folder, case, workers)
     if history is not None:
         (folder / "run.history").write_text(history)
@@ -42,5 +42,7 @@ def play(folder, case, lines, workers, history=None, settings=None):
         raise Wrong(f"it took more than {SECONDS} seconds") from None
     *replies, rest = ended.stdout.split(ENDED)
     if (ended.returncode, ended.stderr, rest, len(replies)) != (0, "", "", len(lines)):
-        raise Wrong(f"it ended with {ended.returncode}, {ended.stderr!r} and {rest!r}, behind {len(replies)} of {len(lines)} replies")
+        raise Wrong(
+            f"it ended with {ended.returncode}, {ended.stderr!r} and {rest!r}, behind {len(replies)} of {len(lines)} replies"
+        )
     return replies

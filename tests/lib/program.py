@@ -1,5 +1,5 @@
-"""Where the tests stand, and which program they try: the proved one, crates/ghcdb/out/ghcdb, or the one that the environment names as
-GHCDB."""
+"""Where the tests stand, and which program they try: the proved one, crates/ghcdb/out/ghcdb, or the one that the
+environment names as GHCDB."""
 import os
 from pathlib import Path
 

@@ -1,11 +1,14 @@
-"""Makes small programs, queries and sessions by chance, for tests/workers.py. What is made depends on the name of a case alone.
+"""Makes small programs, queries and sessions by chance, for tests/workers.py. What is made depends on the name of a
+case alone.
 
-In the sessions each run stands behind `goals` and `records`, and before `records` and `goals`. There are four kinds of case:
+In the sessions each run stands behind `goals` and `records`, and before `records` and `goals`. There are four kinds of
+case:
 
-  - a flow: predicates over lists and numbers, whose goals give and take each other's values, with forks and streams. Of a goal no two
-    clauses ever say yes, so whatever order the runs take, they leave the same;
+  - a flow: predicates over lists and numbers, whose goals give and take each other's values, with forks and streams. Of
+    a goal no two clauses ever say yes, so whatever order the runs take, they leave the same;
   - a table: a flow with a predicate of so many clauses that workers try them apart from each other;
-  - equations, of which some clash or make a cycle: here, too, all orders leave the same where one of them leaves nothing failed;
+  - equations, of which some clash or make a cycle: here, too, all orders leave the same where one of them leaves
+    nothing failed;
   - a race: clauses made by chance, of which several may say yes, and which may go on without end. Its runs have limits.
 """
 import random
@@ -30,11 +33,14 @@ sort([P|X],Y,T) :- true | part(X,P,S,G), sort(S,Y,[P|M]), sort(G,M,T).
 fork(N,R) :- N > 0 | M := N - 1, fork(M,A), fork(M,B), R := A + B.
 fork(N,R) :- N =< 0 | R = 1.
 """
-TABLE = "".join(f"look({at},R) :- true | R = {at * 7 % 40}.\n" for at in range(40)) + """look(N,R) :- N < 0 | M := 0 - N, look(M,R).
+TABLE = (
+    "".join(f"look({at},R) :- true | R = {at * 7 % 40}.\n" for at in range(40))
+    + """look(N,R) :- N < 0 | M := 0 - N, look(M,R).
 look(N,R) :- N > 39 | M := N - 40, look(M,R).
 look_all([],Y) :- true | Y = [].
 look_all([A|X],Y) :- true | look(A,B), Y = [B|Y1], look_all(X,Y1).
 """
+)
 FLOW_PREDICATES = ["append/3", "reverse/2", "down/2", "sum/3", "double/2", "part/4", "sort/3", "fork/2"]
 RACE_PREDICATES = {"p": 1, "q": 2, "r": 2, "s": 3}
 RACE_TESTS = ["true", "true", "integer({})", "atom({})", "list({})", "wait({})", "{} > 0", "{} =< 1"]
@@ -42,7 +48,8 @@ LIMITS = (1, 2, 3, 5, 8, 13, 34)
 
 
 class Case(NamedTuple):
-    """A program, a query with the names of its variables, and the lines of a session. Where it is alike, all orders leave the same."""
+    """A program, a query with the names of its variables, and the lines of a session. Where it is alike, all orders
+    leave the same."""
 
     name: str
     program: str
@@ -58,26 +65,34 @@ def case_of(name):
 
 
 def runs(chance, whole, predicates, between):
-    """Lines with one to three runs, each either with a limit or one of those in `whole`, before which some of the predicates are spied,
-    and behind which stands some of what is in `between`, each a list of lines."""
+    """Lines with one to three runs, each either with a limit or one of those in `whole`, before which some of the
+    predicates are spied, and behind which stands some of what is in `between`, each a list of lines."""
     lines = []
     for _ in range(chance.randint(1, 3)):
         spied = chance.sample(predicates, min(len(predicates), chance.choice((0, 0, 1, 2))))
         run = chance.choice([f"leap {chance.choice(LIMITS)}", *whole])
-        lines += [f"spy {it}" for it in spied] + ["goals", "records", run, "records", "goals"] + [f"nospy {it}" for it in spied]
+        lines += (
+            [f"spy {it}" for it in spied]
+            + ["goals", "records", run, "records", "goals"]
+            + [f"nospy {it}" for it in spied]
+        )
         lines += sum(chance.sample(between, min(len(between), chance.randint(0, 3))), [])
     return lines
 
 
 def met_later(predicates, query):
-    """The predicates that the query does not call, so that a run takes some steps before it meets one; or all, where it calls all."""
+    """The predicates that the query does not call, so that a run takes some steps before it meets one; or all, where it
+    calls all."""
     return [it for it in predicates if f"{it.partition('/')[0]}(" not in query] or predicates
 
 
 def taking_back(chance):
     """Lines that take steps back, and put them there again."""
     numbers = [chance.randint(1, 9) for _ in range(4)]
-    return [chance.choice(([f"roll {it}"], [f"undo {it}"], [f"roll {it}", f"redo {it}"], [f"undo {it}", f"redo {it}"])) for it in numbers]
+    return [
+        chance.choice(([f"roll {it}"], [f"undo {it}"], [f"roll {it}", f"redo {it}"], [f"undo {it}", f"redo {it}"]))
+        for it in numbers
+    ]
 
 
 class Flow:
@@ -141,7 +156,9 @@ def flow(name, chance, kind=Flow, program=FLOW, predicates=FLOW_PREDICATES):
     query = [f"instream({goals.new(goals.lists)})"] if has_stream else []
     query += [goals.goal() for _ in range(chance.randint(1, 5))]
     chance.shuffle(query)
-    inputs = [f"in 1 {chance.choice((-1, 2, 5, 7, 'a'))}" for _ in range(chance.randint(0, 4))] + ["end 1"] * chance.randint(0, 1)
+    inputs = [f"in 1 {chance.choice((-1, 2, 5, 7, 'a'))}" for _ in range(chance.randint(0, 4))] + [
+        "end 1"
+    ] * chance.randint(0, 1)
     whole, spied = ["leap", f"skip 0.{chance.randint(1, len(query))}"], met_later(predicates, ", ".join(query))
     lines = runs(chance, whole, spied, [[it] for it in inputs] if has_stream else taking_back(chance))
     lines += [*(inputs if has_stream else []), "goals", "records", "leap", "records", "goals"]
@@ -165,10 +182,14 @@ def some_term(chance, variables, depth=2):
 
 
 def equations(name, chance):
-    """Equations over a few variables: one for each, of the variables behind it, and in most cases some that need not go with these."""
+    """Equations over a few variables: one for each, of the variables behind it, and in most cases some that need not go
+    with these."""
     variables = [f"X{number}" for number in range(1, chance.randint(3, 9))]
     query = [f"{it} = {some_term(chance, variables[at:])}" for at, it in enumerate(variables, 1)]
-    query += [f"{some_term(chance, variables, 1)} = {some_term(chance, variables)}" for _ in range(chance.choice((0, 0, 1, 1, 2, 3)))]
+    query += [
+        f"{some_term(chance, variables, 1)} = {some_term(chance, variables)}"
+        for _ in range(chance.choice((0, 0, 1, 1, 2, 3)))
+    ]
     chance.shuffle(query)
     lines = runs(chance, ["leap", f"skip 0.{chance.randint(1, len(query))}"], [], taking_back(chance))
     lines += ["goals", "records", "leap", "records", "goals"]
@@ -186,7 +207,9 @@ def clause(chance, predicate, arity, is_last):
     variables, places = [], []
     for place in range(1, arity + 1):
         kind, first, rest = chance.randrange(3 if is_last else 6), f"A{place}", f"B{place}"
-        places.append((first, first, first, chance.choice(("a", "[]", "0", "1")), f"[{first}|{rest}]", f"f({first},{rest})")[kind])
+        places.append(
+            (first, first, first, chance.choice(("a", "[]", "0", "1")), f"[{first}|{rest}]", f"f({first},{rest})")[kind]
+        )
         variables += [it for it in (first, rest) if it in places[-1]]
     test = chance.choice(RACE_TESTS).format(chance.choice(variables)) if variables and not is_last else "true"
     body = [race_goal(chance, [*variables, "C1", "C2"], ["C1", "C2"]) for _ in range(chance.randint(0, 3))]
@@ -207,8 +230,14 @@ def race_goal(chance, variables, free):
 def race(name, chance):
     """A program of clauses made by chance, with goals that are asked for and predicates that are spied."""
     counts = {it: chance.randint(1, 4) for it in RACE_PREDICATES}
-    clauses = [clause(chance, it, RACE_PREDICATES[it], at == counts[it]) for it in RACE_PREDICATES for at in range(1, counts[it] + 1)]
-    query = ", ".join(race_goal(chance, ["X1", "X2", "X3", "X4"], ["X1", "X2", "X3", "X4"]) for _ in range(chance.randint(2, 6)))
+    clauses = [
+        clause(chance, it, RACE_PREDICATES[it], at == counts[it])
+        for it in RACE_PREDICATES
+        for at in range(1, counts[it] + 1)
+    ]
+    query = ", ".join(
+        race_goal(chance, ["X1", "X2", "X3", "X4"], ["X1", "X2", "X3", "X4"]) for _ in range(chance.randint(2, 6))
+    )
     asked = [f"ask {race_goal(chance, ['X1', 'X2', '_0_1', '_1_1', 'Z'], ['Z'])}" for _ in range(2)]
     spied = met_later([f"{it}/{arity}" for it, arity in RACE_PREDICATES.items()], query)
     lines = [line for _ in range(2) for line in runs(chance, [], spied, taking_back(chance) + [[it] for it in asked])]
@@ -216,4 +245,9 @@ def race(name, chance):
     return Case(name, "".join(f"{it}\n" for it in clauses), query, variables, lines, False)
 
 
-KINDS: dict[str, Callable[[str, random.Random], Case]] = {"flow": flow, "table": table, "equations": equations, "race": race}
+KINDS: dict[str, Callable[[str, random.Random], Case]] = {
+    "flow": flow,
+    "table": table,
+    "equations": equations,
+    "race": race,
+}

@@ -2,16 +2,18 @@
 
 Threads take the turns that they get, so no single run has to show it. Each of these is tried until one run does:
 
-  - orders: of at most 200 runs of the same goals, two tell other steps, or the same in another order. One thread alone would take
-    the same steps each time, so a program that heeds no `--workers` fails here;
-  - threads: where the system lists the threads of a process, as many are there at once as there are workers, in one of at most 20
-    runs; in none are there more;
-  - auto: so are as many as there are processors for `auto`, where a predicate has more than 32 clauses, and one thread else;
-  - halt: in one of at most 10 runs of goals without end, of which one leads to a spied goal, the run stops for that goal at most 2,000
-    steps behind the one that made it: where a worker has met a reason to stop, the others do no more than they have in hand.
+  - orders: of at most 200 runs of the same goals, two tell other steps, or the same in another order. One thread alone
+    would take the same steps each time, so a program that heeds no `--workers` fails here;
+  - threads: where the system lists the threads of a process, as many are there at once as there are workers, in one of
+    at most 20 runs; in none are there more;
+  - auto: so are as many as there are processors for `auto`, where a predicate has more than 32 clauses, and one thread
+    else;
+  - halt: in one of at most 10 runs of goals without end, of which one leads to a spied goal, the run stops for that
+    goal at most 2,000 steps behind the one that made it: where a worker has met a reason to stop, the others do no more
+    than they have in hand.
 
-And where the system refuses threads, the first, the second, the third, or all from one on, a run goes on with those that are there,
-and leaves what one worker leaves.
+And where the system refuses threads, the first, the second, the third, or all from one on, a run goes on with those
+that are there, and leaves what one worker leaves.
 """
 import os
 import re
@@ -40,13 +42,15 @@ def show_orders(folder, workers):
 
 
 def most_threads(folder, workers, settings=None, more="", goals=32):
-    """How many threads there were at once, at the most, in a run of many goals without end. It makes no pauses. The program may have
-    more clauses."""
+    """How many threads there were at once, at the most, in a run of many goals without end. It makes no pauses. The
+    program may have more clauses."""
     environment = os.environ | (settings or {})
     case = Case("threads", ENDLESS + more, ", ".join(["from(0)"] * goals), [], [], False)
     (folder / "lines").write_text("leap 100000\n")
     most, started, lines = 0, time.monotonic(), (folder / "lines").open()
-    with lines, subprocess.Popen(words_of(folder, case, workers), stdin=lines, stdout=subprocess.DEVNULL, env=environment) as process:
+    with lines, subprocess.Popen(
+        words_of(folder, case, workers), stdin=lines, stdout=subprocess.DEVNULL, env=environment
+    ) as process:
         while process.poll() is None:
             most = max(most, len(os.listdir(f"/proc/{process.pid}/task")))
             time.sleep(0.001)
@@ -86,12 +90,17 @@ def show_auto(folder, workers):
 
 
 def steps_behind(folder, workers, name):
-    """How many steps a run took behind the one that made the spied goal for which it stopped; or why it stopped otherwise."""
+    """How many steps a run took behind the one that made the spied goal for which it stopped; or why it stopped
+    otherwise."""
     case = Case(name, ENDLESS + MET, f"from(0), from(0), down([{','.join(50 * '1')}]), from(0)", [], [], False)
     told = play(folder, case, ["spy met/0", "leap 20000"], workers)[1]
     stopped = re.search(r"^stopped (?:spied (\d+)\.1|.*)$", told, re.MULTILINE)
     maker = stopped and stopped[1]
-    return sum(int(number) > int(maker) for number in re.findall(r"^REDU (\d+)", told, re.MULTILINE)) if maker else stopped and stopped[0]
+    return (
+        sum(int(number) > int(maker) for number in re.findall(r"^REDU (\d+)", told, re.MULTILINE))
+        if maker
+        else stopped and stopped[0]
+    )
 
 
 def show_halt(folder, workers):

@@ -1,8 +1,8 @@
 """Plays sessions in which memory is refused, or a read or a write fails, for tests/sweep.py, tests/devices.py and
 tests/undo_requests.py.
 
-The library of tests/refuse.c, which a C compiler makes, stands before the C library of the program: so the program is tried as it
-is, and what it asks of the system is counted and refused from outside.
+The library of tests/refuse.c, which a C compiler makes, stands before the C library of the program: so the program is
+tried as it is, and what it asks of the system is counted and refused from outside.
 """
 import shutil
 import struct
@@ -19,13 +19,15 @@ SECONDS = 60
 LAST_LINE = 4094
 ALL_BEHIND = 10**9
 F1 = b"F1 no memory\n"
-ORDER = "w+p+h*p*q+p+h*s"  # the words, the files, both texts, the checker and the first state, the history, and the session
+ORDER = (
+    "w+p+h*p*q+p+h*s"  # the words, the files, both texts, the checker and the first state, the history, and the session
+)
 
 
 class Played(NamedTuple):
-    """What became of a session: what was written before the first line was asked for, then the reply to each line, and how often
-    memory was asked for in each of these; how many reads and writes there were, and how many bytes were written before the one that
-    failed; the errors, and the status, if it ended."""
+    """What became of a session: what was written before the first line was asked for, then the reply to each line, and
+    how often memory was asked for in each of these; how many reads and writes there were, and how many bytes were
+    written before the one that failed; the errors, and the status, if it ended."""
 
     replies: list[bytes]
     requests: list[int]
@@ -48,7 +50,8 @@ class Session:
             self.words += ["--load", "run.history"]
 
     def play(self, lines=None, **settings):
-        """Plays the lines, or those of the session, under the settings of tests/refuse.c. Where it hangs there is no status."""
+        """Plays the lines, or those of the session, under the settings of tests/refuse.c. Where it hangs there is no
+        status."""
         lines = self.lines if lines is None else lines
         report = self.folder / f"report-{threading.get_ident()}"
         report.write_bytes(b"")
@@ -56,7 +59,9 @@ class Session:
         environment |= {name: str(value) for name, value in settings.items()}
         given = "".join(f"{line}\n" for line in lines).encode()
         try:
-            run = subprocess.run(self.words, input=given, capture_output=True, cwd=self.folder, env=environment, timeout=SECONDS)
+            run = subprocess.run(
+                self.words, input=given, capture_output=True, cwd=self.folder, env=environment, timeout=SECONDS
+            )
         except subprocess.TimeoutExpired:
             return Played([], [], 0, 0, 0, b"", None)
         return played(report.read_bytes(), len(lines), run)
@@ -65,7 +70,11 @@ class Session:
 def played(report, count, run):
     """What a report and a run tell of a session of so many lines."""
     reads, writes, failed_behind, *numbers = struct.unpack(f"{2 * LAST_LINE + 5}Q", report)
-    starts = [0, *(numbers[2 * line + 1] if line <= reads else len(run.stdout) for line in range(1, count + 1)), len(run.stdout)]
+    starts = [
+        0,
+        *(numbers[2 * line + 1] if line <= reads else len(run.stdout) for line in range(1, count + 1)),
+        len(run.stdout),
+    ]
     replies = [run.stdout[start:end] for start, end in zip(starts, starts[1:])]
     return Played(replies, numbers[0 : 2 * count + 2 : 2], reads, writes, failed_behind, run.stderr, run.returncode)
 
@@ -80,7 +89,8 @@ def compile_library(folder):
 
 
 def tried(name, check):
-    """Calls the check with a folder that has the library, which gives how many things passed and failed, and gives the status."""
+    """Calls the check with a folder that has the library, which gives how many things passed and failed, and gives the
+    status."""
     if not Path(PROGRAM).is_file():
         print(f"{PROGRAM} is not there: `./ghcdb --prove` makes it", file=sys.stderr)
         return 1

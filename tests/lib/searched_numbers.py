@@ -3,9 +3,10 @@
 
     python3 tests/lib/searched_numbers.py COUNT [RISING|MIXED] > FILE    a history of COUNT steps, whose program and query are below
 
-The steps are those of `loop :- true | loop.` and the query `loop`, one after another. Each number is among those whose hash, by the
-hash of numbers or by the kit's own, falls into the first part of a table of COUNT entries: such a table would be gone through from
-end to end for each of them. The numbers are always the same. A search takes about a second for each 40,000 steps.
+The steps are those of `loop :- true | loop.` and the query `loop`, one after another. Each number is among those whose
+hash, by the hash of numbers or by the kit's own, falls into the first part of a table of COUNT entries: such a table
+would be gone through from end to end for each of them. The numbers are always the same. A search takes about a second
+for each 40,000 steps.
 """
 import random
 import sys

@@ -1,11 +1,13 @@
 """Refuses memory in runs by four workers, for tests/sweep.py.
 
-Each request for memory of each run of the sessions below, but the last, is refused in turn, alone and with all behind it in its line,
-and so is each request of the start. How often memory is asked for, and in which order steps are taken, differs from one play to the next; so what is
-written is compared with no text, but judged_runs.py says what each run has to tell, and why it may stop. Of the run that was
-refused memory each line may be F1, and it may stop for want of memory. All lines behind it are answered: none of them is F1, and the
-last ones tell what a session with ample memory leaves. Some requests sleep first, so that workers overtake each other. Before the first line the program ends as tests/sweep.py says. It ends by
-itself, and by no signal. What other commands do where memory is refused does not depend on workers.
+Each request for memory of each run of the sessions below, but the last, is refused in turn, alone and with all behind
+it in its line, and so is each request of the start. How often memory is asked for, and in which order steps are taken,
+differs from one play to the next; so what is written is compared with no text, but judged_runs.py says what each run
+has to tell, and why it may stop. Of the run that was refused memory each line may be F1, and it may stop for want of
+memory. All lines behind it are answered: none of them is F1, and the last ones tell what a session with ample memory
+leaves. Some requests sleep first, so that workers overtake each other. Before the first line the program ends as
+tests/sweep.py says. It ends by itself, and by no signal. What other commands do where memory is refused does not depend
+on workers.
 """
 from typing import NamedTuple
 
@@ -22,8 +24,8 @@ RUN = "goals;records;leap;records;goals"
 
 
 class Shared(NamedTuple):
-    """A session by several workers, in which each run stands behind `goals` and `records`, and before both in turn, and the texts in
-    which the replies to its last lines end."""
+    """A session by several workers, in which each run stands behind `goals` and `records`, and before both in turn, and
+    the texts in which the replies to its last lines end."""
 
     program: str
     query: str
@@ -31,9 +33,15 @@ class Shared(NamedTuple):
     ends: tuple[str, ...]
 
 
-# One goal alone is ready in the first of them, so no thread is started there; in the others threads are, for at least one run.
+# One goal alone is ready in the first of them, so no thread is started there; in the others threads are, for at least
+# one run.
 SHARED = {
-    "workers_sum": Shared(SUM, "instream(S), sum(S,0,R)", f"in 1 5;in 1 7;end 1;{RUN};{RUN};{RUN};show R", ("stopped quiet\n", "", "none\n", "R = 12\n")),
+    "workers_sum": Shared(
+        SUM,
+        "instream(S), sum(S,0,R)",
+        f"in 1 5;in 1 7;end 1;{RUN};{RUN};{RUN};show R",
+        ("stopped quiet\n", "", "none\n", "R = 12\n"),
+    ),
     "workers_streams": Shared(
         SUM,
         "instream(S), sum(S,0,R), instream(T), sum(T,0,Q)",
@@ -89,7 +97,9 @@ class SharedCase:
                 yield Trial(at, first, ALL_BEHIND)
 
     def play(self, trial):
-        return self.session.play(REFUSE_LINE=trial.at, REFUSE_FROM=trial.first, REFUSE_TO=trial.last, PAUSE_SEED=trial.first)
+        return self.session.play(
+            REFUSE_LINE=trial.at, REFUSE_FROM=trial.first, REFUSE_TO=trial.last, PAUSE_SEED=trial.first
+        )
 
     def what_is_wrong(self, played, at=0):
         """What is wrong with a session of which this line was refused memory, if anything."""
@@ -108,8 +118,9 @@ class SharedCase:
 
 
 def sweep_shared(case, pool, part_of, are_in_order):
-    """Makes all trials of a session by several workers, and says how many things were right, and how many not. `part_of` tells for which
-    part the start found no memory, and `are_in_order` whether the start came to its parts in their order."""
+    """Makes all trials of a session by several workers, and says how many things were right, and how many not.
+    `part_of` tells for which part the start found no memory, and `are_in_order` whether the start came to its parts in
+    their order."""
     trials = list(case.trials())
     played = list(pool.map(case.play, trials))
     parts = [part_of(one) if trial.at == 0 else None for trial, one in zip(trials, played)]

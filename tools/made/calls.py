@@ -13,8 +13,8 @@ FAULT = re.compile(r"`?(?:Fault[:.]+)?\b([A-Z]\w+)\b`?")
 
 @dataclass
 class Call:
-    """A function: where it stands, its comment, its signature, its head, which is the signature with the clauses, and whether other
-    crates can call it."""
+    """A function: where it stands, its comment, its signature, its head, which is the signature with the clauses, and
+    whether other crates can call it."""
 
     crate: str
     path: str
@@ -45,7 +45,9 @@ class Call:
 
     def cost(self):
         """The sentences of the comment that tell what the call costs."""
-        return " ".join(one for one in re.split(r"(?<=[a-z0-9`)])\. ", self.doc) if re.search(r"\b[Cc]osts?\b|\b[Ll]inear\b", one)).rstrip(".")
+        return " ".join(
+            one for one in re.split(r"(?<=[a-z0-9`)])\. ", self.doc) if re.search(r"\b[Cc]osts?\b|\b[Ll]inear\b", one)
+        ).rstrip(".")
 
     def refusals(self, faults):
         """The faults that comment and clauses name, in this order, and that of memory where the result can be one."""
@@ -74,7 +76,11 @@ def head_end(lines, at, indent):
         if text == " " * indent + "{":
             return end
         is_clause = re.match(r"\s*(ensures|requires|ghost|decreases)\b", text)
-        if text.endswith("{}") or (text.endswith((" {", ";")) and not is_clause) or (text.endswith("};") and "ensures" in text):
+        if (
+            text.endswith("{}")
+            or (text.endswith((" {", ";")) and not is_clause)
+            or (text.endswith("};") and "ensures" in text)
+        ):
             return end + 1
     return len(lines)
 
@@ -91,7 +97,8 @@ def doc_above(lines, at, mark="///"):
 
 
 def calls_of_file(crate, path, root, opened):
-    """The functions of a file that its crate can call, and the calls of its traits; of a program all functions, since nobody calls it."""
+    """The functions of a file that its crate can call, and the calls of its traits; of a program all functions, since
+    nobody calls it."""
     lines = path.read_text(encoding="utf-8").split("\n")
     scope, owner, is_trait = Scope(lines), "", False
     for at, line in enumerate(lines):
@@ -109,7 +116,18 @@ def calls_of_file(crate, path, root, opened):
         signature = re.split(r"\n\s*(?:ensures|requires|ghost|decreases)\b", head, maxsplit=1)[0]
         doc = doc_above(lines, at, "///" if is_public else "//")
         can_be_called = is_open(is_public, owner, found[2], opened)
-        yield Call(crate, path.relative_to(root).as_posix(), at + 1, owner, found[2], doc, signature, head, scope, can_be_called)
+        yield Call(
+            crate,
+            path.relative_to(root).as_posix(),
+            at + 1,
+            owner,
+            found[2],
+            doc,
+            signature,
+            head,
+            scope,
+            can_be_called,
+        )
 
 
 def is_open(is_public, owner, name, opened):
@@ -172,7 +190,22 @@ def kinds(root, order):
             lines = text.split("\n")
             for found in re.finditer(r"(?m)^impl[^\n]*\bModel for (\w+)[^\n]*\{$", text):
                 kept = re.search(r"ghost invariant = ", braced(text, found.end() - 1))
-                at = next((at for at, line in enumerate(lines) if re.match(rf"(?:pub(?:\(crate\))? )?(?:struct|enum) {found[1]}\b", line)), None)
+                at = next(
+                    (
+                        at
+                        for at, line in enumerate(lines)
+                        if re.match(rf"(?:pub(?:\(crate\))? )?(?:struct|enum) {found[1]}\b", line)
+                    ),
+                    None,
+                )
                 if kept and at is not None:
                     start = found.end() - 1 + kept.end()
-                    yield Kind(crate, path.relative_to(root).as_posix(), at + 1, found[1], doc_above(lines, at, "//"), braced(text, start), Scope(lines))
+                    yield Kind(
+                        crate,
+                        path.relative_to(root).as_posix(),
+                        at + 1,
+                        found[1],
+                        doc_above(lines, at, "//"),
+                        braced(text, start),
+                        Scope(lines),
+                    )

@@ -3,6 +3,7 @@
 What refusals and limits mean is read in fault.rt and limit.rt, so a meaning stands once.
 """
 
+import json
 import re
 from itertools import zip_longest
 from typing import NamedTuple
@@ -15,9 +16,11 @@ HELP = "crates/ghcdb/src/help.rt"
 PARSER = "crates/ghc_console/src/command.rt"
 MANUAL = "packaging/ghcdb.1"
 WORDS = "commands.txt"
+PROTOCOL = "front/protocol"  # where JavaScript has what it knows of the console's lines
 
 EFFECTS = ("adds", "takes", "orders", "looks", "ends", "front")
 FOLLOWS = ("", "ready", "goal", "kept", "shelf", "variable", "value", "stream", "predicate", "goals", "command")
+COLUMNS = 120  # of a line of code
 WIDTH_OF_FORM = 17  # the widest form that --help tells in the line of what it does
 
 # Which forms each function of command.rt reads: what stands in a form after the command's name, as a pattern.
@@ -33,7 +36,8 @@ READ_BY = {
 
 
 class Row(NamedTuple):
-    """A command: how it is written, what it does to the record, what may follow, what it does, and what a terminal adds."""
+    """A command: how it is written, what it does to the record, what may follow, what it does, and what a terminal
+    adds."""
 
     form: str
     effect: str
@@ -138,7 +142,9 @@ def cheat_table(groups):
     """The tables of the cheat sheet: of the console's commands, and of those of the terminal alone."""
     for heading, part in (("type", of_console(groups)), ("at a terminal also", of_front(groups))):
         yield from ["", f"| {heading} | to | {heading} | to |", "|---|---|---|---|"]
-        yield from cheat_rows([(", ".join(f"`{row.form}`" for row in group), tells_at_terminal(group[0])) for group in part])
+        yield from cheat_rows(
+            [(", ".join(f"`{row.form}`" for row in group), tells_at_terminal(group[0])) for group in part]
+        )
 
 
 def man_words(group):
@@ -199,6 +205,56 @@ def read_limits(root):
         yield word, "; ".join([*told, *(f"{lowered(comment)}: {value:,}" for comment, value in others)])
 
 
+# --- modules of JavaScript
+
+
+def string(text, first):
+    """A string as JavaScript writes it, in several lines where it is wide; `first` letters stand before it."""
+    lines, width = [""], COLUMNS - first
+    for word in re.findall(r"\S+\s*", text):
+        if len(lines[-1] + word) > width - len('"" +'):
+            lines.append("")
+            width = COLUMNS - 4
+        lines[-1] += word
+    return " +\n    ".join(json.dumps(line, ensure_ascii=False) for line in lines)
+
+
+def module(name, what, source, brackets, items):
+    """A module that exports one thing."""
+    lines = "".join(f"  {item},\n" for item in items)
+    made = f"// {what}\n// Made by tools/make-commands of {source}.\n"
+    return f"{made}const {name} = {brackets[0]}\n{lines}{brackets[1]};\n\nexport default {name};\n"
+
+
+def entries(pairs):
+    """The entries of an object whose values are strings."""
+    return (f"{name}: {string(text, len(name) + 4)}" for name, text in pairs)
+
+
+def commands_module(groups):
+    """The commands for JavaScript, in the order in which a terminal's help lists them."""
+    *console, last = of_console(groups)
+    rows = []
+    for row in rows_of([*console, *of_front(groups), last]):
+        told = (
+            json.dumps(it, ensure_ascii=False)
+            for it in (row.name, row.form, row.effect, row.follows, row.tells, row.more)
+        )
+        rows.append("{{ name: {}, form: {}, effect: {}, follows: {},\n    tells: {}, more: {} }}".format(*told))
+    what = "The commands: how each is written, what it does to the record, what follows it, what it does, what a terminal adds."
+    return module("CommandsTable", what, TABLE, "[]", rows)
+
+
+def refusals_module(root):
+    told = entries((number, f"{means}; {cure}") for number, _, means, cure in read_refusals(root))
+    return module("Refusals", "What each refusal means, and what helps.", f"{tables.FAULT} and {CURES}", "{}", told)
+
+
+def limits_module(root):
+    source = f"{tables.LIMIT} and the constants of the code"
+    return module("Limits", "What each word of `F6 limit: WORD` means.", source, "{}", entries(read_limits(root)))
+
+
 # --- what does not go together
 
 
@@ -244,5 +300,8 @@ def made(root):
     return {
         root / HELP: between(root, HELP, "a line each:\n", "\nExample:", help_lines(groups)),
         root / WORDS: "".join(f"{name}\n" for name in names),
+        root / PROTOCOL / "commands_table.mjs": commands_module(groups),
+        root / PROTOCOL / "refusals.mjs": refusals_module(root),
+        root / PROTOCOL / "limits.mjs": limits_module(root),
         root / MANUAL: between(root, MANUAL, '.\\" made: commands\n', '.\\" end of made\n', man_lines(groups)),
     }

@@ -4,9 +4,19 @@ import re
 
 # The most words of each page by hand; of all together there may be fewer.
 PAGES = {
-    "README.md": 700, "docs/TUTORIAL.md": 2000, "docs/LANGUAGE.md": 9000, "docs/FORMATS.md": 5500, "docs/ARCHITECTURE.md": 2600,
-    "docs/THEOREMS.md": 1500, "docs/DECISIONS.md": 4000, "CONTRIBUTING.md": 1050, "CHANGELOG.md": 600, "docs/PAGE.md": 2200,
-    "docs/TERMINAL.md": 1500, "docs/RACE.md": 1000, "docs/CHEATSHEET.md": 600,
+    "README.md": 700,
+    "docs/TUTORIAL.md": 2000,
+    "docs/LANGUAGE.md": 9000,
+    "docs/FORMATS.md": 5500,
+    "docs/ARCHITECTURE.md": 2600,
+    "docs/THEOREMS.md": 1500,
+    "docs/DECISIONS.md": 4000,
+    "CONTRIBUTING.md": 1050,
+    "CHANGELOG.md": 600,
+    "docs/PAGE.md": 2200,
+    "docs/TERMINAL.md": 1500,
+    "docs/RACE.md": 1000,
+    "docs/CHEATSHEET.md": 600,
 }
 MOST_WORDS = 30_000
 MOST_IN_SENTENCE = 40

@@ -2,8 +2,9 @@
 
 import re
 
-# Each rung: its page, what one reads it for, where it begins, and how that is called in a title. A rung begins with a word of specs/, by
-# crate and name, or with the contract of a call; it has what its beginning reaches and the rungs below it do not.
+# Each rung: its page, what one reads it for, where it begins, and how that is called in a title. A rung begins with a
+# word of specs/, by crate and name, or with the contract of a call; it has what its beginning reaches and the rungs
+# below it do not.
 RUNGS = [
     ("replay", "the state is the replay of the kept steps", ("word", "ghc_core", "IsReplay")),
     ("changes", "changes keep it so", ("word", "ghc_core", "Reaches")),
@@ -33,7 +34,8 @@ def rungs(specs, calls):
 
 
 def shown(word):
-    """A word as its comment shows it, with the names of its arguments where the comment gives them, and what the comment says."""
+    """A word as its comment shows it, with the names of its arguments where the comment gives them, and what the
+    comment says."""
     found = INTO_DEFINITION.match(word.comment)
     if found and found["head"].split()[0] == word.name:
         return found["head"].strip("`"), sentence(found["rest"])
@@ -59,7 +61,11 @@ def citing(specs, calls):
 
 def signature(word):
     """What a word without a comment of its own is: its first line, without what says only how it is kept."""
-    return re.sub(r"^((pub|abbrev|opaque|prop|instance) )+", "", word.text[0].strip()).removesuffix(" where").removesuffix(" =")
+    return (
+        re.sub(r"^((pub|abbrev|opaque|prop|instance) )+", "", word.text[0].strip())
+        .removesuffix(" where")
+        .removesuffix(" =")
+    )
 
 
 def entry(word, cited, up):
@@ -75,14 +81,20 @@ def listed(specs, order, words, cited, up="../../"):
     """Words by crate and file, in the order of the crates and of the files."""
     lines = []
     for crate in order:
-        here = [word for module in sorted(specs.files) for word in specs.files[module] if word in words and word.crate == crate]
+        here = [
+            word
+            for module in sorted(specs.files)
+            for word in specs.files[module]
+            if word in words and word.crate == crate
+        ]
         if here:
             lines += [f"## {crate}", "", *[entry(word, cited, up) for word in here], ""]
     return lines
 
 
 def in_short(specs, start):
-    """The first words of a rung from the top: those with which it begins, and what these name, as far as a screen goes."""
+    """The first words of a rung from the top: those with which it begins, and what these name, as far as a screen
+    goes."""
     seen: list = []
     left = list(start)
     while left and len(seen) < SHORT:
@@ -90,7 +102,14 @@ def in_short(specs, start):
         if word not in seen and word.comment:
             seen.append(word)
             left += sorted(specs.names_of(word), key=lambda one: "\n".join(word.text).find(one.name))
-    return ["## In short", "", "From the top, and no further than a screen goes; each stands below with its place.", "", *[f"- **`{shown(word)[0]}`** {shown(word)[1]}" for word in seen], ""]
+    return [
+        "## In short",
+        "",
+        "From the top, and no further than a screen goes; each stands below with its place.",
+        "",
+        *[f"- **`{shown(word)[0]}`** {shown(word)[1]}" for word in seen],
+        "",
+    ]
 
 
 def lines_of(words):
@@ -103,16 +122,21 @@ def pages(specs, calls, order):
     for name, reason, start, needed, more in rungs(specs, calls):
         rest = f", {len(more)} of them beside the rungs below" if below else ""
         made[f"words_{name}.md"] = [
-            f"# The words of `{start[2]}`", "",
-            f"What one reads to believe that {reason}: {len(needed)} words, {lines_of(needed)} lines{rest}. {MADE}", "",
-            *in_short(specs, sorted(beginning(specs, calls, start), key=lambda word: word.name)), *listed(specs, order, more, cited),
+            f"# The words of `{start[2]}`",
+            "",
+            f"What one reads to believe that {reason}: {len(needed)} words, {lines_of(needed)} lines{rest}. {MADE}",
+            "",
+            *in_short(specs, sorted(beginning(specs, calls, start), key=lambda word: word.name)),
+            *listed(specs, order, more, cited),
         ]
         below += len(more)
     told = set().union(*(more for *_, more in rungs(specs, calls)))
     for name, what, words in beside(specs, calls):
         made[f"words_{name}.md"] = [
-            f"# The words of {what}", "",
-            f"What {what} cite beside the words of the pages before: {len(words - told)} words, {lines_of(words - told)} lines. {MADE}", "",
+            f"# The words of {what}",
+            "",
+            f"What {what} cite beside the words of the pages before: {len(words - told)} words, {lines_of(words - told)} lines. {MADE}",
+            "",
             *listed(specs, order, words - told, cited),
         ]
         told |= words
@@ -120,8 +144,12 @@ def pages(specs, calls, order):
 
 
 def beside(specs, calls):
-    """What is read beside the ladder: the words of laws, of all calls that other crates can make, and those of the code alone."""
-    for name, what, chosen in (("laws", "the laws", [call for call in calls if call.is_law]), ("other_calls", "other calls", [call for call in calls if call.is_open])):
+    """What is read beside the ladder: the words of laws, of all calls that other crates can make, and those of the code
+    alone."""
+    for name, what, chosen in (
+        ("laws", "the laws", [call for call in calls if call.is_law]),
+        ("other_calls", "other calls", [call for call in calls if call.is_open]),
+    ):
         yield name, what, set().union(*(specs.reached(specs.of_contract(call)) for call in chosen))
     yield "code", "calls within a crate, invariants and lemmas", set(specs.words.values())
 

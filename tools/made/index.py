@@ -26,11 +26,15 @@ def calls_page(calls, order, numbers):
     lines = [
         "# The calls", "",
         "Each call with the first sentence of its comment, the names of its clauses (`ensures` where one has no name), the refusals that comment or "
-        "contract names, and its cost. Made by `tools/make-pages` from `crates/*/src`: change the comments there. Laws stand in [laws](laws.md).", "",
+        "contract names, and its cost. Made by `tools/make-pages` from `crates/*/src`: change the comments there. Laws stand in [laws](laws.md).",
+        "",
     ]
     for crate in order:
         here = [call for call in calls if call.crate == crate and not call.is_law and "ensures" in call.head]
-        for title, chosen in ((f"## {crate}", [call for call in here if call.is_open]), (f"### Within {crate}", [call for call in here if not call.is_open])):
+        for title, chosen in (
+            (f"## {crate}", [call for call in here if call.is_open]),
+            (f"### Within {crate}", [call for call in here if not call.is_open]),
+        ):
             if chosen:
                 lines += [title, "", *HEAD, *[row(call, numbers) for call in chosen], ""]
     return lines
@@ -46,7 +50,10 @@ def laws_page(calls, specs, order):
         here = [call for call in calls if call.crate == crate and call.is_law]
         if here:
             lines += [f"## {crate}", "", "| law | says | words |", "|---|---|---|"]
-            lines += [f"| [{law.name}](../../{law.path}#L{law.line}) | {cell(law.doc)} | {words_of(law, specs)} |" for law in here]
+            lines += [
+                f"| [{law.name}](../../{law.path}#L{law.line}) | {cell(law.doc)} | {words_of(law, specs)} |"
+                for law in here
+            ]
             lines.append("")
     return lines
 
@@ -75,5 +82,7 @@ def types_page(kinds, specs):
     ]
     for kind in kinds:
         needed = specs.reached(specs.in_text(kind.invariant, kind.scope))
-        lines.append(f"| {kind.crate} | [{kind.name}](../../{kind.path}#L{kind.line}) | {cell(kind.doc)} | {len(needed)} |")
+        lines.append(
+            f"| {kind.crate} | [{kind.name}](../../{kind.path}#L{kind.line}) | {cell(kind.doc)} | {len(needed)} |"
+        )
     return lines

@@ -1,8 +1,10 @@
-"""The picture of the crates, from crates.txt: each stands above those that it uses. An arrow that others imply is left out."""
+"""The picture of the crates, from crates.txt: each stands above those that it uses. An arrow that others imply is left
+out."""
 
 from html import escape
 
-# Each crate: its group, what it is for, and its place by column and level, which are set by hand. A crate without an entry is an error.
+# Each crate: its group, what it is for, and its place by column and level, which are set by hand. A crate without an
+# entry is an error.
 PURPOSES = {
     "ghc_term": ("text", "terms, store, refusals", 1, 0),
     "ghc_reader": ("text", "bytes to program and query", 0, 1),
@@ -20,7 +22,14 @@ PURPOSES = {
     "ghc_console": ("told", "lines in, replies out", 1, 10),
     "ghcdb": ("told", "files, options, exit status", 1, 11),
 }
-COLOURS = {"text": "#dbeafe", "step": "#dcfce7", "goal": "#fef9c3", "run": "#fee2e2", "told": "#f3e8ff", "threads": "#e5e7eb"}
+COLOURS = {
+    "text": "#dbeafe",
+    "step": "#dcfce7",
+    "goal": "#fef9c3",
+    "run": "#fee2e2",
+    "told": "#f3e8ff",
+    "threads": "#e5e7eb",
+}
 GROUPS = {
     "text": "what a program says", "step": "what a step does", "goal": "how a goal stands",
     "run": "what is kept, and changes", "told": "what is told", "threads": "threads",
@@ -45,7 +54,14 @@ def below(crate, own, seen):
 def arrows(used):
     """Of each crate those below it that no other of them uses."""
     own = {crate: {one for one in low if one in used} for crate, low in used.items()}
-    return {crate: sorted(one for one in own[crate] if not any(one in below(other, own, set()) for other in own[crate] if other != one)) for crate in own}
+    return {
+        crate: sorted(
+            one
+            for one in own[crate]
+            if not any(one in below(other, own, set()) for other in own[crate] if other != one)
+        )
+        for crate in own
+    }
 
 
 def arrow(x, y, u, v):
@@ -68,9 +84,14 @@ def picture(root):
     """The lines of the SVG."""
     used = uses(root)
     if set(used) != set(PURPOSES):
-        raise SystemExit(f"tools/made/picture.py has no purpose of, or crates.txt has no: {sorted(set(used) ^ set(PURPOSES))}")
+        raise SystemExit(
+            f"tools/made/picture.py has no purpose of, or crates.txt has no: {sorted(set(used) ^ set(PURPOSES))}"
+        )
     top = max(level for *_, level in PURPOSES.values())
-    place = {crate: (10 + column * (WIDE + GAP), 10 + (top - level) * ROW) for crate, (_, _, column, level) in PURPOSES.items()}
+    place = {
+        crate: (10 + column * (WIDE + GAP), 10 + (top - level) * ROW)
+        for crate, (_, _, column, level) in PURPOSES.items()
+    }
     width, height = 20 + 3 * WIDE + 2 * GAP, 44 + (top + 1) * ROW
     lines = [
         f'<svg xmlns="http://www.w3.org/2000/svg" viewBox="0 0 {width} {height}" width="{width}" font-family="sans-serif">',
@@ -78,11 +99,16 @@ def picture(root):
         f'<rect width="{width}" height="{height}" fill="#fff"/>',
     ]
     for crate, low in arrows(used).items():
-        lines += [f'<path d="{arrow(*place[crate], *place[one])}" fill="none" stroke="#555" marker-end="url(#a)"/>' for one in low]
+        lines += [
+            f'<path d="{arrow(*place[crate], *place[one])}" fill="none" stroke="#555" marker-end="url(#a)"/>'
+            for one in low
+        ]
     for crate in PURPOSES:
         lines += box(crate, *place[crate], [one for one in used[crate] if one not in used])
     x = 10.0
     for group, words in GROUPS.items():
-        lines.append(f'<rect x="{x:.0f}" y="{height - 24}" width="12" height="12" fill="{COLOURS[group]}" stroke="#777"/><text x="{x + 16:.0f}" y="{height - 14}" font-size="10">{words}</text>')
+        lines.append(
+            f'<rect x="{x:.0f}" y="{height - 24}" width="12" height="12" fill="{COLOURS[group]}" stroke="#777"/><text x="{x + 16:.0f}" y="{height - 14}" font-size="10">{words}</text>'
+        )
         x += 26 + 5.3 * len(words)
     return lines + ["</svg>"]

@@ -1,14 +1,16 @@
 """The words of crates/*/specs: each definition with its comment, its place, and the words that its text names.
 
-A word is one definition (data, record, function); constructors and fields belong to theirs. Names are looked up by the `use` lines of
-the file, so that two words of one name in two crates stay two."""
+A word is one definition (data, record, function); constructors and fields belong to theirs. Names are looked up by the
+`use` lines of the file, so that two words of one name in two crates stay two."""
 
 import re
 from collections import defaultdict
 from pathlib import Path
 
 USE = re.compile(r"^\s*(?:pub )?(?:ghost )?use\s+(\S+?)(?:\.\{(.*)\}|\s+as\s+(\S+?))?;?\s*$")
-HEAD = re.compile(r"^(?P<indent> *)(?:(?:pub|abbrev|opaque|prop|instance) )*(?P<kind>data |record )?(?:pub )?(?P<name>[^\s(){}:=,;|\[\]]+)(?P<rest>.*)$")
+HEAD = re.compile(
+    r"^(?P<indent> *)(?:(?:pub|abbrev|opaque|prop|instance) )*(?P<kind>data |record )?(?:pub )?(?P<name>[^\s(){}:=,;|\[\]]+)(?P<rest>.*)$"
+)
 SIGNATURE = re.compile(r"^(\s+[({\[].*[)}\]])?\s*:\s")
 TOKEN = re.compile(r"[A-Za-z_][\w'-]*(?:\.[A-Za-z_][\w'-]*)*|[^\s\w(){}\[\],;.]+")
 MODEL = re.compile(r"impl(?:<[^{]*?>)? Model for (\w+)")
@@ -19,7 +21,14 @@ class Word:
     """A definition: its crate, the file within `specs/` without its ending, its name, line, comment and text."""
 
     def __init__(self, module, name, kind, indent, line, comment):
-        self.module, self.name, self.kind, self.indent, self.line, self.comment = module, name, kind, indent, line, comment
+        self.module, self.name, self.kind, self.indent, self.line, self.comment = (
+            module,
+            name,
+            kind,
+            indent,
+            line,
+            comment,
+        )
         self.constructors, self.text = [], []
 
     @property
@@ -54,7 +63,8 @@ class Scope:
 
 
 def comment_above(lines, at):
-    """The comment that stands directly above a line, also where `mutual` stands between; the file's own first line is none."""
+    """The comment that stands directly above a line, also where `mutual` stands between; the file's own first line is
+    none."""
     at -= 1
     if at >= 0 and lines[at].strip() in ("mutual", "abbrev mutual", "pub mutual"):
         at -= 1

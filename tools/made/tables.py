@@ -5,7 +5,8 @@ import re
 FAULT = "crates/ghc_term/src/fault.rt"
 LIMIT = "crates/ghc_term/src/limit.rt"
 
-# Each limit: the constant of the code, the equation of specs/ that ends with the same number ("" where none does), and what comes past it.
+# Each limit: the constant of the code, the equation of specs/ that ends with the same number ("" where none does), and
+# what comes past it.
 LIMITS = [
     ("ghc_term/src/limit.rt", "TEXT_LIMIT", "ghc_term text_limit", "F6 `text`"),
     ("ghc_console/src/devices/line_buffer.rt", "LINE_LIMIT", "ghc_console line_limit", "F6 `line`"),
@@ -27,8 +28,9 @@ LIMITS = [
     ("ghc_console/src/command.rt", "RUN_LIMIT", "ghc_console run_limit", "`stopped limit`"),
 ]
 
-# Why a command of the console is refused is said by its equation of `Replies`. Of those that the core obeys, and that have another name
-# there, this is said by other words, in the order of the tests: the reader's refusals, a word, or an equation of one.
+# Why a command of the console is refused is said by its equation of `Replies`. Of those that the core obeys, and that
+# have another name there, this is said by other words, in the order of the tests: the reader's refusals, a word, or an
+# equation of one.
 OF_TEXT = ["F2", "F6"]
 REFUSED_BY: dict[str, list] = {
     "step": [("ghc_core", "StepFails")],
@@ -68,7 +70,18 @@ def limit_words(root):
     return [(words[name], comment) for comment, name in re.findall(r"/// (.*)\n\s*(\w+),", variants)]
 
 
-SHOWN = {"line": "L", "column": "C", "clause": "N", "variable": "V", "name": "NAME", "arity": "ARITY", "": "WHICH", "step": "S", "earlier": "A", "later": "B"}
+SHOWN = {
+    "line": "L",
+    "column": "C",
+    "clause": "N",
+    "variable": "V",
+    "name": "NAME",
+    "arity": "ARITY",
+    "": "WHICH",
+    "step": "S",
+    "earlier": "A",
+    "later": "B",
+}
 
 
 def shown_text(name, text):
@@ -120,11 +133,14 @@ def limits_table(root, specs):
 
 
 def told_faults(specs, names, word, only=None, seen=None):
-    """The faults that a definition tells, as `F16`, in the order of its text: its own, and in their place those of the words it names."""
+    """The faults that a definition tells, as `F16`, in the order of its text: its own, and in their place those of the
+    words it names."""
     seen = set() if seen is None else seen
     seen.add(word)
     scope, own = specs.scopes[word.module], specs.files[word.module]
-    text = "\n".join(line for line in word.text if not only or re.match(rf"{word.name}\b.*?[ (]{only}(?:_of)?[ )].* = ", line))
+    text = "\n".join(
+        line for line in word.text if not only or re.match(rf"{word.name}\b.*?[ (]{only}(?:_of)?[ )].* = ", line)
+    )
     found = []
     for token, limit in re.findall(r"([A-Za-z_][\w.]*)(?: limit\.(\w+))?", text):
         name = token.rpartition(".")[2]
@@ -139,7 +155,11 @@ def told_faults(specs, names, word, only=None, seen=None):
 
 def tells(word):
     """Does the word speak of refusals?"""
-    return any(re.search(r"\bFault\b|\bAnswer\b|\brefused\b", line) for line in word.text) and word.crate in ("ghc_core", "ghc_fire", "ghc_console")
+    return any(re.search(r"\bFault\b|\bAnswer\b|\brefused\b", line) for line in word.text) and word.crate in (
+        "ghc_core",
+        "ghc_fire",
+        "ghc_console",
+    )
 
 
 def command_rows(root, specs, rows):
@@ -152,7 +172,11 @@ def command_rows(root, specs, rows):
                 refusals += by
             else:
                 word = [one for one in specs.by_name[by[1]] if one.crate == by[0]][0]
-                refusals += [one for one in told_faults(specs, names, word, by[2] if len(by) > 2 else None) if one not in refusals]
+                refusals += [
+                    one
+                    for one in told_faults(specs, names, word, by[2] if len(by) > 2 else None)
+                    if one not in refusals
+                ]
         yield row, [one for one in refusals if one != "F1"]
 
 
