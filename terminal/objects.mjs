@@ -1,7 +1,9 @@
 // Replies as objects, for programs that read JSON. Pure.
+import Effects from "../front/protocol/effects.mjs";
 import Replies from "../front/protocol/replies.mjs";
 
-const CHANGES = new Set(["step", "leap", "skip", "in", "end", "ask", "undo", "roll", "redo", "arrange", "keep"]);
+/** Does a line change the record? */
+const isChange = (line) => ["adds", "takes", "orders"].includes(Effects.effectOf(line));
 
 /** The port that a line of the reply to a change tells; `told` gets what it tells else. */
 function portOrElse(line, told) {
@@ -71,8 +73,6 @@ const REPLIES = {
   shelf: (reply) => ({ steps: Replies.readShelf(reply).map(({ number, goal: name, act }) => ({ step: number, goal: name, act })) }),
 };
 
-const firstWord = (line) => line.trim().split(/ +/)[0];
-
 /** How many lines of a listing are not there, for memory was refused for them. */
 function holesIn(reply) {
   const { length } = reply.filter((line) => line === Replies.NO_MEMORY);
@@ -81,9 +81,9 @@ function holesIn(reply) {
 
 /** The object of a line and its reply. `textOf` gives the text of a goal by its name. */
 function objectOf(line, reply, textOf) {
-  const word = firstWord(line), start = { command: line, ok: !Replies.isRefused(reply) };
+  const word = Effects.wordOf(line), start = { command: line, ok: !Replies.isRefused(reply) };
   if (!start.ok) return { ...start, refused: reply[0] };
-  if (CHANGES.has(word)) return { ...start, ...change(reply) };
+  if (isChange(line)) return { ...start, ...change(reply) };
   return { ...start, ...(REPLIES[word]?.(reply, textOf) ?? { lines: reply }), ...holesIn(reply) };
 }
 
@@ -98,7 +98,7 @@ class ObjectText {
   /** What can be told of the first lines of a reply, or of others that come after them. */
   hear(lines) {
     if (this.isOpen) return this.ports(lines);
-    this.isOpen = CHANGES.has(firstWord(this.line)) && !Replies.isRefused(lines);
+    this.isOpen = isChange(this.line) && !Replies.isRefused(lines);
     if (!this.isOpen) {
       this.parts.push(lines);
       return "";

@@ -27,12 +27,9 @@ const Answers = (() => {
     return [make("b", null, title), make("pre", { class: "cause" }, place), ...lines.map((hint) => make("div", { class: "hint" }, hint.trim()))];
   }
 
-  /** The limit that a refusal names, in words; undefined where it names none. */
-  const limitIn = (refusal) => Causes.LIMITS[(/^F6 limit: (\w+)$/.exec(refusal) || [])[1]];
-
   /** Why a program, a query or a line's goals were refused: the cause where one is known. Nothing where there is none to be told. */
   function partsOfRefusal(refusal, given, known = null) {
-    const limit = limitIn(refusal);
+    const limit = Replies.limitIn(refusal);
     if (limit !== undefined) return [limit];
     const cause = known || Causes.causeOf(refusal, given);
     return cause === undefined ? [] : causeParts(cause, given.text);
@@ -45,7 +42,7 @@ const Answers = (() => {
   }
 
   /** Why a program was refused that is so long that no cause is looked for. */
-  const partsOfLong = (refusal) => [limitIn(refusal) || "The program is so long that the page does not look for the cause."];
+  const partsOfLong = (refusal) => [Replies.limitIn(refusal) || "The program is so long that the page does not look for the cause."];
 
   const ASKED = /^ *(?:ask +|in +\S+ +)(.*)$/;
 
@@ -76,8 +73,8 @@ const Answers = (() => {
   }
 
   /** Of another line: the limit that it met. */
-  function partsOfLimit({ reply }) {
-    const words = limitIn(reply[0]);
+  function partsOfLimit({ line, reply }) {
+    const words = Replies.limitIn(reply[0], line);
     return words === undefined ? [] : [`${words}. ${reply[0].endsWith("print") ? "The store shows how each value begins." : ""}`];
   }
 

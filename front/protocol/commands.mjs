@@ -1,46 +1,14 @@
-// The commands of the terminal: how each is written, what it is for, and what a typed line means. Pure.
-
-// `own` are those that the terminal answers itself; all others are lines of the console.
+// What a line typed at a terminal means, and what helps with it. Pure.
+import CommandsTable from "./commands_table.mjs";
+import Refusals from "./refusals.mjs";
 import Nearest from "../text/nearest.mjs";
 
 const { nearest } = Nearest;
 
-const COMMANDS = [
-  { name: "step", form: "step [G [C]]", tells: "reduce goal G, by clause C; alone: the first goal that is ready" },
-  { name: "leap", form: "leap [K]", tells: "run on, for K steps at most" },
-  { name: "skip", form: "skip G", tells: "run what comes of goal G" },
-  { name: "back", form: "back [N]", tells: "take back the last step, or the last N", own: true },
-  { name: "undo", form: "undo [N]", tells: "take back step N alone; alone: the last step" },
-  { name: "roll", form: "roll N", tells: "take back step N with all that depends on it" },
-  { name: "redo", form: "redo N", tells: "put step N there again" },
-  { name: "keep", form: "keep X or G", tells: "take back all but what variable X, or goal G, rests on" },
-  { name: "shelf", form: "shelf", tells: "list what was taken back" },
-  { name: "arrange", form: "arrange N ..", tells: "put the kept steps into another lawful order" },
-  { name: "goals", form: "goals", tells: "list the goals, each with its status" },
-  { name: "show", form: "show [X]", tells: "the value of variable X; alone: of all variables of the query" },
-  { name: "stuck", form: "stuck", tells: "why nothing goes on: who waits for whom", own: true },
-  { name: "holders", form: "holders X", tells: "the goals that have X, and so could bind it", own: true },
-  { name: "clauses", form: "clauses G", tells: "what each clause says to goal G: yes, waits, or no and why" },
-  { name: "records", form: "records [P]", tells: "list the kept steps; those of predicate P, as price/2, alone" },
-  { name: "goal", form: "goal N", tells: "the goal that step N took, and its clause" },
-  { name: "why", form: "why N", tells: "on which steps step N depends" },
-  { name: "who", form: "who X", tells: "which steps bound X" },
-  { name: "since", form: "since N", tells: "list the kept steps from step N on" },
-  { name: "causes", form: "causes", tells: "which step depends on which, all of it" },
-  { name: "explain", form: "explain X or G", tells: "where the value of X comes from, all the way; why goal G waits or has failed" },
-  { name: "list", form: "list [P]", tells: "the program's clauses, with their numbers; those of predicate P alone", own: true },
-  { name: "watch", form: "watch X", tells: "run until X is bound", own: true },
-  { name: "stat", form: "stat", tells: "how many steps of which predicate, and the longest chain of causes", own: true },
-  { name: "ask", form: "ask GOALS", tells: "add goals" },
-  { name: "in", form: "in K TERM", tells: "feed input stream K with a term" },
-  { name: "end", form: "end K", tells: "close input stream K" },
-  { name: "spy", form: "spy P", tells: "stop runs at calls of predicate P, as price/2" },
-  { name: "nospy", form: "nospy P", tells: "do so no longer" },
-  { name: "save", form: "save [1] [FILE]", tells: "the session as a history, into FILE; 1: its kept steps alone" },
-  { name: "restart", form: "restart", tells: "begin anew, with the program as it stands in its file now", own: true },
-  { name: "help", form: "help [COMMAND]", tells: "these lines, or one of them", own: true },
-  { name: "quit", form: "quit", tells: "end", own: true },
-];
+// The console's commands and the terminal's own, each with what a terminal adds.
+const COMMANDS = CommandsTable.map(({ tells, more, ...command }) => ({
+  ...command, tells: more === "" ? tells : `${tells}; ${more}`, isOwn: command.effect === "front",
+}));
 const NAMES = COMMANDS.map(({ name }) => name);
 const byName = new Map(COMMANDS.map((command) => [command.name, command]));
 
@@ -55,7 +23,8 @@ const OTHER_NAMES = new Map(Object.entries({
 }));
 
 const VARIABLE = /^[A-Z_]\w*$/;
-const FREE = new Set(["ask", "in", "save"]); // after these stands a text, which is left as it was typed
+// After these stands a text, which is left as it was typed.
+const FREE = new Set(COMMANDS.filter(({ form, tells }) => /\b(GOALS|TERM|FILE)\b/.test(form + tells)).map(({ name }) => name));
 
 /** The command that a word means; undefined where it means none. A beginning is written in small letters. */
 function commandOf(word) {
@@ -132,44 +101,20 @@ function suggestion(word) {
   return `${word}: no such command${name === undefined ? "" : `; ${name}?`}  (help lists them)`;
 }
 
-// What each refusal means, where nothing nearer can be said.
-const REFUSALS = {
-  F1: "memory was asked for and refused; the session goes on",
-  F2: "the text is wrong at that line and column",
-  F3: "a guard holds tests on variables of the head alone",
-  F4: "a head names each variable once",
-  F5: "no clause has a head of that name with so many arguments",
-  F6: "the text is beyond a limit",
-  F7: "no goal of that name is there, or it is an input stream, which `in K TERM` feeds",
-  F8: "that clause is none of the goal's predicate, or the goal is no call",
-  F9: "the goal waits for a variable that nothing has bound yet",
-  F10: "every clause says no to the goal: it has failed",
-  F11: "two different things were to be made equal",
-  F12: "a variable would come to stand within itself",
-  F13: "the expression has no value",
-  F14: "no open input stream has that number",
-  F15: "something else has bound the stream's tail already",
-  F16: "no kept step has that number",
-  F17: "another kept step depends on that one; roll takes it back with all that does",
-  F18: "that number was not taken back, or is there again",
-  F19: "the step would do something else now than it did",
-  F20: "the proposal does not hold any more",
-  F21: "a step would stand before one on which it depends",
-  F22: "there is no room for a further step",
-  F23: "neither the query nor a kept step has such a variable",
-  F24: "that line of the history is not of its form, or cannot be done now",
-  F25: "the line is no command",
-  F26: "reading or writing failed",
-};
+const LETTERS = "A beginning of a word will do where it is clear; G is a goal, as 1.2, N a step's number, X a variable, " +
+  "F/N a predicate, as price/2.";
+
+/** What follows a command, as commands.table tells. */
+const followsOf = (name) => byName.get(name)?.follows ?? "";
 
 /** The lines of help: of all commands, of one, of a word of the replies, or of a refusal. */
 function helpLines(words) {
   const [word] = words, name = word && commandOf(word), refusal = word?.toUpperCase();
   if (REPLIES.has(word)) return [`${word} ${REPLIES.get(word)}`];
-  if (REFUSALS[refusal]) return [`${refusal}: ${REFUSALS[refusal]}`];
+  if (Object.hasOwn(Refusals, refusal)) return [`${refusal}: ${Refusals[refusal]}`];
   if (name !== undefined) return [helpLine(byName.get(name))];
   if (word !== undefined) return [suggestion(word)];
-  return [...COMMANDS.map(helpLine), "A beginning of a word will do where it is clear; G is a goal, as 1.2, N a step's number, X a variable, P a predicate."];
+  return [...COMMANDS.map(helpLine), LETTERS];
 }
 
-export { COMMANDS, NAMES, REFUSALS, commandOf, meaningOf, helpLines, usageOf, suggestionFor };
+export { COMMANDS, NAMES, commandOf, followsOf, meaningOf, helpLines, usageOf, suggestionFor };

@@ -1,6 +1,6 @@
 // What the Tab key offers: commands at a line's beginning, and after them ready goals, kept steps, variables, predicates. Pure but for
 // what it asks of the session.
-import { NAMES, commandOf } from "./commands.mjs";
+import { NAMES, commandOf, followsOf } from "./commands.mjs";
 
 const MOST = 200; // words that are offered: of more the first and the last, so that what they have in common is right
 
@@ -19,13 +19,18 @@ const variablesAndGoals = async (session) => [...await variables(session), ...aw
 const streams = async (session) => (await session.goals()).filter(({ status }) => status === "stream").map(({ text }) => text.split(" ")[1]);
 const steps = (session) => [...session.kept.steps.keys()].map(String);
 
+// By what commands.table says of what follows a command.
 const OFFERS = {
-  step: (session) => goals(session, ["ready"]), skip: (session) => goals(session, ["ready"]), clauses: (session) => goals(session, ["ready", "waits", "failed"]),
-  undo: steps, roll: steps, why: steps, goal: steps, since: steps, arrange: steps, redo: async (session) => numbersOf(await session.ask("shelf")),
-  explain: variablesAndGoals, keep: variablesAndGoals, show: variables, who: variables, holders: variables, watch: variables,
-  in: streams, end: streams,
-  spy: (session) => session.predicates, nospy: (session) => session.predicates, list: (session) => session.predicates, records: (session) => session.predicates,
-  help: () => NAMES,
+  ready: (session) => goals(session, ["ready"]),
+  goal: (session) => goals(session, ["ready", "waits", "failed"]),
+  kept: steps,
+  "kept ..": steps,
+  shelf: async (session) => numbersOf(await session.ask("shelf")),
+  variable: variables,
+  value: variablesAndGoals,
+  stream: streams,
+  predicate: (session) => session.predicates,
+  command: () => NAMES,
 };
 
 /** In goals: predicates and variables, whatever mark stands before them. */
@@ -38,9 +43,9 @@ async function completeGoals(session, line) {
 async function completionsOf(session, line) {
   const words = line.split(" "), last = words.at(-1);
   if (words.length === 1) return { begun: last, words: NAMES.filter((name) => name.startsWith(last)).map((name) => `${name} `) };
-  if (commandOf(words[0]) === "ask") return completeGoals(session, line);
-  const offer = OFFERS[commandOf(words[0])];
-  const offered = offer === undefined || (words.length > 2 && commandOf(words[0]) !== "arrange") ? [] : await offer(session);
+  const follows = followsOf(commandOf(words[0])), offer = OFFERS[follows];
+  if (follows === "goals") return completeGoals(session, line);
+  const offered = offer === undefined || (words.length > 2 && !follows.endsWith("..")) ? [] : await offer(session);
   return { begun: last, words: some(offered.filter((word) => word.startsWith(last))) };
 }
 

@@ -1,4 +1,5 @@
 // What the lines of the console tell: each of their forms is read here, and nowhere else. Pure.
+import Limits from "./limits.mjs";
 import Printed from "../text/printed.mjs";
 
 const Replies = (() => {
@@ -219,8 +220,16 @@ const Replies = (() => {
     return { before, ...(step ? { step: Number(name) } : { goal: name }), after };
   }
 
+  const NOT_IN_1 = "history 1 cannot hold a step that asked for goals: use save alone";
+
+  /** What the limit means at which a line, or a text at the start, was refused; undefined where it was not at a limit. */
+  function limitIn(refusal, line = "") {
+    const [, word] = /^F6 limit: (\w+)$/.exec(refusal) ?? [];
+    return word === "version" && line.startsWith("save") ? NOT_IN_1 : Limits[word];
+  }
+
   return {
-    isRefusal, isRefused, hasHole, NO_MEMORY, readRecord, readRecords, withTerms, numberIn, beginsWithStep, numberAt, readShelf, wordsOf, readGoals, beforeGoal,
+    isRefusal, isRefused, limitIn, hasHole, NO_MEMORY, readRecord, readRecords, withTerms, numberIn, beginsWithStep, numberAt, readShelf, wordsOf, readGoals, beforeGoal,
     readTaken, readCall, readUndone, readPort, readExplained, readCause, readDependence, readValue, readHolder, readExtent, readTakenGoal, readChoice, readBinder, namedIn,
   };
 })();

@@ -1,13 +1,10 @@
 // Keeps account of the kept steps of a session from the replies to its lines, so that `records` need not be asked for. Pure.
+import Effects from "../protocol/effects.mjs";
 import Replies from "../protocol/replies.mjs";
 
 const Kept = (() => {
-  const READING = new Set(["goals", "show", "records", "shelf", "save", "why", "who", "spy", "nospy", "explain", "goal", "clauses", "since", "causes"]); // all others may change it
-
-  const firstWord = (line) => line.trim().split(/ +/)[0];
-
   /** May a line change which steps are kept? */
-  const mayChange = (line) => !READING.has(firstWord(line));
+  const mayChange = (line) => Effects.effectOf(line) !== "looks";
 
   /** A step without what it read, bound and made. */
   const withoutTerms = ({ number, goal, act, kind, clause }) => ({ number, goal, act, kind, clause });

@@ -6,7 +6,7 @@ import Print from "../text/print.mjs";
 import Reader from "../text/reader.mjs";
 import Stuck from "./stuck.mjs";
 import Nearest from "../text/nearest.mjs";
-import { REFUSALS } from "../protocol/commands.mjs";
+import Refusals from "../protocol/refusals.mjs";
 import { causeInTerm } from "../text/causes_in_terms.mjs";
 import Replies from "../protocol/replies.mjs";
 
@@ -144,15 +144,15 @@ async function afterRefusal(session, meaning, reply) {
     const told = badText(session, meaning, reply);
     if (told !== undefined) return told;
   }
-  const limit = /^F6 limit: (\w+)$/.exec(reply[0]);
-  if (limit !== null) return [Causes.LIMITS[limit[1]], ...(meaning.name === "show" ? await beginningOf(session, meaning.words) : [])];
+  const limit = Replies.limitIn(reply[0], meaning.line);
+  if (limit !== undefined) return [limit, ...(meaning.name === "show" ? await beginningOf(session, meaning.words) : [])];
   const helper = meaning.name === "redo" ? notRedone : HELPERS[number], told = await helper?.(session, meaning.words, reply);
-  return told === undefined || told.length === 0 ? [REFUSALS[number]] : told;
+  return told === undefined || told.length === 0 ? [Refusals[number]] : told;
 }
 
 async function whyFailed(session, name, refusal) {
   if (refusal === "F10") return whyNoClause(session, name);
-  return ["F11", "F13"].includes(refusal) ? whyNoValue(session, name) : [REFUSALS[refusal]];
+  return ["F11", "F13"].includes(refusal) ? whyNoValue(session, name) : [Refusals[refusal]];
 }
 
 const STOPS = {

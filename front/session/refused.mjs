@@ -1,5 +1,6 @@
 // Why ghcdb refused a program, a query or a history before a session began, in words: for the terminal, and for the editors.
 import fs from "node:fs";
+import Replies from "../protocol/replies.mjs";
 import Causes from "../text/causes.mjs";
 import { isFile, lineOf, tried } from "./files.mjs";
 
@@ -33,8 +34,8 @@ function whyRefused(line, { text, given }, name = given.file) {
   if (refusal.startsWith("F26")) return { lines: whyNotRead(file) };
   if (who === "history") return { lines: whyNotLoaded(file, refusal) };
   const isQuery = who === "query", source = isQuery ? given.query : text;
-  const limit = /^F6 limit: (\w+)$/.exec(refusal);
-  if (limit !== null) return { lines: [Causes.LIMITS[limit[1]]] };
+  const limit = Replies.limitIn(refusal);
+  if (limit !== undefined) return { lines: [limit] };
   const cause = Causes.causeOf(refusal, { text: source, which: isQuery ? "query" : name, isQuery, program: text });
   return cause === undefined ? { lines: [] } : { lines: Causes.linesOf(cause, source), cause: { ...cause, isQuery } };
 }

@@ -1,5 +1,6 @@
 // Runs in a worker, or in the page where a browser refuses workers: keeps the engine's session, plays lines, and tells what has changed.
 import Asking from "../protocol/asking.mjs";
+import Effects from "../protocol/effects.mjs";
 import Told from "../protocol/told.mjs";
 import Short from "../protocol/short.mjs";
 import Engine from "./engine.mjs";
@@ -12,14 +13,9 @@ const WorkerSide = (() => {
   const EVERY = 8192, LEAST_PAUSE = 150; // requests for memory, milliseconds: how often it says that a line is still at work
   const NOTHING = new Uint8Array(0), FIRST_OF_REFUSAL = 70; // the letter F
 
-  /** What the console's commands do to the record: add steps at its end, take steps away, or look at it alone. All others are looked at anew. */
-  const ADDS = new Set(["step", "in", "end", "ask", "redo", "leap", "skip"]), TAKES = new Set(["undo", "roll", "keep"]);
-  const LOOKS = new Set(["goals", "records", "shelf", "save", "show", "who", "why", "spy", "nospy", "explain", "goal", "clauses", "since", "causes"]);
-
   const decode = (bytes) => new TextDecoder().decode(bytes);
   const linesOf = (bytes) => decode(bytes).split("\n").slice(0, -1);
   const refusalIn = (reply) => (reply[0] === FIRST_OF_REFUSAL ? decode(reply).trim() : "");
-  const wordOf = (line) => line.trim().split(" ")[0];
 
   /** The numbers of the steps that a reply tells to be taken back. */
   function goneIn(reply) {
@@ -109,10 +105,10 @@ const WorkerSide = (() => {
 
     /** What is to be shown after lines, the last of them with this reply; null where they have changed nothing. */
     lookAfter(lines, reply) {
-      const words = lines.map(wordOf);
-      if (words.every((word) => LOOKS.has(word))) return null;
-      if (words.length === 1 && TAKES.has(words[0])) return this.takenLook(goneIn(reply));
-      return words.every((word) => ADDS.has(word) || LOOKS.has(word)) ? this.addedLook() : this.look();
+      const effects = lines.map(Effects.effectOf);
+      if (effects.every((effect) => effect === "looks")) return null;
+      if (effects.length === 1 && effects[0] === "takes") return this.takenLook(goneIn(reply));
+      return effects.every((effect) => ["adds", "looks"].includes(effect)) ? this.addedLook() : this.look();
     }
 
     /** The reply to a line: a list of lines, or bytes where it is long; how many they are; of `explain` its steps. */
@@ -120,7 +116,7 @@ const WorkerSide = (() => {
       const bytes = this.session.bytes(line), isLong = bytes.length > MOST_LINES_READ;
       const reply = isLong ? bytes : linesOf(bytes);
       if (!isLong && this.told.count + this.unseen.length <= MOST_WITH_TEXTS) Asking.addCalls(this.texts, reply);
-      const slice = wordOf(line) === "explain" ? Asking.sliceIn(linesOf(bytes)) : null;
+      const slice = Effects.wordOf(line) === "explain" ? Asking.sliceIn(linesOf(bytes)) : null;
       return { reply, length: Told.countLines(bytes), slice };
     }
 
@@ -145,7 +141,7 @@ const WorkerSide = (() => {
     /** Asks what no line of the user asks for, and what changes nothing: the text of a step's goal, or on what a value or a goal rests. */
     ask({ line }) {
       const reply = this.session.hasEnded ? [] : this.session.line(line);
-      return wordOf(line) === "explain" ? { slice: Asking.sliceIn(reply) } : { reply: reply.map((told) => Short.term(told)) };
+      return Effects.wordOf(line) === "explain" ? { slice: Asking.sliceIn(reply) } : { reply: reply.map((told) => Short.term(told)) };
     }
   }
 

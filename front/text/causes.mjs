@@ -129,7 +129,7 @@ const Causes = (() => {
     return [...notes, ...resultsInHeads(program, which), ...scattered(clauses, which)].sort((one, other) => one.line - other.line || one.column - other.column);
   }
 
-  return { causeOf, notesOn, linesOf, letterOf, LIMITS: CheckerCauses.LIMITS };
+  return { causeOf, notesOn, linesOf, letterOf };
 })();
 
 export default Causes;

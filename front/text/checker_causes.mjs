@@ -1,5 +1,5 @@
 // Why a text that reads well is refused: a guard that is no test (F3), a variable twice in a head (F4), a predicate without clauses
-// (F5), a limit (F6). Pure.
+// (F5). Pure.
 import Tokens from "./tokens.mjs";
 import Reader from "./reader.mjs";
 import Habits from "./habits.mjs";
@@ -152,14 +152,7 @@ const CheckerCauses = (() => {
       callIn(tokens, name, arity, isQuery), `undefined: no clause has the head ${name} with ${arity} argument${arity === 1 ? "" : "s"}`, ...hints);
   }
 
-  const LIMITS = {
-    text: "the text is longer than 1,048,576 bytes", depth: "more than 64 brackets are open at one place", clauses: "there are more than 10,000 clauses",
-    arity: "a call or structure has more than 255 arguments", goals: "a clause or query has more than 1,000 tests or goals", variables: "a clause or query has more than 1,000 variables",
-    term: "the input term has more than 10,000 parts", print: "the text of a term would be longer than 1,048,576 bytes", line: "the line is longer than 1,048,576 bytes",
-    version: "history 1 cannot hold a step that asked for goals: use save alone",
-  };
-
-  return { notFlat, notLinear, undefinedCall, bindersOf, LIMITS };
+  return { notFlat, notLinear, undefinedCall, bindersOf };
 })();
 
 export default CheckerCauses;

@@ -15,7 +15,7 @@ test("help explains the words of the console's replies", () => {
   for (const [word, meaning] of Object.entries(told)) assert.deepStrictEqual(helpLines([word]), [`${word} ${meaning}`]);
   assert.strictEqual(suggestionFor("REDU 1 0.1 by 1"), "REDU: no such command; it stands in replies: help REDU");
   assert.deepStrictEqual(helpLines(["call"]), helpLines(["ask"]));
-  assert.deepStrictEqual(helpLines(["f10"]), ["F10: every clause says no to the goal: it has failed"]);
+  assert.deepStrictEqual(helpLines(["f10"]), ["F10: no clause can ever be selected for the goal; clauses G tells why; then roll the step that led there"]);
 });
 
 test("a word is taken for another one only where few of its letters differ", () => {

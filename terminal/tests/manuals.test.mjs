@@ -34,15 +34,9 @@ async function isTaken(form) {
   return lines.every((line) => session.line(lineOf(line))[0] !== "F25 command");
 }
 
-/** The commands of commands.table, each with its form. */
-const TABLE = read("commands.table").split("\n").filter((line) => /^[^#]+\|/.test(line)).map((line) => {
-  const [form, effect] = line.replace(/^& /, "").split("|").map((cell) => cell.trim());
-  return { form, isOfConsole: effect !== "front" };
-});
-
 test("the console takes each form of the table, and none that is the terminal's", async () => {
-  for (const { form, isOfConsole } of TABLE) {
-    assert.strictEqual(await isTaken(form), isOfConsole, form);
+  for (const { form, isOwn } of COMMANDS) {
+    assert.strictEqual(await isTaken(form), !isOwn, form);
   }
 });
 
@@ -62,11 +56,6 @@ test("no manual doubts that the console knows its commands", () => {
       assert.doesNotMatch(sentence, DOUBTS, file);
     }
   }
-});
-
-test("the terminal's table of commands has those of the console, and tells its own apart", () => {
-  const known = COMMANDS.filter(({ name, own }) => !own || name === "quit").map(({ name }) => name);
-  assert.deepStrictEqual(known.sort(), CONSOLE);
 });
 
 test("the man page tells the launcher's words, its variables and each status", () => {

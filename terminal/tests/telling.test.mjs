@@ -47,7 +47,7 @@ test("the console answers, and the terminal adds what helps", async () => {
   assert.deepStrictEqual((await type("explain P")).slice(0, 2), ["% sent: explain _1_1", "_1_1 = 120"]);
   assert.deepStrictEqual(await type("goal 2."), ["% sent: goal 2", "2 1.1 by 2 price(12,_1_1)", "% by clause 2: price(N,P) :- N > 0 | P := N * 10.", "% with N = 12, P = 120"]);
   assert.deepStrictEqual(await type("goal 99"), ["F16 not a kept step", "% records lists the kept steps"]);
-  assert.deepStrictEqual(await type("goal x"), ["F25 command", "% usage: goal N           the goal that step N took, and its clause"]);
+  assert.deepStrictEqual(await type("goal x"), ["F25 command", "% usage: goal N          tell which goal step N took, as written then; with its clause"]);
   assert.deepStrictEqual(await type("clauses 0.1"), ["F7 no goal", "% 0.1 was taken by step 1; goals lists those that are there"]);
   assert.deepStrictEqual(await type("causes"), CAUSES);
   assert.deepStrictEqual(await type("keep P"), ["% sent: keep _1_1", "undone 4,5,6", "kept 3", "% 3 steps left; shelf lists what was taken back, redo N puts a step there again"]);

@@ -86,7 +86,7 @@ inBrowsers("a line is told not to be taken where nothing runs; a limit is told i
   assert.ok(!(await page.value("Files.sessionText()")).includes("> goals"), "and is not saved");
   await startOwn(page, "n(0,L) :- true | L = [].\nn(N,L) :- N > 0 | L = [123456789|M], N1 := N - 1, n(N1,M).\n", "n(120000,L)");
   await page.value('Talk.send("leap", "show L")');
-  assert.equal(await page.value(text("answer")), "show L was refused: F6 limit: printthe text of a term would be longer than 1,048,576 bytes. The store shows how each value begins.×");
+  assert.equal(await page.value(text("answer")), "show L was refused: F6 limit: printthe bytes of a printed term or goal: 1,048,576 at most. The store shows how each value begins.×");
 });
 
 inBrowsers("a file in Latin-1, with other line ends, with its query in a comment, or that is no text", async (page) => {

@@ -51,7 +51,7 @@ inBrowsers("a refused program, query and line are told with their cause, and the
   await start("p(1).\n", "q(1)");
   assert.match(await answer(), /^undefined: no clause has the head q with 1 argument[^]*= defined are: p\/1×$/);
   await start(`p(${"f(".repeat(70)}1${")".repeat(70)}).\n`, "true");
-  assert.equal(await answer(), "more than 64 brackets are open at one place×");
+  assert.equal(await answer(), "the brackets that are open at one place: 64 at most; the most operators that may stand inside one another in what is asked for: 1,000×");
   await start("p(1).\n", "p(1)");
   assert.ok(await page.value('document.getElementById("answer").hidden'), "nothing is told of a program that is right");
   await page.value('Talk.send("ask Y is 1")');
