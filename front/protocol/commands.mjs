@@ -24,7 +24,7 @@ const OTHER_NAMES = new Map(Object.entries({
 
 const VARIABLE = /^[A-Z_]\w*$/;
 // After these stands a text, which is left as it was typed.
-const FREE = new Set(COMMANDS.filter(({ form, tells }) => /\b(GOALS|TERM|FILE)\b/.test(form + tells)).map(({ name }) => name));
+const FREE = new Set(COMMANDS.filter(({ form, tells }) => /\b(GOALS|TERM|FILE)\b/.test(`${form} ${tells}`)).map(({ name }) => name));
 
 /** The command that a word means; undefined where it means none. A beginning is written in small letters. */
 function commandOf(word) {

@@ -109,7 +109,7 @@ AGAIN = [
     ),
     ("step 1.1 3", "=REDU 7 1.1 by 3"),
     ("redo 2", "=F7 no goal", "=% step 2 takes 1.1, which step 7 has taken: take that back first"),
-    ("redo 4", "=F18 not on the shelf", "=% that number was not taken back, or is there again"),
+    ("redo 4", "=F18 not on the shelf", "=% the step is not on the shelf; shelf lists what was taken back"),
     ("clauses price", "% usage: clauses G"),
     ("explain 3", "% usage: explain X or G"),
     ("watch 1.3", "% usage: watch X"),
