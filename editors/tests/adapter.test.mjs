@@ -6,8 +6,8 @@ import path from "node:path";
 import test from "node:test";
 import { fileURLToPath } from "node:url";
 import { Adapter } from "../dap/adapter.mjs";
-import { Client } from "./client.mjs";
-import * as protocol from "./protocol.mjs";
+import { Client } from "./lib/client.mjs";
+import * as protocol from "./lib/protocol.mjs";
 
 const HERE = path.dirname(fileURLToPath(import.meta.url));
 

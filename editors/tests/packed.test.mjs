@@ -7,7 +7,7 @@ import path from "node:path";
 import test from "node:test";
 import { execFileSync, spawnSync } from "node:child_process";
 import { fileURLToPath } from "node:url";
-import { Client } from "./client.mjs";
+import { Client } from "./lib/client.mjs";
 import { packedFiles, vsixFiles } from "../vscode/packing.mjs";
 import { zip } from "../vscode/zip.mjs";
 

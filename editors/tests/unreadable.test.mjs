@@ -7,7 +7,7 @@ import path from "node:path";
 import test from "node:test";
 import { execFileSync } from "node:child_process";
 import { fileURLToPath } from "node:url";
-import { Client } from "./client.mjs";
+import { Client } from "./lib/client.mjs";
 import { Adapter } from "../dap/adapter.mjs";
 import { encode } from "../dap/wire.mjs";
 

@@ -6,7 +6,7 @@ import test from "node:test";
 import { fileURLToPath } from "node:url";
 import Causes from "../text/causes.mjs";
 import { engineOfPage } from "../session/engine_of_page.mjs";
-import MISTAKES from "./mistakes.mjs";
+import MISTAKES from "./lib/mistakes.mjs";
 
 const HERE = path.dirname(fileURLToPath(import.meta.url));
 

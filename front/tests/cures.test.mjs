@@ -4,7 +4,7 @@ import test from "node:test";
 import Causes from "../text/causes.mjs";
 import Nearest from "../text/nearest.mjs";
 import { engineOfPage } from "../session/engine_of_page.mjs";
-import MISTAKES from "./mistakes.mjs";
+import MISTAKES from "./lib/mistakes.mjs";
 
 const { nearest } = Nearest;
 

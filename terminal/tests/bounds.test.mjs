@@ -8,13 +8,13 @@ import { spawn, spawnSync } from "node:child_process";
 import { objectOf, ObjectText } from "../objects.mjs";
 import { ScriptSession } from "../../front/session/script_session.mjs";
 import { play } from "../scripted.mjs";
-import { played } from "./playing.mjs";
+import { played } from "./lib/playing.mjs";
 
 const HERE = path.dirname(fileURLToPath(import.meta.url));
 
 const ROOT = path.join(HERE, "..", "..");
 const APPEND = [path.join(ROOT, "examples", "append.ghc"), "--query", "append([1],[2],R)"];
-const CONSOLE = path.join(HERE, "console_of_replies");
+const CONSOLE = path.join(HERE, "lib", "console_of_replies");
 const MOST_BYTES = 1_048_576; // of a line
 const MOST_MEMORY = 150; // MB
 const hasProc = fs.existsSync("/proc/self/status");

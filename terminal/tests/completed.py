@@ -10,7 +10,7 @@ The last line is `N passed, M failed`; the exit status is 1 where a test failed.
 import sys
 from pathlib import Path
 
-sys.path.insert(0, str(Path(__file__).resolve().parent))
+sys.path.insert(0, str(Path(__file__).resolve().parent / "lib"))
 import trying  # noqa: E402
 from pseudo_terminal import Terminal  # noqa: E402
 from trying import wants  # noqa: E402

@@ -109,7 +109,7 @@ test("a program is read no further than to its limit", AT_MOST, async () => {
 });
 
 test("a program from a pipe is read once", AT_MOST, async () => {
-  for (const native of [undefined, path.join(HERE, "faulty_ghcdb")]) {
+  for (const native of [undefined, path.join(HERE, "lib", "faulty_ghcdb")]) {
     const file = pipe(`program.${native === undefined}`);
     const session = new Session([file, "--query", "bill(12,3,T)"], native);
     process.env.FAULTS = place("none");

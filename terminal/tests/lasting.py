@@ -16,13 +16,13 @@ import threading
 from collections.abc import Callable
 from pathlib import Path
 
-sys.path[:0] = [str(Path(__file__).resolve().parent)]
+sys.path[:0] = [str(Path(__file__).resolve().parent / "lib")]
 import trying  # noqa: E402
 from trying import PATIENCE, ROOT, has_ended, is_met, start, wait_until, wants  # noqa: E402
 
 BILL = str(ROOT / "examples/bill.ghc")
 QUERY = "bill(12,3,T)"
-FAULTY = str(ROOT / "terminal/tests/faulty_ghcdb")
+FAULTY = str(ROOT / "terminal/tests/lib/faulty_ghcdb")
 LINE_ENDED = "% the line was ended; the session stands as before it"
 RUN_ENDED = "% the run was ended; the session stands as before it"
 UNSAVED = ".ghcdb_unsaved."

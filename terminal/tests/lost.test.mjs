@@ -16,7 +16,7 @@ const { Front } = await import("../front.mjs");
 const { play } = await import("../scripted.mjs");
 
 const BILL = path.join(HERE, "..", "..", "examples", "bill.ghc"), QUERY = "bill(12,3,T)";
-const FAULTY = path.join(HERE, "faulty_ghcdb");
+const FAULTY = path.join(HERE, "lib", "faulty_ghcdb");
 const NONE = {};
 const AT_MOST = { timeout: 300_000 };
 

@@ -20,7 +20,7 @@ import sys
 import time
 from pathlib import Path
 
-sys.path[:0] = [str(Path(__file__).resolve().parent)]
+sys.path[:0] = [str(Path(__file__).resolve().parent / "lib")]
 import trying  # noqa: E402
 from trying import PATIENCE, PROGRAM, ROOT, has_ended, start, wait_until, wants  # noqa: E402
 

@@ -20,7 +20,7 @@ import tempfile
 import time
 from pathlib import Path
 
-sys.path[:0] = [str(Path(__file__).resolve().parent), str(Path(__file__).resolve().parents[2] / "tests")]
+sys.path[:0] = [str(Path(__file__).resolve().parent / "lib"), str(Path(__file__).resolve().parents[2] / "tests")]
 import run_rows  # noqa: E402
 import trying  # noqa: E402
 from pseudo_terminal import Terminal  # noqa: E402

@@ -7,7 +7,7 @@ import test from "node:test";
 import { execFileSync, spawnSync } from "node:child_process";
 import { fileURLToPath } from "node:url";
 import { readWords, isSession, wordsFrom } from "../../front/protocol/words.mjs";
-import { played } from "./playing.mjs";
+import { played } from "./lib/playing.mjs";
 
 const HERE = path.dirname(fileURLToPath(import.meta.url));
 

@@ -3,7 +3,7 @@ import assert from "node:assert";
 import path from "node:path";
 import test from "node:test";
 import { fileURLToPath } from "node:url";
-import { Client } from "../../editors/tests/client.mjs";
+import { Client } from "../../editors/tests/lib/client.mjs";
 import { completionsOf } from "../../front/protocol/complete.mjs";
 import { Front } from "../front.mjs";
 import { objectOf } from "../objects.mjs";

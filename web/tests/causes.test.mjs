@@ -4,7 +4,7 @@ import assert from "node:assert/strict";
 import fs from "node:fs";
 import test from "node:test";
 import Module from "../../front/text/causes.mjs";
-import MISTAKES from "../../front/tests/mistakes.mjs";
+import MISTAKES from "../../front/tests/lib/mistakes.mjs";
 import { scriptOf, PAGE } from "../../front/session/engine_of_page.mjs";
 
 const TEXTS = ["tokens", "habits", "cures", "nearest", "reader", "syntax_causes", "checker_causes", "causes"];

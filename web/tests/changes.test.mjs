@@ -3,7 +3,7 @@
 import assert from "node:assert/strict";
 import test from "node:test";
 import { engineOfPage } from "../../front/session/engine_of_page.mjs";
-import { QUERIES, programOf, chance, plainGraph, plainLanes, lineByChance, follow } from "./chance.mjs";
+import { QUERIES, programOf, chance, plainGraph, plainLanes, lineByChance, follow } from "./lib/chance.mjs";
 import Graph from "../../front/run/graph.mjs";
 import Stuck from "../../front/run/stuck.mjs";
 import Lanes from "../../front/run/lanes.mjs";

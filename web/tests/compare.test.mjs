@@ -4,7 +4,7 @@ import test from "node:test";
 import Compare from "../../front/run/compare.mjs";
 import Graph from "../../front/run/graph.mjs";
 import { engineOfPage } from "../../front/session/engine_of_page.mjs";
-import { eachPlay, plays } from "./runs.mjs";
+import { eachPlay, plays } from "./lib/runs.mjs";
 import Replies from "../../front/protocol/replies.mjs";
 
 const graphOf = (session) => Graph.graphOf(Replies.readRecords(session.line("records")));

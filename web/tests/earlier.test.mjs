@@ -9,8 +9,8 @@ import Stuck from "../../front/run/stuck.mjs";
 import WorkerSide from "../../front/session/worker_side.mjs";
 import Replies from "../../front/protocol/replies.mjs";
 import { engineOfPage } from "../../front/session/engine_of_page.mjs";
-import { chance, follow } from "./chance.mjs";
-import { plays, rows } from "./runs.mjs";
+import { chance, follow } from "./lib/chance.mjs";
+import { plays, rows } from "./lib/runs.mjs";
 
 const MOST_STEPS = 30, LEAST_TIMES = 300, LEAST_CLAUSES = 100;
 const MOST_IN_ONE_PART = 5000; // steps that are worked on between two places where the page may pause

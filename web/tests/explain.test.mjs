@@ -5,7 +5,7 @@ import Asking from "../../front/protocol/asking.mjs";
 import Explain from "../../front/run/explain.mjs";
 import Search from "../../front/run/search.mjs";
 import { engineOfPage } from "../../front/session/engine_of_page.mjs";
-import { eachPlay, plays, runOf } from "./runs.mjs";
+import { eachPlay, plays, runOf } from "./lib/runs.mjs";
 
 const MOST_PARTS = 40; // of a value, for which the console is asked
 

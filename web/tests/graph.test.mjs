@@ -6,7 +6,7 @@ import Explain from "../../front/run/explain.mjs";
 import Graph from "../../front/run/graph.mjs";
 import Stuck from "../../front/run/stuck.mjs";
 import { engineOfPage } from "../../front/session/engine_of_page.mjs";
-import { askedRun, eachPlay } from "./runs.mjs";
+import { askedRun, eachPlay } from "./lib/runs.mjs";
 import Printed from "../../front/text/printed.mjs";
 import Replies from "../../front/protocol/replies.mjs";
 

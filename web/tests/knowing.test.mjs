@@ -8,8 +8,8 @@ import RunModel from "../../front/run/run_model.mjs";
 import Told from "../../front/protocol/told.mjs";
 import WorkerSide from "../../front/session/worker_side.mjs";
 import { engineOfPage } from "../../front/session/engine_of_page.mjs";
-import { QUERIES, programOf, chance, plainGraph, lineByChance, follow } from "./chance.mjs";
-import { eachPlay } from "./runs.mjs";
+import { QUERIES, programOf, chance, plainGraph, lineByChance, follow } from "./lib/chance.mjs";
+import { eachPlay } from "./lib/runs.mjs";
 import Replies from "../../front/protocol/replies.mjs";
 
 const LINES = 25, SEEDS = 2;

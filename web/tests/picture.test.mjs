@@ -10,7 +10,7 @@ import Lanes from "../../front/run/lanes.mjs";
 import Picture from "../picture.mjs";
 import Terms from "../../front/run/terms.mjs";
 import { engineOfPage } from "../../front/session/engine_of_page.mjs";
-import { askedRun, eachPlay, runOf, plays } from "./runs.mjs";
+import { askedRun, eachPlay, runOf, plays } from "./lib/runs.mjs";
 
 const HERE = path.dirname(fileURLToPath(import.meta.url));
 

@@ -7,7 +7,7 @@ import { fileURLToPath } from "node:url";
 import ExampleNotes from "../example_notes.mjs";
 import SessionText from "../../front/protocol/session_text.mjs";
 import Tour from "../tour.mjs";
-import { tutorialSessions } from "./tutorial.mjs";
+import { tutorialSessions } from "./lib/tutorial.mjs";
 
 const HERE = path.dirname(fileURLToPath(import.meta.url));
 

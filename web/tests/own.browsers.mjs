@@ -1,9 +1,9 @@
 // Tests of web/ghcdb.html with programs that users bring, in a headless Chromium and a headless Firefox, from a file: what they type is
 // started, kept and told.
 import assert from "node:assert/strict";
-import { inBrowsers, open } from "./in_browsers.mjs";
-import { chooseExample, field, lines, startOwn, text, until, write, PHONE, WIDE } from "./using.mjs";
-import { measured, quickEnough, WATCH } from "./watching.mjs";
+import { inBrowsers, open } from "./lib/in_browsers.mjs";
+import { chooseExample, field, lines, startOwn, text, until, write, PHONE, WIDE } from "./lib/using.mjs";
+import { measured, quickEnough, WATCH } from "./lib/watching.mjs";
 
 const STACK = "stack([],_) :- true | true.\nstack([push(X)|S],T) :- true | stack(S,[X|T]).\nstack([pop(X)|S],[Y|T]) :- true | X = Y, stack(S,T).\n";
 

@@ -3,17 +3,17 @@ import assert from "node:assert/strict";
 import fs from "node:fs";
 import path from "node:path";
 import { fileURLToPath } from "node:url";
-import Asking from "../../front/protocol/asking.mjs";
-import ExampleNotes from "../example_notes.mjs";
-import Graph from "../../front/run/graph.mjs";
-import SessionText from "../../front/protocol/session_text.mjs";
-import { engineOfPage } from "../../front/session/engine_of_page.mjs";
-import Replies from "../../front/protocol/replies.mjs";
+import Asking from "../../../front/protocol/asking.mjs";
+import ExampleNotes from "../../example_notes.mjs";
+import Graph from "../../../front/run/graph.mjs";
+import SessionText from "../../../front/protocol/session_text.mjs";
+import { engineOfPage } from "../../../front/session/engine_of_page.mjs";
+import Replies from "../../../front/protocol/replies.mjs";
 
 const HERE = path.dirname(fileURLToPath(import.meta.url));
 
-const EXAMPLES = path.join(HERE, "..", "..", "examples");
-const ROWS = path.join(HERE, "..", "..", "tests", "rows");
+const EXAMPLES = path.join(HERE, "..", "..", "..", "examples");
+const ROWS = path.join(HERE, "..", "..", "..", "tests", "rows");
 const MOST_STEPS = 3000; // as many as the page draws
 
 const INPUTS = {

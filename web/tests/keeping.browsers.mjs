@@ -1,8 +1,8 @@
 // Tests of web/ghcdb.html, in a headless Chromium and a headless Firefox: what is kept is not written over, by Start,
 // Open, examples or another tab; and what is opened: a link that comes later, a dropped file, an example by its keys.
 import assert from "node:assert/strict";
-import { inBrowsers, open } from "./in_browsers.mjs";
-import { begin, chooseExample, field, lines, startOwn, text, until, WIDE, write } from "./using.mjs";
+import { inBrowsers, open } from "./lib/in_browsers.mjs";
+import { begin, chooseExample, field, lines, startOwn, text, until, WIDE, write } from "./lib/using.mjs";
 
 const OWN = "stack([],_) :- true | true.\nstack([push(X)|S],T) :- true | stack(S,[X|T]).\n";
 const QUERY = "stack([push(1),push(2),push(3)],[])", LINES = ["step 0.1", "step 1.1", "step 2.1"];

@@ -1,9 +1,9 @@
 // Tests of web/ghcdb.html, in a headless Chromium and a headless Firefox: the page goes on after a fault of its own,
 // and nothing that a program, a link or a list of lines holds makes it stand still. With GHCDB_LONG=1 all is larger.
 import assert from "node:assert/strict";
-import { inBrowsers, open } from "./in_browsers.mjs";
-import { begin, lines, text, until, WIDE } from "./using.mjs";
-import { measured, quickEnough, WATCH } from "./watching.mjs";
+import { inBrowsers, open } from "./lib/in_browsers.mjs";
+import { begin, lines, text, until, WIDE } from "./lib/using.mjs";
+import { measured, quickEnough, WATCH } from "./lib/watching.mjs";
 
 const LONGEST_FREEZE = 100; // milliseconds on a machine that does nothing else
 const [REDONE, ROLLED] = process.env.GHCDB_LONG === "1" ? [500000, 1000000] : [20000, 100000];

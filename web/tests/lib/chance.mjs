@@ -3,11 +3,11 @@ import assert from "node:assert/strict";
 import fs from "node:fs";
 import path from "node:path";
 import { fileURLToPath } from "node:url";
-import Graph from "../../front/run/graph.mjs";
+import Graph from "../../../front/run/graph.mjs";
 
 const HERE = path.dirname(fileURLToPath(import.meta.url));
 
-const EXAMPLES = path.join(HERE, "..", "..", "examples");
+const EXAMPLES = path.join(HERE, "..", "..", "..", "examples");
 const QUERIES = {
   append: "append([1,2,3,4],[5,6],R)", bill: "bill(12,30,T)", buffer: "produce(1,6,[A,B|E]), consume([A,B|E],E,Out)",
   deadlock: "after(A,B), after(B,C), after(C,A), A = done", merge: "instream(X), instream(Y), merge(X,Y,Z)", primes: "primes(12,Ps)",

@@ -5,7 +5,7 @@ import { fileURLToPath } from "node:url";
 
 const HERE = path.dirname(fileURLToPath(import.meta.url));
 
-const TUTORIAL = path.join(HERE, "..", "..", "docs", "TUTORIAL.md");
+const TUTORIAL = path.join(HERE, "..", "..", "..", "docs", "TUTORIAL.md");
 
 /** The lines of a block, each with its reply. */
 function entriesOf(block) {

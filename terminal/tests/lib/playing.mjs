@@ -1,6 +1,6 @@
 // For tests of scripts: a session is played in this process.
 import { Readable } from "node:stream";
-import { play } from "../scripted.mjs";
+import { play } from "../../scripted.mjs";
 
 /** What is told of a text of lines: its output, its errors, and the status. */
 async function played(words, input) {

@@ -11,7 +11,7 @@ from pathlib import Path
 
 from pseudo_terminal import Terminal
 
-ROOT = Path(__file__).resolve().parents[2]
+ROOT = Path(__file__).resolve().parents[3]
 FRONT = str(ROOT / "terminal" / "ghcdb")
 PROGRAM = os.environ.get("GHCDB", "")
 PROGRAM = os.path.abspath(PROGRAM) if os.sep in PROGRAM else PROGRAM

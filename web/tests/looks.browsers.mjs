@@ -1,8 +1,8 @@
 // Tests of how web/ghcdb.html looks, in a headless Chromium and a headless Firefox: no text of the picture beyond its edge or over another
 // one, no part of the page beyond the window, and enough contrast, on wide and narrow windows, light and dark.
 import assert from "node:assert/strict";
-import { inBrowsers, open } from "./in_browsers.mjs";
-import { until } from "./using.mjs";
+import { inBrowsers, open } from "./lib/in_browsers.mjs";
+import { until } from "./lib/using.mjs";
 
 const SIZES = { wide: [1440, 900], phone: [390, 800] };
 const RUNS = [

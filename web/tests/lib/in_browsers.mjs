@@ -10,7 +10,7 @@ import { FirefoxPage, firefoxName } from "./firefox.mjs";
 
 const LONGEST_TEST = 600000; // milliseconds
 
-export const FILE = path.join(path.dirname(fileURLToPath(import.meta.url)), "..", "ghcdb.html");
+export const FILE = path.join(path.dirname(fileURLToPath(import.meta.url)), "..", "..", "ghcdb.html");
 export const PAGE = pathToFileURL(FILE).href;
 export const STARTED = 'document.body.classList.contains("started") && !Talk.busy';
 

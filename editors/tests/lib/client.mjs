@@ -3,11 +3,11 @@ import assert from "node:assert";
 import path from "node:path";
 import { fileURLToPath } from "node:url";
 import { spawn } from "node:child_process";
-import { Decoder, encode } from "../dap/wire.mjs";
+import { Decoder, encode } from "../../dap/wire.mjs";
 
 const HERE = path.dirname(fileURLToPath(import.meta.url));
 
-const ADAPTER = path.join(HERE, "..", "ghcdb-adapter");
+const ADAPTER = path.join(HERE, "..", "..", "ghcdb-adapter");
 
 // What a message's body must have: fields with their types; `[..]` is a list of such; a `?` marks what may be left out.
 const SOURCE = { "name?": "string", "path?": "string", "sourceReference?": "number" };

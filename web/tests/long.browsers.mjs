@@ -2,8 +2,8 @@
 // a step is lit with its causes, a line that is at work is stopped. With GHCDB_LONG=1 a run of 1,000,000 steps is tried, too.
 import fs from "node:fs";
 import assert from "node:assert/strict";
-import { inBrowsers, open } from "./in_browsers.mjs";
-import { WATCH, measured, quickEnough } from "./watching.mjs";
+import { inBrowsers, open } from "./lib/in_browsers.mjs";
+import { WATCH, measured, quickEnough } from "./lib/watching.mjs";
 
 const LONGEST_FREEZE = 100, LONGEST_STEP = 100, LONGEST_LIGHT = 500; // milliseconds on a machine that does nothing else
 const MOST_MEMORY = 1000; // MB of the browser with all its processes

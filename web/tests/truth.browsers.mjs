@@ -1,8 +1,8 @@
 // Tests of web/ghcdb.html, in a headless Chromium and a headless Firefox: one time is on the screen, useless clauses are
 // not offered, and what is said of refusals, waits and failures is what the console says.
 import assert from "node:assert/strict";
-import { inBrowsers, open } from "./in_browsers.mjs";
-import { begin, lines, numbers, text, until, WIDE } from "./using.mjs";
+import { inBrowsers, open } from "./lib/in_browsers.mjs";
+import { begin, lines, numbers, text, until, WIDE } from "./lib/using.mjs";
 
 /** What the panels, the lanes' names and the count say, without the buttons that do something. */
 const SCREEN = `(() => {

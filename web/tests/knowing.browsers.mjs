@@ -1,7 +1,7 @@
 // Tests of web/ghcdb.html, in a headless Chromium and a headless Firefox: what a value rests on is lit, other choices are ringed and can be taken,
 // a value or a goal is kept alone by one line; and the page asks the console for no more than it needs.
 import assert from "node:assert/strict";
-import { inBrowsers, open, pageWith } from "./in_browsers.mjs";
+import { inBrowsers, open, pageWith } from "./lib/in_browsers.mjs";
 
 const text = (id) => `document.getElementById(${JSON.stringify(id)}).textContent`;
 const numbers = (selector, name = "step") => `[...document.querySelectorAll(${JSON.stringify(selector)})].map((one) => Number(one.dataset.${name}))`;

@@ -1,7 +1,7 @@
 // Tests of web/ghcdb.html for real work, in a headless Chromium and a headless Firefox, from a file: what is told and where, values explained,
 // lines that are kept, two runs side by side, the program's pane, what is saved, and what one looks for.
 import assert from "node:assert/strict";
-import { inBrowsers, open, pageWith } from "./in_browsers.mjs";
+import { inBrowsers, open, pageWith } from "./lib/in_browsers.mjs";
 
 const PHONE = [390, 800], WIDE = [1440, 900];
 const text = (id) => `document.getElementById(${JSON.stringify(id)}).textContent`;
