@@ -1,9 +1,13 @@
 // Shows what was answered where one looks, above the picture: refusals and why, causes, who bound a variable; and lights the steps that it names.
-import Terms from "../front/run/terms.mjs";
 import Replies from "../front/protocol/replies.mjs";
+import Terms from "../front/run/terms.mjs";
 import Causes from "../front/text/causes.mjs";
-import Talk from "./talk.mjs";
 import Canvas from "./canvas.mjs";
+import Deeds from "./deeds.mjs";
+import Elements from "./elements.mjs";
+import Holes from "./holes.mjs";
+import Shown from "./shown.mjs";
+import Talk from "./talk.mjs";
 
 const Answers = (() => {
   const { find, make, linkedLine } = Elements;
@@ -12,7 +16,7 @@ const Answers = (() => {
 
   const wordsOf = (line) => line.trim().replace(/ +/g, " ");
   const isRefused = (entry) => entry.length === 1 && Replies.isRefusal(entry.reply[0]);
-  const isBroken = (entry) => entry.length > 1 && Files.isBroken(entry);
+  const isBroken = (entry) => entry.length > 1 && Holes.isBroken(entry);
 
   function put(isBad, ...parts) {
     const area = find("answer"), close = make("button", { class: "small", id: "close-answer", title: "Closes this line", "aria-label": "Close the answer" }, "×");
@@ -63,7 +67,7 @@ const Answers = (() => {
     const steps = word === "why" ? [Number(name)] : stepsBy(entry.reply);
     if (steps.length === 0 || !Talk.run.graph.byNumber.has(steps[0])) return;
     Canvas.choose({ step: steps[0] });
-    Canvas.scrollTo(Canvas.chosen);
+    Canvas.scrollTo(Shown.chosen);
     Canvas.markWay(steps.slice(1));
   }
 
@@ -85,7 +89,7 @@ const Answers = (() => {
 
   /** A history that is not whole. */
   const tellBroken = ({ line }) => put(true, make("code", null, wordsOf(line)),
-    ` told no whole history: ${Files.HOLE}. ${Files.AGAIN}.`);
+    ` told no whole history: ${Holes.HOLE}. ${Holes.AGAIN}.`);
 
   /** After lines: what was not taken, else the last refusal among them, else the answer to a question. */
   function show(what) {
@@ -97,7 +101,7 @@ const Answers = (() => {
     if (last && last.note) tellNote(last);
     else if (refused) put(true, make("code", null, wordsOf(refused.line)), " was refused: ", ...linkedLine(refused.reply[0]), make("div", null, ...(asked.length > 0 ? asked : partsOfLimit(refused))));
     else if (last && isBroken(last)) tellBroken(last);
-    else if (last && last.slice) Resting.tell(wordsOf(last.line).split(" ")[1], last.slice);
+    else if (last && last.slice) Deeds.tellSlice(wordsOf(last.line).split(" ")[1], last.slice);
     else if (last && /^(why|who) /.test(wordsOf(last.line)) && last.reply[0] !== "none") {
       tellReply(last);
       light(last);

@@ -1,10 +1,13 @@
 // Two runs side by side: one that was kept, above the one that goes on, both by causal depth; the steps that the other has not are ringed.
+import Replies from "../front/protocol/replies.mjs";
+import Compare from "../front/run/compare.mjs";
 import Graph from "../front/run/graph.mjs";
 import Terms from "../front/run/terms.mjs";
-import Compare from "../front/run/compare.mjs";
+import Deeds from "./deeds.mjs";
+import Elements from "./elements.mjs";
 import Picture from "./picture.mjs";
+import Shown from "./shown.mjs";
 import Talk from "./talk.mjs";
-import Replies from "../front/protocol/replies.mjs";
 
 const Beside = (() => {
   const { find, make, goTo } = Elements;
@@ -21,19 +24,19 @@ const Beside = (() => {
   /** Keeps the run beside; says whether it did. */
   function keep() {
     if (Talk.run.graph.count > MOST_STEPS) {
-      Answers.put(true, `This run has more than ${MOST_STEPS} steps: too many to be seen beside another one. Save keeps it as a file.`);
+      Deeds.tell(true, `This run has more than ${MOST_STEPS} steps: too many to be seen beside another one. Save keeps it as a file.`);
       return false;
     }
     beside.kept = frozen();
-    Page.setOrder("depth");
-    Panels.showNote();
+    Deeds.setOrder("depth");
+    Deeds.showNote();
     return true;
   }
 
   function drop() {
     beside.kept = null;
-    Canvas.draw();
-    Panels.showNote();
+    Deeds.draw();
+    Deeds.showNote();
   }
 
   /** Keeps this run, and takes another clause in the place of one of its steps. */
@@ -45,7 +48,7 @@ const Beside = (() => {
   /** The run that was kept goes on, and this one is kept. */
   function swap() {
     const { kept } = beside, now = frozen();
-    Page.begin(kept.given);
+    Deeds.begin(kept.given);
     if (kept.lines.length > 0) Talk.sendAll(kept.lines);
     beside.kept = now;
   }
@@ -99,9 +102,9 @@ const Beside = (() => {
   function onClick(number) {
     const pairs = isComparable() ? told().pairs : new Map();
     if (pairs.has(number)) {
-      Canvas.choose({ step: pairs.get(number) });
-      Canvas.scrollTo(Canvas.chosen);
-    } else Answers.put(false, `Only in the run that was kept: ${Terms.cut(Picture.tellStep(beside.kept, beside.kept.graph.byNumber.get(number)).split("\n").join(", "), 300)}`);
+      Deeds.choose({ step: pairs.get(number) });
+      Deeds.scrollTo(Shown.chosen);
+    } else Deeds.tell(false, `Only in the run that was kept: ${Terms.cut(Picture.tellStep(beside.kept, beside.kept.graph.byNumber.get(number)).split("\n").join(", "), 300)}`);
   }
 
   return Object.assign(beside, {

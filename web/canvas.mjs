@@ -1,13 +1,16 @@
 // Shows the picture of the run: what is chosen with its causes and effects, keys, and names that stay in sight.
 import Graph from "../front/run/graph.mjs";
-import Picture from "./picture.mjs";
-import Talk from "./talk.mjs";
-import Overview from "./overview.mjs";
 import Beside from "./beside.mjs";
+import Deeds from "./deeds.mjs";
+import Elements from "./elements.mjs";
+import Overview from "./overview.mjs";
+import Picture from "./picture.mjs";
+import Shown from "./shown.mjs";
+import Talk from "./talk.mjs";
 
 const Canvas = (() => {
   const { find } = Elements;
-  const canvas = { by: "record", theme: "light", zoom: 1, isFit: false, chosen: null, way: new Set(), others: new Set(), slice: null, view: null };
+  const canvas = { way: new Set(), others: new Set(), view: null, get chosen() { return Shown.chosen; } };
   const LEGEND = 70; // points below the lanes
   const TICK_LETTER = 3.2; // points, half the width of a letter of the axis
   const OWN_SCROLL = 250; // milliseconds in which the browser tells of a scrolling that the page did
@@ -24,16 +27,16 @@ const Canvas = (() => {
     }
     if (!Talk.run.isWhole) return; // when all of a change is read, it is drawn
     const area = find("canvas"), isScrolled = area.scrollLeft > 0 || area.scrollTop > 0;
-    const room = Math.max(320, area.clientWidth - 8) * (Overview.isOn() || canvas.isFit ? 1 : canvas.zoom);
-    const high = canvas.isFit ? Math.max(120, area.clientHeight - LEGEND) : undefined;
+    const room = Math.max(320, area.clientWidth - 8) * (Overview.isOn() || Shown.isFit ? 1 : Shown.zoom);
+    const high = Shown.isFit ? Math.max(120, area.clientHeight - LEGEND) : undefined;
     Overview.draw();
-    const drawn = Picture.draw(Overview.shownRun(), { by: canvas.by, theme: canvas.theme, room, high, leastColumns: canvas.by === "depth" ? Beside.columns() : 0, legend: true, titles: false });
+    const drawn = Picture.draw(Overview.shownRun(), { by: Shown.by, theme: Shown.theme, room, high, leastColumns: Shown.by === "depth" ? Beside.columns() : 0, legend: true, titles: false });
     area.innerHTML = drawn.svg;
-    Beside.draw({ theme: canvas.theme, room, titles: false });
+    Beside.draw({ theme: Shown.theme, room, titles: false });
     canvas.view = drawn.view;
-    if (canvas.chosen && !isThere(canvas.chosen)) canvas.chosen = null;
+    if (Shown.chosen && !isThere(Shown.chosen)) Shown.chosen = null;
     if (isScrolled) stayInSight();
-    if (canvas.chosen || canvas.slice || canvas.way.size > 0 || Overview.hits.length > 0) showChosen();
+    if (Shown.chosen || Shown.slice || canvas.way.size > 0 || Overview.hits.length > 0) showChosen();
   }
 
   const isGoalThere = (name) => Overview.run().goals.some((goal) => goal.name === name);
@@ -60,7 +63,7 @@ const Canvas = (() => {
     if (!svg) return;
     const step = chosen && graph.byNumber.has(chosen.step) ? chosen.step : undefined;
     const reach = step ? Overview.reachOf(step) : null, amongst = (found) => ({ has: (number) => found.isIn[graph.indexOf(number)] === 1 });
-    const lit = reach ? reach.causes : canvas.slice, causes = lit ? amongst(lit) : new Set(), effects = reach ? amongst(reach.effects) : new Set();
+    const lit = reach ? reach.causes : Shown.slice, causes = lit ? amongst(lit) : new Set(), effects = reach ? amongst(reach.effects) : new Set();
     const hits = Overview.hitFlags();
     svg.classList.toggle("looking", Boolean(lit));
     for (const mark of marks()) {
@@ -93,7 +96,7 @@ const Canvas = (() => {
     const { graph } = Talk.run, isIn = new Uint8Array(graph.count);
     choose(null);
     for (const number of numbers) if (graph.indexOf(number) !== Graph.NONE) isIn[graph.indexOf(number)] = 1;
-    canvas.slice = { isIn, count: numbers.length };
+    Shown.slice = { isIn, count: numbers.length };
     canvas.others = new Set(others);
     if (numbers.length > 0) scrollTo({ step: numbers[numbers.length - 1] });
     showChosen();
@@ -104,7 +107,7 @@ const Canvas = (() => {
   function forget() {
     canvas.way = new Set();
     canvas.others = new Set();
-    canvas.slice = null;
+    Shown.slice = null;
   }
 
   /** The clause by which a chosen step went. */
@@ -114,12 +117,12 @@ const Canvas = (() => {
   }
 
   function choose(chosen) {
-    canvas.chosen = chosen;
+    Shown.chosen = chosen;
     forget();
     showChosen();
     Overview.draw();
-    Panels.showDetail(chosen);
-    Program.markClause(clauseOf(chosen));
+    Deeds.showDetail(chosen);
+    Deeds.markClause(clauseOf(chosen));
   }
 
   /** Lane names, the axis and what all stands for stay where one sees them while the picture is scrolled. */
@@ -147,7 +150,7 @@ const Canvas = (() => {
   /** After lines: scrolls to what is there now, the goals at the right, and the first that is ready among them. */
   function showThere() {
     const area = find("canvas"), places = canvas.view ? [...canvas.view.goals.values()] : [];
-    if (canvas.chosen !== null || !canvas.view) return;
+    if (Shown.chosen !== null || !canvas.view) return;
     const first = places.find((place) => place.goal.status === "ready") || places[0];
     const isAway = first && (first.y < area.scrollTop + 40 || first.y > area.scrollTop + area.clientHeight - 20);
     const { thereX, left } = canvas.view, beyond = thereX - area.clientWidth + Math.min(area.clientWidth - left - 40, 260);
@@ -198,12 +201,12 @@ const Canvas = (() => {
 
   /** The next one to choose, to the left or right, or along causes and effects. */
   function neighbour(key) {
-    const all = choices(), at = all.findIndex((choice) => isSame(canvas.chosen, choice));
+    const all = choices(), at = all.findIndex((choice) => isSame(Shown.chosen, choice));
     if (at < 0) return key === "ArrowLeft" ? all[all.length - 1] : all[0];
     if (key === "ArrowLeft" || key === "ArrowRight") return all[at + (key === "ArrowLeft" ? -1 : 1)];
-    if (canvas.chosen.step === undefined) return undefined;
+    if (Shown.chosen.step === undefined) return undefined;
     const edges = key === "ArrowUp" ? Overview.run().graph.causes : Overview.run().graph.effects;
-    const [edge] = edges.get(canvas.chosen.step).slice(-1);
+    const [edge] = edges.get(Shown.chosen.step).slice(-1);
     return edge && { step: key === "ArrowUp" ? edge.from : edge.to };
   }
 
@@ -217,8 +220,8 @@ const Canvas = (() => {
       }
       return true;
     }
-    if (key !== "Enter" || !canvas.chosen) return false;
-    Menus.open(canvas.chosen, elementOf(canvas.chosen));
+    if (key !== "Enter" || !Shown.chosen) return false;
+    Deeds.openMenu(Shown.chosen, elementOf(Shown.chosen));
     return true;
   }
 

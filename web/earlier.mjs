@@ -1,6 +1,6 @@
 // The run as it was after its first steps: the console of a session of these steps alone tells what goals were there.
-import Graph from "../front/run/graph.mjs";
 import Replies from "../front/protocol/replies.mjs";
+import Graph from "../front/run/graph.mjs";
 import Talk from "./talk.mjs";
 
 const Earlier = (() => {

@@ -1,16 +1,19 @@
 // Saves and opens: a session as a text, the picture as an SVG, a history, a program.
-import Graph from "../front/run/graph.mjs";
-import Terms from "../front/run/terms.mjs";
 import Replies from "../front/protocol/replies.mjs";
-import Lanes from "../front/run/lanes.mjs";
-import Picture from "./picture.mjs";
 import SessionText from "../front/protocol/session_text.mjs";
-import ExampleNotes from "./example_notes.mjs";
-import Talk from "./talk.mjs";
-import Overview from "./overview.mjs";
-import Canvas from "./canvas.mjs";
-import Program from "./program.mjs";
+import Graph from "../front/run/graph.mjs";
+import Lanes from "../front/run/lanes.mjs";
+import Terms from "../front/run/terms.mjs";
 import Answers from "./answers.mjs";
+import Deeds from "./deeds.mjs";
+import Elements from "./elements.mjs";
+import ExampleNotes from "./example_notes.mjs";
+import Holes from "./holes.mjs";
+import Overview from "./overview.mjs";
+import Picture from "./picture.mjs";
+import Program from "./program.mjs";
+import Shown from "./shown.mjs";
+import Talk from "./talk.mjs";
 
 const Files = (() => {
   const { find, make } = Elements;
@@ -37,7 +40,7 @@ const Files = (() => {
 
   /** The run, or a part of it, as an SVG that stands alone. */
   function pictureText({ theme = "light", from, to } = {}) {
-    return Picture.draw(partOf(from, to), { by: Canvas.by, theme, room: find("canvas").clientWidth * Canvas.zoom, legend: true, title: Talk.given.query }).svg;
+    return Picture.draw(partOf(from, to), { by: Shown.by, theme, room: find("canvas").clientWidth * Shown.zoom, legend: true, title: Talk.given.query }).svg;
   }
 
   /** A picture in pixels, two for each point. */
@@ -63,11 +66,7 @@ const Files = (() => {
     else await pngOf(svg).then((blob) => saveBlob("run.png", blob), (error) => Answers.put(true, `No PNG was made: ${error.message}.`));
   }
 
-  const HOLE = "memory was refused for a line of it (F1 no memory)";
-  const AGAIN = "Undo or roll some steps, then type save again";
-
-  /** Is the entry a history with a hole? It changes nothing where it is played again, and it is none. */
-  const isBroken = (entry) => entry.line.trim().startsWith("save") && Replies.hasHole(entry.reply.join("\n"));
+  const { HOLE, AGAIN, isBroken } = Holes;
 
   const savedEntries = () => Talk.entries.filter((entry) => !entry.note && !isBroken(entry));
   const sessionText = () => SessionText.write({ ...Talk.given, entries: savedEntries() });
@@ -89,8 +88,8 @@ const Files = (() => {
       Answers.put(true, `This text was not opened: ${Program.tellTooLong(text)}`);
       return;
     }
-    const program = text.replace(/\r\n?/g, "\n"), query = ExampleNotes.read({ program }).query || Page.typed().query;
-    Keeping.beginOther(() => Page.begin({ program, query }));
+    const program = text.replace(/\r\n?/g, "\n"), query = ExampleNotes.read({ program }).query || Deeds.typed().query;
+    Deeds.beginOther(() => Deeds.begin({ program, query }));
   }
 
   /** Whether a history is whole; where it is not, that is told. */
@@ -103,7 +102,7 @@ const Files = (() => {
   /** Opens a text: a saved session is played again; a history starts a session of the program and query that are there; else it is a program. */
   function openText(text) {
     if (text.startsWith("ghc-history ")) {
-      if (isWhole(text)) Keeping.beginOther(() => Page.begin({ ...Page.typed(), history: text }));
+      if (isWhole(text)) Deeds.beginOther(() => Deeds.begin({ ...Deeds.typed(), history: text }));
       return;
     }
     let session = null;
@@ -118,8 +117,8 @@ const Files = (() => {
       return;
     }
     if (!isWhole(session.history)) return;
-    Keeping.beginOther(() => {
-      Page.begin(session);
+    Deeds.beginOther(() => {
+      Deeds.begin(session);
       if (session.lines.length > 0) Talk.sendAll(session.lines).then(() => compare(session));
     });
   }
@@ -179,7 +178,7 @@ const Files = (() => {
   }
 
   return {
-    savePicture, saveSession, sessionText, pictureText, pngOf, openText, openBytes, isBroken, HOLE, AGAIN, listenToAll,
+    savePicture, saveSession, sessionText, pictureText, pngOf, openText, openBytes, listenToAll,
   };
 })();
 

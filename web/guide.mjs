@@ -1,7 +1,9 @@
 // Leads through the tour: shows its words, points at what is to be clicked, and goes on when its line was typed.
-import Tour from "./tour.mjs";
-import Talk from "./talk.mjs";
+import Deeds from "./deeds.mjs";
+import Elements from "./elements.mjs";
 import Menus from "./menus.mjs";
+import Talk from "./talk.mjs";
+import Tour from "./tour.mjs";
 
 const Guide = (() => {
   const { find, make, withCode } = Elements;
@@ -18,7 +20,7 @@ const Guide = (() => {
   function putThere() {
     const { session } = station(), { program } = Tour.SESSIONS[session];
     isAside = false;
-    Page.begin({ program: program(billProgram()), query: Tour.QUERY });
+    Deeds.begin({ program: program(billProgram()), query: Tour.QUERY });
     const lines = Tour.linesBefore(at);
     if (lines.length > 0) Talk.sendAll(lines);
     show();
@@ -80,7 +82,7 @@ const Guide = (() => {
     const element = target();
     if (!element) return;
     element.classList.add("pointed");
-    if (!isSeen(element)) Page.showTab(element.closest("#talk") ? "console" : element.closest("#source") ? "program" : "run");
+    if (!isSeen(element)) Deeds.showTab(element.closest("#talk") ? "console" : element.closest("#source") ? "program" : "run");
   }
 
   /** After lines were typed: on to the next station, or aside from the story. */

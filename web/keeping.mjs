@@ -1,11 +1,13 @@
 // Loses nothing: keeps each session in the browser's own storage, with a text that was typed and not started, offers to go on, and makes a link.
-import Terms from "../front/run/terms.mjs";
 import Replies from "../front/protocol/replies.mjs";
 import SessionText from "../front/protocol/session_text.mjs";
-import Talk from "./talk.mjs";
+import Terms from "../front/run/terms.mjs";
 import Answers from "./answers.mjs";
+import Deeds from "./deeds.mjs";
+import Elements from "./elements.mjs";
 import Guide from "./guide.mjs";
 import Links from "./links.mjs";
+import Talk from "./talk.mjs";
 
 const Keeping = (() => {
   const { find, make } = Elements;
@@ -31,11 +33,11 @@ const Keeping = (() => {
   const linesText = () => SessionText.write({ ...Talk.given, entries: Talk.typedLines().map((line) => ({ line, reply: [] })) });
 
   const isExample = (program) => EXAMPLES.some((example) => example.program === program);
-  const isOwn = () => !Guide.isOn() && !(isExample(Page.typed().program) && isExample(Talk.given.program));
+  const isOwn = () => !Guide.isOn() && !(isExample(Deeds.typed().program) && isExample(Talk.given.program));
 
   /** What there is to be kept: the session, and what was typed since its Start; null where all of it stands in an example. */
   function now() {
-    const typed = Page.typed(), draft = Page.isChanged() ? { program: typed.program, query: typed.query } : null;
+    const typed = Deeds.typed(), draft = Deeds.isChanged() ? { program: typed.program, query: typed.query } : null;
     if (Talk.entries.length > 0) return { text: linesText(), draft };
     return typed.program.trim() === "" || isExample(typed.program) ? null : { text: SessionText.write({ ...Talk.given, ...typed, entries: [] }), draft: null };
   }
@@ -66,7 +68,7 @@ const Keeping = (() => {
 
   /** Whether a session that is kept has all of this one. */
   function isWithin(session) {
-    if (Page.isChanged() || session.draft !== null || !isOfGiven(session)) return false;
+    if (Deeds.isChanged() || session.draft !== null || !isOfGiven(session)) return false;
     return Talk.typedLines().every((line, at) => line === session.lines[at]);
   }
 
@@ -211,11 +213,11 @@ const Keeping = (() => {
   async function goOn(index) {
     const { program, query, history, lines, draft, key, of } = before[index];
     leave();
-    Page.begin({ program, query, history });
+    Deeds.begin({ program, query, history });
     if (lines.length > 0) Talk.sendAll(lines);
     await Talk.settled();
     if (!isOfGiven(before[index])) return;
-    if (draft !== null) Page.setTyped(draft);
+    if (draft !== null) Deeds.setTyped(draft);
     source = key;
     origin = of;
     keep();
@@ -244,7 +246,7 @@ const Keeping = (() => {
     }
     history.replaceState(null, "", link);
     const field = make("input", { readonly: true, value: link, id: "link-text", "aria-label": "The link" });
-    Answers.put(false, "The address holds program, query and lines now: ", field, " ", make("button", { class: "small", id: "copy-link" }, "Copy"), Page.isChanged() ? " What you typed since Start is not in it." : "");
+    Answers.put(false, "The address holds program, query and lines now: ", field, " ", make("button", { class: "small", id: "copy-link" }, "Copy"), Deeds.isChanged() ? " What you typed since Start is not in it." : "");
     field.select();
   }
 

@@ -1,8 +1,11 @@
 // What one looks for and at, without a change of the run: the search, the record up to a step, and lanes that are folded.
 import Search from "../front/run/search.mjs";
-import Talk from "./talk.mjs";
+import Deeds from "./deeds.mjs";
 import Earlier from "./earlier.mjs";
+import Elements from "./elements.mjs";
 import Overview from "./overview.mjs";
+import Shown from "./shown.mjs";
+import Talk from "./talk.mjs";
 
 const Looking = (() => {
   const { find } = Elements;
@@ -20,8 +23,8 @@ const Looking = (() => {
     if (hits.length === 0) return;
     at = (place + hits.length) % hits.length;
     const step = Talk.run.graph.numbers.at(hits[at]);
-    Canvas.choose({ step });
-    Canvas.scrollTo({ step });
+    Deeds.choose({ step });
+    Deeds.scrollTo({ step });
     showHits(true);
   }
 
@@ -41,7 +44,7 @@ const Looking = (() => {
     await Talk.pause();
     if (own !== sought) return;
     if (hits.length > 0) goTo(0);
-    else Canvas.draw();
+    else Deeds.draw();
     showHits(true);
   }
 
@@ -55,10 +58,10 @@ const Looking = (() => {
   /** Shows the run as it was after so many steps, wherever something of it is shown. */
   function showAfter(steps, earlier) {
     Overview.showUntil(steps, earlier);
-    const { until } = Overview, step = Canvas.chosen ? Canvas.chosen.step : undefined;
-    if (step !== undefined && until !== null && Talk.run.graph.indexOf(step) >= until) Canvas.choose(null);
-    Canvas.draw();
-    Panels.showTime();
+    const { until } = Overview, step = Shown.chosen ? Shown.chosen.step : undefined;
+    if (step !== undefined && until !== null && Talk.run.graph.indexOf(step) >= until) Deeds.choose(null);
+    Deeds.draw();
+    Deeds.showTime();
     find("until").value = String(until === null ? Talk.run.graph.count : until);
   }
 
@@ -125,8 +128,8 @@ const Looking = (() => {
   function fold(name, isFolded) {
     Overview.folded = new Set(Overview.folded);
     Overview.folded[isFolded ? "add" : "delete"](name);
-    Canvas.choose(null);
-    Canvas.draw();
+    Deeds.choose(null);
+    Deeds.draw();
   }
 
   function listenToAll() {

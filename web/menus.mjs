@@ -1,13 +1,15 @@
 // The small windows that open at a step, a goal, a variable, a step that was taken back, or to ask for goals: what can be done there.
-import Terms from "../front/run/terms.mjs";
+import Replies from "../front/protocol/replies.mjs";
 import Stuck from "../front/run/stuck.mjs";
-import Talk from "./talk.mjs";
-import Overview from "./overview.mjs";
+import Terms from "../front/run/terms.mjs";
+import Printed from "../front/text/printed.mjs";
 import Beside from "./beside.mjs";
 import Canvas from "./canvas.mjs";
+import Deeds from "./deeds.mjs";
+import Elements from "./elements.mjs";
+import Overview from "./overview.mjs";
 import Resting from "./resting.mjs";
-import Printed from "../front/text/printed.mjs";
-import Replies from "../front/protocol/replies.mjs";
+import Talk from "./talk.mjs";
 
 const Menus = (() => {
   const { find, make, lineButton, goToGoal } = Elements;
@@ -40,7 +42,7 @@ const Menus = (() => {
     find("menu").replaceChildren(title(`Roll back step ${number}`, ""), make("p", null, `The ringed ${plural(gone.size, "step")} will be taken back: ${Terms.cut(names, 200)}. All others stay.`),
       buttons(lineButton(`Take back ${gone.size}`, `roll ${number}`, { class: "danger" }), make("button", { "data-close": true }, "Leave it")));
     find("menu").querySelector("button").focus();
-    Guide.pointAgain();
+    Deeds.pointAgain();
   }
 
   function rollButton(number, gone) {
@@ -79,7 +81,7 @@ const Menus = (() => {
       const choices = new Map(reply.map(Replies.readChoice).filter(Boolean).map((choice) => [choice.number, choice]));
       const rank = ([, told]) => RANKS.indexOf(told?.says ?? "no");
       fill(clauses.map((one) => [one, choices.get(one.number)]).sort((one, other) => rank(one) - rank(other)));
-      Guide.pointAgain();
+      Deeds.pointAgain();
     });
     return area;
   }
@@ -223,7 +225,7 @@ const Menus = (() => {
     const number = (one) => (/^\d+$/.test(one.value.trim()) ? Number(one.value) : undefined);
     const saves = (words, form, theme) => {
       const button = make("button", null, words);
-      button.addEventListener("click", () => { Files.savePicture({ form, theme, from: number(first), to: number(last) }); close(); });
+      button.addEventListener("click", () => { Deeds.savePicture({ form, theme, from: number(first), to: number(last) }); close(); });
       return button;
     };
     return [title("Save the picture", "as it is shown"), buttons(saves("SVG", "svg", "light"), saves("SVG, dark", "svg", "dark"), saves("PNG", "png", "light"), saves("PNG, dark", "png", "dark")),
@@ -252,14 +254,14 @@ const Menus = (() => {
     place(anchor);
     const first = menu.querySelector(focus);
     if (first) first.focus({ preventScroll: true });
-    Guide.pointAgain();
+    Deeds.pointAgain();
   }
 
   function close() {
     if (find("menu").hidden) return;
     find("menu").hidden = true;
     Canvas.ring(new Set());
-    Guide.pointAgain();
+    Deeds.pointAgain();
   }
 
   /** Within the menu the key Tab goes round. */

@@ -1,9 +1,12 @@
 // The whole of a long run in one strip: a dot for each step, its lane from above, and a window, whose steps alone the picture shows.
 import Graph from "../front/run/graph.mjs";
 import Lanes from "../front/run/lanes.mjs";
-import Picture from "./picture.mjs";
-import Talk from "./talk.mjs";
 import Printed from "../front/text/printed.mjs";
+import Deeds from "./deeds.mjs";
+import Elements from "./elements.mjs";
+import Picture from "./picture.mjs";
+import Shown from "./shown.mjs";
+import Talk from "./talk.mjs";
 
 const Overview = (() => {
   const { find } = Elements;
@@ -101,7 +104,7 @@ const Overview = (() => {
   /** Moves the window so that a step is in it; says whether it moved. */
   function show(number) {
     const index = Talk.run.graph.indexOf(number);
-    if (overview.until !== null && index >= overview.until) Looking.showNow();
+    if (overview.until !== null && index >= overview.until) Deeds.showNow();
     if (!isOn() || index < 0 || (index >= overview.from && index < overview.from + size())) return false;
     setFrom(index - size() / 2);
     return true;
@@ -183,7 +186,7 @@ const Overview = (() => {
 
   /** Puts all dots into the strip, and yields from time to time. */
   function* drawDots(dots, ratio, { chosen, causes, effects }) {
-    const { graph, lanes } = run(), theme = Picture.THEMES[Canvas.theme], places = placesIn(dots.wide, dots.high, ratio, Math.max(1, lanes.lanes.length)), steps = count();
+    const { graph, lanes } = run(), theme = Picture.THEMES[Shown.theme], places = placesIn(dots.wide, dots.high, ratio, Math.max(1, lanes.lanes.length)), steps = count();
     const { leaf, byClause } = paints(theme, causes === null ? 0.9 : 0.25), lit = pixelOf(theme.read, theme.ground, 1), after = pixelOf(theme.woke, theme.ground, 1);
     dots.pixels.fill(pixelOf(theme.ground, theme.ground, 1));
     for (let index = 0; index < steps; index++) {
@@ -226,9 +229,9 @@ const Overview = (() => {
 
   /** What is lit in the strip: a chosen step with its causes and consequences, or the steps of a slice; and the words for it. */
   function litNow() {
-    const number = Canvas.chosen && Canvas.chosen.step, index = number ? run().graph.indexOf(number) : -1;
+    const number = Shown.chosen && Shown.chosen.step, index = number ? run().graph.indexOf(number) : -1;
     if (index < 0 || index >= count()) {
-      const { slice } = Canvas;
+      const { slice } = Shown;
       return { chosen: null, causes: slice, effects: null, words: slice === null ? "drag or click: goes there" : `${slice.count} steps are lit (blue)` };
     }
     const { causes, effects } = reachOf(number);
@@ -268,7 +271,7 @@ const Overview = (() => {
 
   /** The dots as a picture, which is drawn anew where something of it is another. */
   function dotsLayer(wide, high, ratio) {
-    const lit = litNow(), of = [run(), run().version, lit.chosen, lit.causes, Canvas.theme, wide, high, ratio, overview.hits, count()];
+    const lit = litNow(), of = [run(), run().version, lit.chosen, lit.causes, Shown.theme, wide, high, ratio, overview.hits, count()];
     words = lit.words;
     if (isSame(of, wanted)) return layer;
     wanted = isSame(of, drawn) ? drawn : of;
@@ -306,7 +309,7 @@ const Overview = (() => {
     area.hidden = !isOn();
     if (!isOn() || !run().isWhole) return;
     setFrom(overview.from);
-    const ratio = window.devicePixelRatio || 1, wide = area.clientWidth, high = area.clientHeight, theme = Picture.THEMES[Canvas.theme];
+    const ratio = window.devicePixelRatio || 1, wide = area.clientWidth, high = area.clientHeight, theme = Picture.THEMES[Shown.theme];
     if (wide === 0) return;
     area.width = Math.round(wide * ratio);
     area.height = Math.round(high * ratio);
@@ -330,7 +333,7 @@ const Overview = (() => {
     waits = true;
     requestAnimationFrame(() => {
       waits = false;
-      Canvas.draw();
+      Deeds.draw();
     });
   }
 

@@ -1,52 +1,29 @@
 // Starts the page, and says what clicks and keys do. Whatever changes the run is a line that is typed at the console.
-import Heap from "../front/session/heap.mjs";
-import Host from "../front/session/host.mjs";
-import Engine from "../front/session/engine.mjs";
-import Graph from "../front/run/graph.mjs";
-import Terms from "../front/run/terms.mjs";
 import Replies from "../front/protocol/replies.mjs";
-import Stuck from "../front/run/stuck.mjs";
-import Tokens from "../front/text/tokens.mjs";
-import Habits from "../front/text/habits.mjs";
-import Cures from "../front/text/cures.mjs";
-import Nearest from "../front/text/nearest.mjs";
-import Reader from "../front/text/reader.mjs";
-import SyntaxCauses from "../front/text/syntax_causes.mjs";
-import CheckerCauses from "../front/text/checker_causes.mjs";
-import Causes from "../front/text/causes.mjs";
-import Print from "../front/text/print.mjs";
-import Run from "../front/run/run.mjs";
-import Explain from "../front/run/explain.mjs";
-import Lanes from "../front/run/lanes.mjs";
-import RunModel from "../front/run/run_model.mjs";
-import Search from "../front/run/search.mjs";
-import Compare from "../front/run/compare.mjs";
-import Picture from "./picture.mjs";
-import Short from "../front/protocol/short.mjs";
-import Asking from "../front/protocol/asking.mjs";
 import SessionText from "../front/protocol/session_text.mjs";
-import ExampleNotes from "./example_notes.mjs";
-import Tour from "./tour.mjs";
-import Elements from "./elements.mjs";
-import Told from "../front/protocol/told.mjs";
-import WorkerSide from "../front/session/worker_side.mjs";
-import Service from "./service.mjs";
-import Talk from "./talk.mjs";
-import Earlier from "./earlier.mjs";
-import Overview from "./overview.mjs";
-import Looking from "./looking.mjs";
+import Graph from "../front/run/graph.mjs";
+import Lanes from "../front/run/lanes.mjs";
+import Terms from "../front/run/terms.mjs";
+import Causes from "../front/text/causes.mjs";
+import Answers from "./answers.mjs";
 import Beside from "./beside.mjs";
 import Canvas from "./canvas.mjs";
-import Program from "./program.mjs";
-import Answers from "./answers.mjs";
-import Resting from "./resting.mjs";
-import Store from "./store.mjs";
-import Panels from "./panels.mjs";
-import Menus from "./menus.mjs";
-import Guide from "./guide.mjs";
-import Links from "./links.mjs";
+import Deeds from "./deeds.mjs";
+import Elements from "./elements.mjs";
+import ExampleNotes from "./example_notes.mjs";
 import Files from "./files.mjs";
+import Guide from "./guide.mjs";
 import Keeping from "./keeping.mjs";
+import Links from "./links.mjs";
+import Looking from "./looking.mjs";
+import Menus from "./menus.mjs";
+import Overview from "./overview.mjs";
+import Panels from "./panels.mjs";
+import Program from "./program.mjs";
+import Resting from "./resting.mjs";
+import Shown from "./shown.mjs";
+import Store from "./store.mjs";
+import Talk from "./talk.mjs";
 
 const Page = (() => {
   const { find, make, withCode } = Elements;
@@ -91,7 +68,7 @@ const Page = (() => {
     Program.setText(given.program);
     find("query").value = given.query;
     Menus.close();
-    Canvas.chosen = null;
+    Shown.chosen = null;
     Keeping.leaveDone();
     Talk.start({ program: given.program, query: given.query, history: given.history || "" });
   }
@@ -180,7 +157,7 @@ const Page = (() => {
     if (what === "fault") Panels.showNote();
     if (what === "busy" || what === "idle") Panels.showBusy();
     if (!["start", "again", "lines"].includes(what)) return;
-    if (what !== "lines") Canvas.chosen = null;
+    if (what !== "lines") Shown.chosen = null;
     wasCount = Overview.wasCount;
     const pause = pauses(), faults = [];
     for (const part of parts()) {
@@ -201,34 +178,34 @@ const Page = (() => {
   }
 
   function setOrder(by) {
-    Canvas.by = by;
+    Shown.by = by;
     find("by-record").setAttribute("aria-pressed", String(by === "record"));
     find("by-depth").setAttribute("aria-pressed", String(by === "depth"));
     Canvas.draw();
   }
 
   function setTheme(theme) {
-    Canvas.theme = theme;
+    Shown.theme = theme;
     document.documentElement.dataset.theme = theme;
     find("theme").textContent = theme === "light" ? "Dark" : "Light";
     if (Talk.session) Canvas.draw();
   }
 
   function setZoom(zoom) {
-    if (Canvas.isFit) setFit(false);
+    if (Shown.isFit) setFit(false);
     if (Overview.isOn()) {
-      Overview.zoom(zoom / Canvas.zoom);
+      Overview.zoom(zoom / Shown.zoom);
       Canvas.draw();
       return;
     }
-    Canvas.zoom = Math.max(0.25, Math.min(zoom, 8));
+    Shown.zoom = Math.max(0.25, Math.min(zoom, 8));
     Canvas.draw();
   }
 
   /** All of the run in the window, or as usual again. */
   function setFit(isFit) {
-    Canvas.isFit = isFit;
-    Canvas.zoom = 1;
+    Shown.isFit = isFit;
+    Shown.zoom = 1;
     find("fit").setAttribute("aria-pressed", String(isFit));
     if (isFit) Overview.fit();
     else Overview.size = null;
@@ -257,9 +234,9 @@ const Page = (() => {
     "ask-more": () => Menus.open({ ask: true }, find("ask-more")),
     "redo-all": () => Talk.sendAll(Talk.run.shelf.map((step) => `redo ${step.number}`)),
     stop: () => Talk.stop(),
-    theme: () => setTheme(Canvas.theme === "light" ? "dark" : "light"), tidy,
+    theme: () => setTheme(Shown.theme === "light" ? "dark" : "light"), tidy,
     "by-record": () => setOrder("record"), "by-depth": () => setOrder("depth"),
-    smaller: () => setZoom(Canvas.zoom / 1.4), larger: () => setZoom(Canvas.zoom * 1.4), fit: () => setFit(!Canvas.isFit),
+    smaller: () => setZoom(Shown.zoom / 1.4), larger: () => setZoom(Shown.zoom * 1.4), fit: () => setFit(!Shown.isFit),
     "keep-run": () => Beside.keep(), "drop-run": () => Beside.drop(), "swap-runs": () => Beside.swap(),
     play: () => Looking.play(), "show-all-steps": () => Looking.showNow(),
     wrap: () => Program.setWrap(!Program.isWrapped()), again: () => Talk.again(), "close-answer": () => Answers.hide(),
@@ -286,84 +263,68 @@ const Page = (() => {
     Canvas.scrollTo({ step });
   }
 
+  /** Chooses a goal that is there, and opens what can be done with it; of one that is gone the step that took it. */
+  function goToGoal(goal) {
+    const chosen = { goal }, taken = Talk.run.graph.consumerOf(goal);
+    Menus.close();
+    if (taken !== undefined && taken !== Graph.NONE) {
+      goToStep(Talk.run.graph.numbers.at(taken));
+      return;
+    }
+    Canvas.choose(chosen);
+    Canvas.scrollTo(chosen);
+    if (Canvas.elementOf(chosen)) Menus.open(chosen, Canvas.elementOf(chosen));
+  }
+
+  function explainPart(element) {
+    Store.explain(element.dataset.root, element.dataset.path.split(".").filter(Boolean).map(Number));
+    element.classList.add("told");
+  }
+
+  const closing = (does) => (element) => { Menus.close(); does(element); };
+
+  /** What a click does, by what it hits: the first of these that fits. */
+  const CLICKS = [
+    ["[data-line]:not(:disabled)", closing(({ dataset }) => Talk.send(dataset.line))],
+    ["[data-root]", closing(explainPart)],
+    ["[data-keep]", ({ dataset }) => Resting.askKeep(dataset.keep)],
+    ["[data-go-goal]", ({ dataset }) => goToGoal(dataset.goGoal)],
+    ["[data-try]", closing(({ dataset }) => Beside.tryClause(...dataset.try.split(" ").map(Number)))],
+    ["[data-kept]", closing(({ dataset }) => Beside.onClick(Number(dataset.kept)))],
+    ["[data-fold]", closing(({ dataset }) => Looking.fold(dataset.fold, true))],
+    ["[data-unfold]", closing(({ dataset }) => Looking.fold(dataset.unfold, false))],
+    ["[data-go-on]", ({ dataset }) => Keeping.goOn(Number(dataset.goOn))],
+    ["[data-goto]", ({ dataset }) => goToStep(Number(dataset.goto))],
+    ["button[data-tab]", closing(({ dataset }) => showTab(dataset.tab))],
+    [Object.keys(BUTTONS).map((id) => `button#${id}`).join(","), closing(({ id }) => BUTTONS[id]())],
+  ];
+
   function onClick(event) {
-    if (!event.target.isConnected) return; // the button has put something else in its own place
-    const button = event.target.closest("button"), sends = event.target.closest("[data-line]");
-    if (sends && !sends.disabled) {
-      Menus.close();
-      Talk.send(sends.dataset.line);
-      return;
+    const { target } = event, button = target.closest("button");
+    if (!target.isConnected) return; // the button has put something else in its own place
+    for (const [hit, does] of CLICKS) {
+      const found = target.closest(hit);
+      if (found) return does(found);
     }
-    const explained = event.target.closest("[data-root]"), kept = event.target.closest("[data-keep]");
-    if (explained) {
-      Menus.close();
-      Store.explain(explained.dataset.root, explained.dataset.path.split(".").filter(Boolean).map(Number));
-      explained.classList.add("told");
-      return;
-    }
-    if (kept) {
-      Resting.askKeep(kept.dataset.keep);
-      return;
-    }
-    const holder = event.target.closest("[data-go-goal]");
-    if (holder) {
-      const chosen = { goal: holder.dataset.goGoal }, taken = Talk.run.graph.consumerOf(chosen.goal);
-      Menus.close();
-      if (taken !== undefined && taken !== Graph.NONE) {
-        goToStep(Talk.run.graph.numbers.at(taken));
-        return;
-      }
-      Canvas.choose(chosen);
-      Canvas.scrollTo(chosen);
-      if (Canvas.elementOf(chosen)) Menus.open(chosen, Canvas.elementOf(chosen));
-      return;
-    }
-    const tried = event.target.closest("[data-try]"), other = event.target.closest("[data-kept]");
-    if (tried) {
-      Menus.close();
-      Beside.tryClause(...tried.dataset.try.split(" ").map(Number));
-      return;
-    }
-    if (other) {
-      Menus.close();
-      Beside.onClick(Number(other.dataset.kept));
-      return;
-    }
-    const folds = event.target.closest("[data-fold], [data-unfold]");
-    if (folds) {
-      Menus.close();
-      Looking.fold(folds.dataset.fold || folds.dataset.unfold, folds.dataset.fold !== undefined);
-      return;
-    }
-    const before = event.target.closest("[data-go-on]");
-    if (before) {
-      Keeping.goOn(Number(before.dataset.goOn));
-      return;
-    }
-    const link = event.target.closest("[data-goto]");
-    if (link) {
-      goToStep(Number(link.dataset.goto));
-      return;
-    }
-    if (button && (BUTTONS[button.id] || button.dataset.tab)) {
-      Menus.close();
-      (BUTTONS[button.id] || (() => showTab(button.dataset.tab)))();
-      return;
-    }
-    if (button && Guide.onClick(button.id)) return;
-    if (event.target.closest("#menu") && !event.target.closest("[data-close]")) return;
-    const choice = choiceAt(event.target);
+    if (button && Guide.onClick(button.id)) return undefined;
+    if (target.closest("#menu") && !target.closest("[data-close]")) return undefined;
+    return chooseAt(target);
+  }
+
+  /** Chooses what was clicked, and opens what can be done with it. */
+  function chooseAt(target) {
+    const choice = choiceAt(target);
     Menus.close();
     if (choice) {
       if (choice.chosen.variable === undefined) Canvas.choose(choice.chosen.taken === undefined ? choice.chosen : null);
       Menus.open(choice.chosen, choice.found);
-    } else if (event.target.closest("#canvas")) Canvas.choose(null);
+    } else if (target.closest("#canvas")) Canvas.choose(null);
   }
 
   const KEYS = {
     s: () => find("step").click(), r: () => find("leap").click(), u: () => find("undo-last").click(), t: () => find("tidy").click(),
     f: () => { showTab("run"); find("search").focus(); },
-    a: () => { showTab("run"); find("ask-more").click(); }, d: () => setOrder(Canvas.by === "record" ? "depth" : "record"), "/": () => { showTab("console"); find("line").focus(); }, "?": showHelp,
+    a: () => { showTab("run"); find("ask-more").click(); }, d: () => setOrder(Shown.by === "record" ? "depth" : "record"), "/": () => { showTab("console"); find("line").focus(); }, "?": showHelp,
   };
 
   function onKey(event) {
@@ -467,6 +428,14 @@ const Page = (() => {
     goToStep(Number(asked.get("step")));
     return false;
   }
+
+  Deeds.give({
+    begin, beginOther: Keeping.beginOther, typed, isChanged, setTyped,
+    showTab, setOrder, showNow: Looking.showNow, showTime: Panels.showTime, timeRows: Panels.timeRows, showNote: Panels.showNote, showDetail: Panels.showDetail,
+    draw: Canvas.draw, choose: Canvas.choose, scrollTo: Canvas.scrollTo, markClause: Program.markClause,
+    tell: Answers.put, tellSlice: Resting.tell, openMenu: Menus.open, openMenuWith: Menus.openWith, closeMenu: Menus.close,
+    pointAgain: Guide.pointAgain, savePicture: Files.savePicture,
+  });
 
   async function startPage() {
     if (typeof WebAssembly === "undefined") throw new Error("it has no WebAssembly, in which the program comes; some browsers switch it off in a strict mode");

@@ -1,17 +1,19 @@
 // Fills what stands around the picture: console, goals, store, what was taken back, the chosen step, and how many there are.
-import Graph from "../front/run/graph.mjs";
-import Terms from "../front/run/terms.mjs";
 import Replies from "../front/protocol/replies.mjs";
-import Stuck from "../front/run/stuck.mjs";
 import Explain from "../front/run/explain.mjs";
-import Picture from "./picture.mjs";
-import Talk from "./talk.mjs";
-import Overview from "./overview.mjs";
-import Beside from "./beside.mjs";
-import Canvas from "./canvas.mjs";
+import Graph from "../front/run/graph.mjs";
+import Stuck from "../front/run/stuck.mjs";
+import Terms from "../front/run/terms.mjs";
 import Answers from "./answers.mjs";
+import Beside from "./beside.mjs";
+import Deeds from "./deeds.mjs";
+import Elements from "./elements.mjs";
+import Overview from "./overview.mjs";
+import Picture from "./picture.mjs";
 import Resting from "./resting.mjs";
+import Shown from "./shown.mjs";
 import Store from "./store.mjs";
+import Talk from "./talk.mjs";
 
 const Panels = (() => {
   const { find, make, lineButton, withCode, goTo, linkedLines, fillRows } = Elements;
@@ -108,7 +110,7 @@ const Panels = (() => {
     const causes = Graph.whyLines(run.graph, step.number).filter((line) => line !== "none");
     const effects = run.graph.effects.get(step.number).map((edge) => edge.to);
     const isTold = run.texts.has(step.goal);
-    Resting.withGoalText(step, () => { if (!isTold && Canvas.chosen && Canvas.chosen.step === step.number) showDetail(Canvas.chosen); });
+    Resting.withGoalText(step, () => { if (!isTold && Shown.chosen && Shown.chosen.step === step.number) showDetail(Shown.chosen); });
     const because = causes.flatMap((line) => ["\nbecause of ", goTo(line.split(" ")[0], line)]);
     area.replaceChildren(Picture.tellStep(run, step), ...because,
       ...effects.slice(0, 20).flatMap((number, index) => [index === 0 ? "\nneeded by " : ", ", goTo(number, String(number))]));
@@ -166,12 +168,12 @@ const Panels = (() => {
 
   /** Where program or query were changed since Start: that the run is not of them. */
   function changedParts() {
-    if (Talk.refusal || !Page.isChanged()) return [];
+    if (Talk.refusal || !Deeds.isChanged()) return [];
     return [make("div", null, "This run is of the text before your changes. ", make("button", { class: "small main-button", id: "start-anew" }, "Start"), " runs the text as it stands now.")];
   }
 
   function showNote() {
-    wasChanged = Page.isChanged();
+    wasChanged = Deeds.isChanged();
     const parts = [...noteParts(), ...changedParts()];
     find("note").replaceChildren(...parts);
     find("note").hidden = parts.length === 0;
@@ -180,7 +182,7 @@ const Panels = (() => {
 
   /** After a letter was typed in program or query: what is said is said anew where that is the first change, or the last one is gone. */
   function followText() {
-    if (Talk.session && Page.isChanged() !== wasChanged) showNote();
+    if (Talk.session && Deeds.isChanged() !== wasChanged) showNote();
   }
 
   function showCount() {
@@ -225,7 +227,7 @@ const Panels = (() => {
   /** What is made anew after lines, in parts between which the page may pause. */
   const PARTS = [
     (what) => showTold(what), () => keepFocus("goals", showGoals), () => keepFocus("store", Store.show), () => keepFocus("shelf", showShelf), () => showCount(),
-    (what) => { showDetail(Canvas.chosen); Answers.show(what); },
+    (what) => { showDetail(Shown.chosen); Answers.show(what); },
   ];
 
   /** What shows the run at the time that is on the screen. */
@@ -234,7 +236,7 @@ const Panels = (() => {
     keepFocus("store", Store.show);
     keepFocus("shelf", showShelf);
     showCount();
-    showDetail(Canvas.chosen);
+    showDetail(Shown.chosen);
   }
 
   /** How far a line is that takes long. */

@@ -1,7 +1,7 @@
 // Draws a run that was put into lanes, as the text of an SVG. Pure functions.
+import Replies from "../front/protocol/replies.mjs";
 import Lanes from "../front/run/lanes.mjs";
 import Terms from "../front/run/terms.mjs";
-import Replies from "../front/protocol/replies.mjs";
 
 const Picture = (() => {
   const LIGHT = {

@@ -1,6 +1,8 @@
 // The pane of the program: line numbers, the clause of the chosen step, the place of an error, lines that wrap or not, and its width.
-import Talk from "./talk.mjs";
 import Canvas from "./canvas.mjs";
+import Deeds from "./deeds.mjs";
+import Elements from "./elements.mjs";
+import Talk from "./talk.mjs";
 
 const Program = (() => {
   const { find, make } = Elements;
@@ -95,7 +97,7 @@ const Program = (() => {
     const given = event.clipboardData ? event.clipboardData.getData("text/plain") : "";
     if (!isTooLong(given)) return;
     event.preventDefault();
-    Answers.put(true, `The text was not pasted: ${tellTooLong(given)}`);
+    Deeds.tell(true, `The text was not pasted: ${tellTooLong(given)}`);
   }
 
   function listenToAll() {

@@ -1,9 +1,11 @@
 // On what a value or a goal rests, as the console's `explain` tells it: it is lit, and kept alone by `keep` when one has seen what would go.
-import Terms from "../front/run/terms.mjs";
 import Asking from "../front/protocol/asking.mjs";
-import Talk from "./talk.mjs";
-import Canvas from "./canvas.mjs";
+import Terms from "../front/run/terms.mjs";
 import Answers from "./answers.mjs";
+import Canvas from "./canvas.mjs";
+import Deeds from "./deeds.mjs";
+import Elements from "./elements.mjs";
+import Talk from "./talk.mjs";
 
 const Resting = (() => {
   const { find, make, goTo } = Elements;
@@ -21,7 +23,7 @@ const Resting = (() => {
 
   /** Rings all that would go if a value or a goal were to stand alone, and asks once more. */
   async function askKeep(name) {
-    Menus.close();
+    Deeds.closeMenu();
     const { run } = Talk, { graph } = run, told = await Talk.ask(`explain ${name}`);
     if (told === null || run !== Talk.run) return;
     const { numbers, last } = told.slice;
@@ -32,9 +34,9 @@ const Resting = (() => {
     const isIn = new Uint8Array(graph.count), gone = { size: graph.count - numbers.length, has: (number) => isIn[graph.indexOf(number)] === 0 };
     for (const number of numbers) isIn[graph.indexOf(number)] = 1;
     const does = make("button", { class: "danger", disabled: gone.size === 0 }, gone.size === 0 ? "Nothing would go" : `Take back ${gone.size}`);
-    does.addEventListener("click", () => { Menus.close(); Talk.send(`keep ${name}`); });
+    does.addEventListener("click", () => { Deeds.closeMenu(); Talk.send(`keep ${name}`); });
     Canvas.choose(null);
-    Menus.openWith([make("div", { class: "menu-title" }, make("b", null, `Keep what ${name} rests on`)),
+    Deeds.openMenuWith([make("div", { class: "menu-title" }, make("b", null, `Keep what ${name} rests on`)),
       make("p", null, `It rests on ${plural(numbers.length, "step")} of ${graph.count}. The ringed ${plural(gone.size, "step")} would be taken back; redo brings them again.`),
       make("div", { class: "buttons" }, does, make("button", { "data-close": true }, "Leave it"))], find("store"));
     Canvas.ring(gone);

@@ -1,12 +1,14 @@
 // The panel of the store: each value in parts that one can click, which lights the steps that gave them.
-import Terms from "../front/run/terms.mjs";
-import Explain from "../front/run/explain.mjs";
 import Asking from "../front/protocol/asking.mjs";
+import Explain from "../front/run/explain.mjs";
+import Terms from "../front/run/terms.mjs";
 import Printed from "../front/text/printed.mjs";
-import Talk from "./talk.mjs";
-import Overview from "./overview.mjs";
-import Canvas from "./canvas.mjs";
 import Answers from "./answers.mjs";
+import Canvas from "./canvas.mjs";
+import Deeds from "./deeds.mjs";
+import Elements from "./elements.mjs";
+import Overview from "./overview.mjs";
+import Talk from "./talk.mjs";
 
 const Store = (() => {
   const { find, make, goTo, fillRows } = Elements;
@@ -72,7 +74,7 @@ const Store = (() => {
   const unmark = () => { for (const one of find("store").querySelectorAll(".part.told")) one.classList.remove("told"); };
 
   function show() {
-    const { values, bindings } = rows(), all = [...values, ...bindings].slice(0, MOST_ROWS), before = Panels.timeRows();
+    const { values, bindings } = rows(), all = [...values, ...bindings].slice(0, MOST_ROWS), before = Deeds.timeRows();
     const left = values.length + Overview.run().graph.binders.size - all.length;
     const words = all.length === 0 ? "nothing is bound" : left > 0 ? `and ${left} more` : "";
     const more = { key: null, does: () => make(all.length === 0 ? "span" : "div", { class: "dim" }, words) };

@@ -1,0 +1,11 @@
+// What is looked at, and how: state of the page that changes no run.
+const Shown = {
+  by: "record", // the order of the picture: `record`, or `depth` of causes
+  theme: "light",
+  zoom: 1,
+  isFit: false, // whether all of the run is in the window
+  chosen: null, // `{ step }` or `{ goal }`
+  slice: null, // the steps on which something rests that was explained: `{ isIn, count }`, by their places in the record
+};
+
+export default Shown;
