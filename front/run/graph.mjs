@@ -47,34 +47,37 @@ const Graph = (() => {
   }
 
   const PARTS = 251; // a prime number, so that all parts grow alike
+  const EMPTY = new Map(); // the parts in which nothing was put yet
 
   /** A map by numbers (and a few other keys) in many parts: a large one grows at once by a small part alone, and so never stands still for long. */
   class PartedMap {
     constructor() {
-      this.parts = Array.from({ length: PARTS }, () => new Map());
+      this.parts = Array(PARTS).fill(EMPTY);
       this.size = 0;
     }
 
-    partOf(key) {
-      return this.parts[typeof key === "number" ? key % PARTS : 0];
+    placeOf(key) {
+      return typeof key === "number" ? key % PARTS : 0;
     }
 
     get(key) {
-      return this.partOf(key).get(key);
+      return this.parts[this.placeOf(key)].get(key);
     }
 
     has(key) {
-      return this.partOf(key).has(key);
+      return this.parts[this.placeOf(key)].has(key);
     }
 
     set(key, value) {
-      const part = this.partOf(key), before = part.size;
+      const place = this.placeOf(key);
+      if (this.parts[place] === EMPTY) this.parts[place] = new Map();
+      const part = this.parts[place], before = part.size;
       part.set(key, value);
       this.size += part.size - before;
     }
 
     delete(key) {
-      if (this.partOf(key).delete(key)) this.size -= 1;
+      if (this.parts[this.placeOf(key)].delete(key)) this.size -= 1;
     }
   }
 
@@ -131,11 +134,16 @@ const Graph = (() => {
     }
   }
 
+  const PLACES = 0x100000; // places that a key which is a number can tell
+
+  /** A goal's name as a key: a number where its place allows that. */
+  const keyOfGoal = (maker, place) => (place < PLACES ? maker * PLACES + place : `${maker}.${place}`);
+
   /** A variable as a key: a number where its place allows that. Another term is its own key. */
   function keyOfVariable(variable) {
     if (!variable.startsWith("_")) return variable;
     const bar = variable.indexOf("_", 1), place = Number(variable.slice(bar + 1));
-    return place < 0x100000 ? Number(variable.slice(1, bar)) * 0x100000 + place : variable;
+    return place < PLACES ? Number(variable.slice(1, bar)) * PLACES + place : variable;
   }
 
   /**
@@ -545,7 +553,8 @@ const Graph = (() => {
   }
 
   return {
-    readClauses, graphOf, partOf, MADE, READ, NAMED, WOKE, allCauses, allEffects, whyLines, tidyOrder, RunGraph, causesReached, effectsReached, NONE,
+    readClauses, graphOf, partOf, MADE, READ, NAMED, WOKE, allCauses, allEffects, whyLines, tidyOrder, RunGraph, causesReached, effectsReached, keyOfGoal, PartedMap,
+    NONE,
   };
 })();
 

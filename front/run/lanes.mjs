@@ -14,11 +14,25 @@ const Lanes = (() => {
 
   const SORTS = ["call", "unification", "assignment", "stream", "stream"]; // of the goal of a step, by the step's kind
 
+  const finish = (parts) => { while (!parts.next().done); };
+
+  const keyOfName = (name) => Graph.keyOfGoal(...Printed.nameParts(name));
+
   const named = new WeakMap();
 
-  /** Goals by their names, which are found once for each list of goals. */
-  function goalsByName(goals) {
-    if (!named.has(goals)) named.set(goals, new Map(goals.map((goal) => [goal.name, goal])));
+  /** Finds goals by their names, once for each list of goals; yields after each goal. */
+  function* gatherNames(goals) {
+    const byKey = new Graph.PartedMap();
+    for (const goal of goals) {
+      byKey.set(keyOfName(goal.name), goal);
+      yield 0;
+    }
+    named.set(goals, byKey);
+  }
+
+  /** Goals by the keys of their names. */
+  function goalsByKey(goals) {
+    if (!named.has(goals)) finish(gatherNames(goals));
     return named.get(goals);
   }
 
@@ -26,16 +40,16 @@ const Lanes = (() => {
   class GoalKinds {
     constructor(run) {
       this.run = run;
-      this.there = new Map();
+      this.there = new Graph.PartedMap();
       this.consumed = new Map();
     }
 
-    /** The kind of a goal that is there. */
-    ofThere(name) {
-      const goal = goalsByName(this.run.goals).get(name);
+    /** The kind of a goal that is there, by its key. */
+    ofThere(key) {
+      const goal = goalsByKey(this.run.goals).get(key);
       if (goal === undefined) return undefined;
-      if (!this.there.has(name)) this.there.set(name, { sort: goal.sort, predicate: goal.sort === "call" ? Printed.predicateOf(goal.text) : null });
-      return this.there.get(name);
+      if (!this.there.has(key)) this.there.set(key, { sort: goal.sort, predicate: goal.sort === "call" ? Printed.predicateOf(goal.text) : null });
+      return this.there.get(key);
     }
 
     /** The kind of the goal that a step consumed. */
@@ -47,7 +61,7 @@ const Lanes = (() => {
 
     at(maker, place) {
       const index = this.run.graph.consumerAt(maker, place);
-      return index === undefined || index === Graph.NONE ? this.ofThere(`${maker}.${place}`) : this.ofConsumer(index);
+      return index === undefined || index === Graph.NONE ? this.ofThere(Graph.keyOfGoal(maker, place)) : this.ofConsumer(index);
     }
 
     get(name) {
@@ -271,7 +285,7 @@ const Lanes = (() => {
     const lanes = new RunLanes(), kinds = new GoalKinds(run);
     lanes.beginQuery(queryPlaces(run));
     while (lanes.ofStep.length < run.graph.count) lanes.add(run.graph, kinds);
-    for (const parts = lanes.number(); !parts.next().done;);
+    finish(lanes.number());
     return lanes;
   }
 
@@ -431,11 +445,15 @@ const Lanes = (() => {
   const MOST_TAKEN = 3; // steps that are shown beside their goal
   const taken = new WeakMap(); // by lists of steps that were taken back: those of each goal that is there
 
-  /** Finds the steps that were taken back from each of some goals, by name; yields after each step. */
+  /** Finds the steps that were taken back from each of some goals; yields after each step. */
   function* gatherTaken(shelf, goals) {
-    const byGoal = new Map(goals.map((goal) => [goal.name, []]));
+    const there = goalsByKey(goals), byGoal = new Graph.PartedMap();
     for (const step of shelf) {
-      if (byGoal.has(step.goal)) byGoal.get(step.goal).push(step);
+      const key = step.goal === null ? null : keyOfName(step.goal);
+      if (key !== null && there.has(key)) {
+        if (!byGoal.has(key)) byGoal.set(key, []);
+        byGoal.get(key).push(step);
+      }
       yield 0;
     }
     taken.set(shelf, byGoal);
@@ -443,8 +461,8 @@ const Lanes = (() => {
 
   /** The last steps that were taken back from a goal that is there. */
   function takenFrom(run, goal) {
-    if (!taken.has(run.shelf)) for (const parts = gatherTaken(run.shelf, run.goals); !parts.next().done;);
-    return (taken.get(run.shelf).get(goal.name) || []).slice(-MOST_TAKEN);
+    if (!taken.has(run.shelf)) finish(gatherTaken(run.shelf, run.goals));
+    return (taken.get(run.shelf).get(keyOfName(goal.name)) || []).slice(-MOST_TAKEN);
   }
 
   /** About how much room the goals that are there take up, with their labels, what was taken back from them, and the arcs of waits. */
@@ -565,7 +583,7 @@ const Lanes = (() => {
     return view;
   }
 
-  return { layout, lanesOf, lanesIn, foldsOf, RunLanes, GoalKinds, queryPlaces, gatherTaken, shortName };
+  return { layout, lanesOf, lanesIn, foldsOf, RunLanes, GoalKinds, queryPlaces, gatherNames, gatherTaken, shortName };
 })();
 
 export default Lanes;

@@ -35,6 +35,7 @@ const RunModel = (() => {
         yield* this.add(lines);
       }
       this.goals = yield* this.inParts(look.goals, Replies.readGoals);
+      yield* this.often(Lanes.gatherNames(this.goals));
       this.goalsRefused = look.goalsRefused;
       if (this.goals.some(({ status }) => status === "waits")) yield* this.often(Stuck.study(this.goals));
       yield* this.addLanes();

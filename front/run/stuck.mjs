@@ -107,28 +107,46 @@ const Stuck = (() => {
     return `${start}nobody can bind it (only ${namesOf(others, statusOf)})`;
   }
 
+  /** The goals that wait, by their names; yields after each goal. */
+  function* waitingByName(goals) {
+    const waiting = new Map();
+    for (const goal of goals) {
+      if (goal.status === "waits") waiting.set(goal.name, goal);
+      yield null;
+    }
+    return waiting;
+  }
+
   /**
    * The circles that a search from each goal along what it waits for comes upon, each by the names of its goals in
-   * order; null after each goal from which it has searched.
+   * order; null after each goal that it has come to or left.
    */
   function* circlesIn(goals) {
-    const waits = waitsAmong(goals), waiting = new Map(waitingIn(goals).map((goal) => [goal.name, goal]));
+    const waits = waitsAmong(goals), waiting = yield* waitingByName(goals);
     const done = new Set(), places = new Map();
-    const leave = (name) => places.delete(name) && done.add(name);
+    function* leave(way, depth) {
+      while (way.length > depth) {
+        const name = way.pop();
+        places.delete(name);
+        done.add(name);
+        yield null;
+      }
+    }
     for (const [start, goal] of waiting) {
       const way = [], left = waits.isHelped(goal) ? [[start, 0]] : [];
       while (left.length > 0) {
         const [name, depth] = left.pop();
-        while (way.length > depth) leave(way.pop());
+        yield* leave(way, depth);
         const at = places.get(name);
         if (at !== undefined) yield way.slice(at);
         if (at !== undefined || done.has(name)) continue;
         places.set(name, way.length);
         way.push(name);
+        yield null;
         const next = waits.of(waiting.get(name)).flatMap(({ binders }) => binders.first);
         for (const other of next) if (waiting.has(other.name)) left.push([other.name, way.length]);
       }
-      way.forEach(leave);
+      yield* leave(way, 0);
       yield null;
     }
   }
