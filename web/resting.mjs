@@ -12,12 +12,13 @@ const Resting = (() => {
   const MOST_LINKS = 12;
   const plural = (count, word) => `${count} ${word}${count === 1 ? "" : "s"}`;
 
-  /** Lights the steps of a reply to `explain`, and tells what stands in front of them and where another clause could be chosen. */
-  function tell(name, { head, numbers, others, last }) {
+  /** Lights the steps of a reply to `explain`, and tells what stands in front of them, on which clauses it rests and where another one could be chosen. */
+  function tell(name, slice) {
+    const { head, numbers, others, last } = slice, rests = Asking.clausesTold(slice, Talk.run.clauses.length);
     Canvas.showSlice(numbers, others.map(([step]) => step));
     const choices = others.slice(0, MOST_LINKS).flatMap(([step, clauses], index) => [index > 0 ? "; " : "", "step ", goTo(step), " by ",
       ...clauses.flatMap((clause, at) => [at > 0 ? ", " : "", make("button", { class: "link", "data-try": `${step} ${clause}`, title: `keeps this run beside; roll ${step}, then the goal by clause ${clause}` }, String(clause))])]);
-    Answers.put(false, make("code", null, `explain ${name}`), " ", ...head.slice(0, MOST_LINKS).flatMap((line, index) => [index > 0 ? ", " : "", ...Elements.linkedLine(Terms.cut(line, 160))]), `, ${last}. `,
+    Answers.put(false, make("code", null, `explain ${name}`), " ", ...head.slice(0, MOST_LINKS).flatMap((line, index) => [index > 0 ? ", " : "", ...Elements.linkedLine(Terms.cut(line, 160))]), `, ${last}. `, rests === undefined ? "" : `It ${rests}. `,
       ...(choices.length > 0 ? ["Another clause could be chosen (ringed): ", ...choices, others.length > MOST_LINKS ? ` and ${others.length - MOST_LINKS} more.` : "."] : []));
   }
 

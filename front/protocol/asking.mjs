@@ -4,6 +4,7 @@ import Short from "./short.mjs";
 
 const Asking = (() => {
   const MOST_LETTERS = 500000; // of the goals' texts that are asked for at once
+  const MOST_CLAUSES = 12; // that are named
 
   /** The replies to several lines: all at once where the session can do that. */
   const replies = (session, lines) => (session.lines ? session.lines(lines) : lines.map((line) => session.line(line)));
@@ -58,22 +59,35 @@ const Asking = (() => {
   }
 
   /**
-   * What a reply to `explain` tells: the lines in front of its steps, the steps' numbers, the other clauses by which some of them could go
-   * (pairs of a number and clauses), and its last line.
+   * What a reply to `explain` tells: the lines in front of its steps, the steps' numbers, the clauses by which they went, the other clauses
+   * by which some of them could go (of each its number, the clauses and its goal), and its last line.
    */
   function sliceIn(lines) {
-    const head = [], numbers = [], others = [];
+    const head = [], numbers = [], clauses = new Set(), others = [];
     for (const line of lines) {
       const step = Replies.readExplained(line);
       if (step !== null) numbers.push(step.number);
       else if (numbers.length === 0) head.push(line);
-      if (step !== null && step.others.length > 0) others.push([step.number, step.others]);
+      if (step === null) continue;
+      if (step.clause !== null) clauses.add(step.clause);
+      if (step.others.length > 0) others.push([step.number, step.others, step.goal]);
     }
-    return { head, numbers: Float64Array.from(numbers), others, last: lines[lines.length - 1] || "" };
+    const sorted = [...clauses].sort((one, other) => one - other);
+    return { head, numbers: Float64Array.from(numbers), clauses: sorted, others, last: lines[lines.length - 1] || "" };
+  }
+
+  /**
+   * On which of a program's clauses a slice rests, in words; nothing where it has no step, or the program no clause. In any program that
+   * has these clauses, at their numbers, the steps of the slice do what they did.
+   */
+  function clausesTold({ numbers, clauses }, count) {
+    if (numbers.length === 0 || count === 0) return undefined;
+    const named = clauses.length > MOST_CLAUSES ? [...clauses.slice(0, MOST_CLAUSES), ".."] : clauses;
+    return `rests on ${clauses.length || "none"} of ${count} clause${count === 1 ? "" : "s"}${named.length > 0 ? `: ${named.join(", ")}` : ""}`;
   }
 
   return {
-    variablesOf, queryVariables, besideRecord, whereItStands, addCalls, textOfGoal, completeTexts, sliceIn,
+    variablesOf, queryVariables, besideRecord, whereItStands, addCalls, textOfGoal, completeTexts, sliceIn, clausesTold,
   };
 })();
 

@@ -1,4 +1,5 @@
 // What the terminal adds after a reply: why it was refused and what would help, what a stop means, and the names of variables.
+import Asking from "../protocol/asking.mjs";
 import Causes from "../text/causes.mjs";
 import Choices from "./choices.mjs";
 import Printed from "../text/printed.mjs";
@@ -230,13 +231,12 @@ function namesOfAll(session, reply) {
   return named.length === 0 ? [] : [some(named.map(labelOf(session))).join(", ")];
 }
 
-/** After an explanation: variables by the names of the text, and at which steps another clause could be taken. */
+/** After an explanation: variables by the names of the text, the clauses on which it rests, and at which steps another could be taken. */
 function afterExplain(session, reply) {
-  const steps = reply.map(Replies.readExplained).filter((step) => step !== null && step.others.length > 0);
-  const lines = steps.map(({ number, goal, others: [first, ...more] }) => {
-    return `another clause than step ${number} took: roll ${number}, step ${goal} ${first}${more.length > 0 ? ` (or ${more.join(", ")})` : ""}`;
-  });
-  return [...namesOfFirst(session, reply), ...some(lines)];
+  const slice = Asking.sliceIn(reply), rests = Asking.clausesTold(slice, session.clauses.length);
+  const lines = slice.others.map(([number, [first, ...more], goal]) =>
+    `another clause than step ${number} took: roll ${number}, step ${goal} ${first}${more.length > 0 ? ` (or ${more.join(", ")})` : ""}`);
+  return [...namesOfFirst(session, reply), ...(rests === undefined ? [] : [rests]), ...some(lines)];
 }
 
 /** After `keep`: what the last line counts. */

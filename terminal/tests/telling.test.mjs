@@ -43,7 +43,7 @@ async function begin() {
 test("the console answers, and the terminal adds what helps", async () => {
   const { front, type } = await begin();
   await type("leap");
-  assert.deepStrictEqual(await type("explain T"), [...EXPLAINED, "% another clause than step 2 took: roll 2, step 1.1 3"]);
+  assert.deepStrictEqual(await type("explain T"), [...EXPLAINED, "% rests on 2 of 3 clauses: 1, 2", "% another clause than step 2 took: roll 2, step 1.1 3"]);
   assert.deepStrictEqual((await type("explain P")).slice(0, 2), ["% sent: explain _1_1", "_1_1 = 120"]);
   assert.deepStrictEqual(await type("goal 2."), ["% sent: goal 2", "2 1.1 by 2 price(12,_1_1)", "% by clause 2: price(N,P) :- N > 0 | P := N * 10.", "% with N = 12, P = 120"]);
   assert.deepStrictEqual(await type("goal 99"), ["F16 not a kept step", "% records lists the kept steps"]);

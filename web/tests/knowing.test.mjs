@@ -4,6 +4,7 @@ import test from "node:test";
 import Asking from "../../front/protocol/asking.mjs";
 import Explain from "../../front/run/explain.mjs";
 import Graph from "../../front/run/graph.mjs";
+import Reader from "../../front/text/reader.mjs";
 import RunModel from "../../front/run/run_model.mjs";
 import Told from "../../front/protocol/told.mjs";
 import WorkerSide from "../../front/session/worker_side.mjs";
@@ -77,27 +78,52 @@ test("what was told of a record is added to, taken from, and compared with the w
   assert.deepEqual([kept, new TextDecoder().decode(come), told.count], [1, line(4), 2]);
 });
 
-test("what a reply to `explain` tells: its head, its steps, the other clauses, and how many there are", () => {
+test("what a reply to `explain` tells: its head, its steps, their clauses, the other clauses, and how many there are", () => {
   const lines = ["T = 150", "_1_1 in 4.3 ready", "1 0.1 by 1 reads - binds - makes 1.1,1.2,1.3", "2 1.1 by 2 reads - binds - makes 2.1 or 3", "3 - ask p(X) reads - binds - makes 3.1", "13 6.2 by 9 reads _0_1 binds _0_2=f(a) makes - or 9,10", "steps 4 of 6"];
-  const { head, numbers, others, last } = Asking.sliceIn(lines);
-  assert.deepEqual([head, [...numbers], others, last], [lines.slice(0, 2), [1, 2, 3, 13], [[2, [3]], [13, [9, 10]]], "steps 4 of 6"]);
+  const slice = Asking.sliceIn(lines), { head, numbers, clauses, others, last } = slice;
+  assert.deepEqual([head, [...numbers], clauses, last], [lines.slice(0, 2), [1, 2, 3, 13], [1, 2, 9], "steps 4 of 6"]);
+  assert.deepEqual(others, [[2, [3], "1.1"], [13, [9, 10], "6.2"]]);
+  assert.equal(Asking.clausesTold(slice, 40), "rests on 3 of 40 clauses: 1, 2, 9");
   assert.deepEqual(Asking.sliceIn(["F23 no variable"]).head, ["F23 no variable"]);
+  assert.equal(Asking.clausesTold(Asking.sliceIn(["F23 no variable"]), 40), undefined);
 });
 
-test("what a value rests on gives the same value when `keep` has taken all the rest back, and nothing else is left", async () => {
-  let kept = 0;
+test("which clauses a slice used: none where a query's unification did all, and the first twelve of many", () => {
+  const told = (lines, count) => Asking.clausesTold(Asking.sliceIn(lines), count);
+  assert.equal(told(["X = 1", "1 0.1 eq reads - binds _0_1=1 makes -", "steps 1 of 1"], 1), "rests on none of 1 clause");
+  assert.equal(told(["X = 1", "1 - ask p(by 7 q) reads - binds - makes 1.1", "2 1.1 by 4 reads - binds - makes -", "steps 2 of 2"], 9), "rests on 1 of 9 clauses: 4");
+  assert.equal(told(["X = _0_1", "steps 0 of 3"], 2), undefined);
+  assert.equal(told(["X = 1", "1 0.1 eq reads - binds _0_1=1 makes -", "steps 1 of 1"], 0), undefined);
+  const many = Array.from({ length: 14 }, (_, at) => `${at + 1} 0.${at + 1} by ${14 - at} reads - binds - makes -`);
+  assert.equal(told([...many, "steps 14 of 14"], 20), "rests on 14 of 20 clauses: 1, 2, 3, 4, 5, 6, 7, 8, 9, 10, 11, 12, ..");
+});
+
+/** A program with the clauses of these numbers, and in the place of each other one a clause of its predicate that does nothing. */
+function withOnly(program, numbers) {
+  const used = new Set(numbers), blank = ({ name, arity }) => `${name}${arity > 0 ? `(${Array(arity).fill("_").join(",")})` : ""} :- true | true.`;
+  return Reader.readProgram(program).map((clause) => (used.has(clause.number) ? clause.text : blank(clause))).join("\n");
+}
+
+test("what a value rests on gives the same value when `keep` has taken all the rest back, and in any program that has its clauses", async () => {
+  const { engine } = await engineOfPage();
+  let kept = 0, again = 0;
   await eachPlay((play, session, run) => {
     const [[name] = []] = [...Asking.queryVariables(play.query)];
     const before = name === undefined ? ["F23"] : session.line(`show ${name}`);
     if (/^F\d/.test(before[0]) || run.graph.count === 0 || run.graph.count > 400) return;
-    const { numbers, head, last } = Asking.sliceIn(session.line(`explain ${name}`));
+    const { numbers, clauses, head, last } = Asking.sliceIn(session.line(`explain ${name}`));
     assert.deepEqual([head[0], last], [before[0], `steps ${numbers.length} of ${run.graph.count}`], play.name);
     assert.equal(session.line(`keep ${name}`).at(-1), `kept ${numbers.length}`, play.name);
     assert.deepEqual(session.line(`show ${name}`), before, play.name);
     assert.deepEqual(Replies.readRecords(session.line("records")).map((step) => step.number), [...numbers], play.name);
     kept += 1;
+    const history = session.line("save 1");
+    if (history[0].startsWith("F6")) return; // where goals were asked for
+    const other = engine.open({ program: withOnly(play.program, clauses), query: play.query, history: `${history.join("\n")}\n` });
+    assert.deepEqual(other.line(`show ${name}`), before, play.name);
+    again += 1;
   });
-  assert.ok(kept > 80, `${kept} runs`);
+  assert.ok(kept > 80 && again > 80, `${kept} runs, ${again} by another program`);
 });
 
 test("the page follows `keep` of a value and of a goal", async () => {
