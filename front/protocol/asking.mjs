@@ -50,7 +50,7 @@ const Asking = (() => {
     let letters = 0;
     for (const step of steps.filter(({ goal }) => goal !== null && !texts.has(goal))) {
       if (letters > MOST_LETTERS) return false;
-      const text = textOfGoal(session.line(`goal ${step.number}`), step);
+      const text = textOfGoal(session.line(`goal ${step.number}`));
       if (text === undefined) continue;
       letters += text.length;
       texts.set(step.goal, Short.term(text));

@@ -3,6 +3,13 @@ import Limits from "./limits.mjs";
 import Printed from "../text/printed.mjs";
 
 const Replies = (() => {
+  /**
+   * @typedef {import("../types").Step} Step
+   * @typedef {import("../types").ShortStep} ShortStep
+   * @typedef {import("../types").Goal} Goal
+   * @typedef {import("../types").Reply} Reply
+   */
+
   const { numbersOf, splitOutside, variablesIn } = Printed;
 
   /** Is the line a refusal? `F1 = 2` is none: it tells the value of a variable. */
@@ -45,7 +52,10 @@ const Replies = (() => {
 
   const NONE_AT_ALL = Object.freeze([]);
 
-  /** A step as its line tells it, of the number, the goal and the act; null where that is no step. An ask consumes no goal: its `goal` is null. */
+  /**
+   * A step as its line tells it, of the number, the goal and the act; null where that is no step. An ask consumes no goal: its `goal` is null.
+   * @returns {Step | null}
+   */
   function readStep(number, goal, act) {
     const kind = kindOf(act);
     if (kind === undefined || !/^\d+$/.test(number) || !/^(\d+\.\d+|-)$/.test(goal)) return null;
@@ -61,7 +71,11 @@ const Replies = (() => {
   /** The bindings of a record line, each as a text: none of a term has a semicolon but between brackets. */
   const bindingsIn = (bound) => (bound.indexOf(";") < 0 ? [bound] : splitOutside(bound, ";"));
 
-  /** A step of a line such as `3 0.1 by 2 reads _0_1 binds - makes 3.1,3.2`; null where it is none. */
+  /**
+   * A step of a line such as `3 0.1 by 2 reads _0_1 binds - makes 3.1,3.2`; null where it is none.
+   * @param {string} line
+   * @returns {Step | null}
+   */
   function readRecord(line) {
     const places = placesIn(line), first = line.indexOf(" "), second = line.indexOf(" ", first + 1);
     if (places === null || second < 0 || second >= places.reads) return null;
@@ -75,7 +89,10 @@ const Replies = (() => {
     return step;
   }
 
-  /** The steps of the reply to `records`, in recorded order. */
+  /**
+   * The steps of the reply to `records`, in recorded order.
+   * @type {(lines: Reply) => Step[]}
+   */
   const readRecords = (lines) => lines.map(readRecord).filter(Boolean);
 
   /** A record line with each binding changed by a function of its variable's sign and its term. */
@@ -104,14 +121,21 @@ const Replies = (() => {
     return number;
   }
 
-  /** The steps of the reply to `shelf`. */
+  /**
+   * The steps of the reply to `shelf`.
+   * @type {(lines: Reply) => ShortStep[]}
+   */
   const readShelf = (lines) => lines.map((line) => /^(\d+) (\S+) (.+)$/.exec(line)).filter(Boolean)
     .map(([, number, goal, act]) => readStep(number, goal, act)).filter(Boolean);
 
   /** What a step consumes and does, in words: `goal 1.1 by 2`, or the act alone where it consumes no goal. */
   const wordsOf = (step) => (step.goal === null ? step.act : `goal ${step.goal} ${step.act}`);
 
-  /** A goal of a line such as `1.3 waits _1_1 p(_1_1)`; null where it is none. */
+  /**
+   * A goal of a line such as `1.3 waits _1_1 p(_1_1)`; null where it is none.
+   * @param {string} line
+   * @returns {Goal | null}
+   */
   function readGoal(line) {
     const found = /^(\d+\.\d+) (ready|waits (\S+)|failed (\S+)|stream) (.*)$/.exec(line);
     if (!found) return null;
@@ -122,7 +146,10 @@ const Replies = (() => {
     };
   }
 
-  /** The goals of the reply to `goals`. */
+  /**
+   * The goals of the reply to `goals`.
+   * @type {(lines: Reply) => Goal[]}
+   */
   const readGoals = (lines) => lines.map(readGoal).filter(Boolean);
 
   /** What stands in front of the goal's text in a line that tells one. */
@@ -130,7 +157,11 @@ const Replies = (() => {
 
   const REDU = /^REDU (\d+) (\d+\.\d+|-) (.+)$/, CALL = /^CALL (\d+\.\d+) (.*)$/, UNDONE = /^undone ([\d,]+)$/;
 
-  /** The step of a line such as `REDU 1 0.1 by 2`; null where it is none. */
+  /**
+   * The step of a line such as `REDU 1 0.1 by 2`; null where it is none.
+   * @param {string} line
+   * @returns {ShortStep | null}
+   */
   function readTaken(line) {
     const found = REDU.exec(line);
     return found && readStep(found[1], found[2], found[3]);

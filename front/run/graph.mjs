@@ -158,11 +158,20 @@ const Graph = (() => {
       this.binders = new PartedMap(); // by variable
       this.queryConsumers = new Map(); // by place in the query
       this.kinds = new Numbers(Uint8Array);
-      for (const name of ["numbers", "makers"]) this[name] = new Numbers(Float64Array); // of the step, and of what made its goal
-      for (const name of ["clauses", "places", "depths", "deepest", "firstMade", "firstCause", "lastEffect"]) this[name] = new Numbers(Int32Array);
+      this.numbers = new Numbers(Float64Array); // of the step
+      this.makers = new Numbers(Float64Array); // of what made its goal
+      this.clauses = new Numbers(Int32Array);
+      this.places = new Numbers(Int32Array);
+      this.depths = new Numbers(Int32Array);
+      this.deepest = new Numbers(Int32Array);
+      this.firstMade = new Numbers(Int32Array);
+      this.firstCause = new Numbers(Int32Array);
+      this.lastEffect = new Numbers(Int32Array);
       this.consumers = new Numbers(Int32Array); // for each goal that was made: the index of the step that consumed it
-      for (const name of ["from", "to", "effectBefore"]) this[name] = new Numbers(Int32Array); // for each edge
-      this.hows = new Numbers(Uint8Array); // for each edge: made, read or named, and whether it woke
+      this.from = new Numbers(Int32Array); // for each edge, as the next three
+      this.to = new Numbers(Int32Array);
+      this.effectBefore = new Numbers(Int32Array);
+      this.hows = new Numbers(Uint8Array); // made, read or named, and whether it woke
       this.forget();
       const accessor = (of) => ({ get: (number) => (this.indexes.has(number) ? of(this.indexes.get(number)) : undefined), has: (number) => this.indexes.has(number) });
       this.byNumber = accessor((index) => this.stepAt(index));

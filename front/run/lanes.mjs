@@ -81,6 +81,7 @@ const Lanes = (() => {
   /** Lanes in their order, among which others are put; `before` of the ring itself is its end. */
   class Ring {
     constructor() {
+      /** @type {any} a lane, or the ring itself */
       this.next = this;
       this.previous = this;
     }
@@ -312,6 +313,7 @@ const Lanes = (() => {
   /**
    * The lanes of some steps of a run, from one index up to another, each with its steps and the goals that are there, of all lanes of the
    * run, which are numbered. `foldOf` gives the lane that a lane is folded into, or null.
+   * @param {(lane: any) => any} foldOf
    */
   function lanesIn(run, whole, from, to, goals, foldOf = () => null) {
     const { graph } = run, kinds = new GoalKinds(run), parts = new Map(), laneOf = new Map();

@@ -89,6 +89,7 @@ const CheckerCauses = (() => {
   /**
    * What a variable is that stands twice in a head, in the arguments at these places: a result where a body binds one that
    * it is, a part of one where it stands within, a test where bodies bind others alone; undefined where nothing tells.
+   * @returns {{ role?: string, place?: number }}
    */
   function roleOf(clauses, { head, predicate }, name, places) {
     const binders = bindersOf(clauses), right = boundFromRight(clauses, predicate);
@@ -101,7 +102,12 @@ const CheckerCauses = (() => {
 
   const NO_EQUALITY = "other terms have no test of equality: write a clause for each value";
 
-  /** The cures of a variable that stands twice in a clause's head, by what it is. */
+  /**
+   * The cures of a variable that stands twice in a clause's head, by what it is.
+   * @param {object[]} clause its tokens
+   * @param {string} name
+   * @param {{ role?: string, place?: number }} what
+   */
   function curesOf(clause, name, { role, place }) {
     const other = Cures.newName(name, clause), head = clause.slice(0, Tokens.endOfCall(clause, 0) + 1);
     const value = Cures.textOf(head.map((token) => (token.text === name ? { text: "a" } : token)));

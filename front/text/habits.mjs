@@ -3,6 +3,7 @@ const Habits = (() => {
   const COMMENT = ["/* .. */ is no comment here", "a comment begins with % and ends with its line"];
 
   // Marks, by how the text goes on at the place of the refusal: `[pattern, what is said, what to write instead ..]`.
+  /** @type {[RegExp, string, string][]} */
   const MARKS = [
     [/^\/\//, "// is neither a comment nor an operator here", "a comment begins with %; integer division is /, the remainder mod"],
     [/^[“”„‘’]/u, "curly quotes are not of the language", "write an atom without quotes, as hello"],

@@ -47,6 +47,10 @@ const Printed = (() => {
   /**
    * Where the chain of a term's bindings ends, in any form of terms: `boundTo` gives what a variable is bound to, and undefined for all
    * other terms. `pass` is told each variable on the way.
+   * @template T
+   * @param {T} term
+   * @param {(term: T) => T | undefined} boundTo
+   * @param {(variable: T) => void} pass
    */
   function endOfChain(term, boundTo, pass = () => {}) {
     let end = term;

@@ -217,7 +217,11 @@ const Reader = (() => {
     return { goals: body.filter(({ sort }) => sort !== "true"), variables: variablesOfGoals(body) };
   }
 
-  /** The term that a text is. Throws a SyntaxError where it is none, or something stands after the term. */
+  /**
+   * The term that a text is. Throws a SyntaxError where it is none, or something stands after the term.
+   * @param {string} text
+   * @returns {import("../types").Term}
+   */
   function readTerm(text) {
     const reading = new Reading(text), term = reading.term(), { kind, line, column } = reading.next;
     if (kind !== "end") throw new SyntaxError(`the term ends before ${line}:${column}`);
