@@ -63,7 +63,9 @@ const Asking = (() => {
    * by which some of them could go (of each its number, the clauses and its goal), and its last line.
    */
   function sliceIn(lines) {
-    const head = [], numbers = [], clauses = new Set(), others = [];
+    const head = [], numbers = [], clauses = new Set();
+    /** @type {[number, readonly number[], string][]} */
+    const others = [];
     for (const line of lines) {
       const step = Replies.readExplained(line);
       if (step !== null) numbers.push(step.number);
