@@ -28,12 +28,12 @@ NATIVE = PROGRAM or str(ROOT / "crates/ghcdb/out/ghcdb")
 CONSOLE = [NATIVE] if os.access(NATIVE, os.X_OK) else ["node", str(ROOT / "web" / "console")]
 
 # A program, its query, a line that is answered first, and the lines that are broken off. The first is a loop with a
-# variable that nobody binds, the second makes terms whose copies stand in each other: looking through these takes
-# very long.
+# variable that nobody binds, the second makes two closed terms whose copies stand in each other, and then equal:
+# comparing these takes very long.
 COUNTING = ("p(N,_) :- true | M := N + 1, p(M,_).\n", "p(0,X)", "leap 3000",
             ["leap 30000", "leap 900", "step", "back 60", "watch X", "roll 2000", "records",
              "save {file}", "save {file}", "save 1 {file}"])
-DOUBLED = ("d(0,T,R) :- true | R = T.\nd(N,V,R) :- N > 0 | M := N - 1, d(M,f(V,V),R).\n", "d(40,V,Y), W = 1", "leap 79",
+DOUBLED = ("d(0,T,S) :- true | T = S.\nd(N,T,S) :- N > 0 | M := N - 1, d(M,f(T,T),f(S,S)).\n", "d(40,a,a), W = 1", "leap 79",
            ["leap 900", "step", "leap", "stat", "save {file}"])
 WAYS: list = ["^C", "^C", "^C", "close", signal.SIGTERM, signal.SIGHUP, signal.SIGKILL]
 MOST_WAIT = 0.25  # seconds from a line to the moment
