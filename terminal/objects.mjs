@@ -42,7 +42,7 @@ const explainedStep = (record, textOf) => ({ ...step(record, textOf), ...(record
 function explanation(reply, textOf) {
   const [first] = reply, of = Replies.readExtent(reply.at(-1)), [subject] = Replies.readGoals([first]);
   const steps = reply.map(Replies.readExplained).filter(Boolean).map((record) => explainedStep(record, textOf));
-  return { ...(subject ? { goal: goal(subject) } : Replies.readValue(first)), holders: reply.map(Replies.readHolder).filter(Boolean), steps, ...(of && { of }) };
+  return { ...(subject ? { goal: goal(subject) } : Replies.readValue(first)), holders: reply.map(Replies.readHolder).filter(Boolean), steps, ...(of !== undefined && { of }) };
 }
 
 /** A direct dependence: the step, and what `why` tells of it. */

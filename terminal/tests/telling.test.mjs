@@ -109,6 +109,8 @@ test("their replies as objects", () => {
   const explained = objectOf("explain Ps", ["Ps = [2|_4_1]", "_4_1 in 4.3 ready", `${RECORDS[1]} or 3,4`, "steps 1 of 12"], textOf);
   assert.deepStrictEqual([explained.variable, explained.value, explained.holders, explained.of], ["Ps", "[2|_4_1]", [{ variable: "_4_1", goal: "4.3", status: "ready" }], 12]);
   assert.deepStrictEqual(explained.steps.map((step) => [step.step, step.text, step.others]), [[2, "goal 1.1", [3, 4]]]);
+  assert.deepStrictEqual(objectOf("explain T", ["T = _0_1", "_0_1 in 0.1 ready", "steps 0 of 0"], textOf), { command: "explain T", ok: true, variable: "T", value: "_0_1",
+    holders: [{ variable: "_0_1", goal: "0.1", status: "ready" }], steps: [], of: 0 });
   const goal = objectOf("explain 1.3", ["1.3 waits _1_1 _0_1 := _1_1 + 30", "_1_1 in 1.1 ready", RECORDS[0], "steps 1 of 3"], textOf);
   assert.deepStrictEqual([goal.goal.goal, goal.goal.waitsFor, goal.steps.length], ["1.3", ["_1_1"], 1]);
   assert.deepStrictEqual(objectOf("causes", CAUSES, textOf).dependences.slice(5), [{ step: 6, on: 3, kind: "read", variable: "_1_1" }, { step: 6, on: 5, kind: "read", variable: "_1_2", woke: true }]);
