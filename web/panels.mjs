@@ -1,4 +1,5 @@
 // Fills what stands around the picture: console, goals, store, what was taken back, the chosen step, and how many there are.
+import Asking from "../front/protocol/asking.mjs";
 import Replies from "../front/protocol/replies.mjs";
 import Explain from "../front/run/explain.mjs";
 import Graph from "../front/run/graph.mjs";

@@ -1,4 +1,4 @@
-// Which module imports which: an arrow goes down only, none goes in a circle, and no product imports a test.
+// Which module imports which: each all that it names, an arrow goes down only, none goes in a circle, and no product imports a test.
 import assert from "node:assert";
 import fs from "node:fs";
 import path from "node:path";
@@ -21,6 +21,9 @@ function importsOf(file) {
   return [...text.matchAll(/(?:^|[\s(])(?:from|import\(?) *"(\.[^"]+)"/g)].map(([, name]) => path.posix.join(path.posix.dirname(file), name));
 }
 
+/** What a module says besides its comments and texts. */
+const codeOf = (file) => fs.readFileSync(path.join(ROOT, file), "utf8").replace(/\/\/.*|\/\*[^]*?\*\/|"(?:[^"\\\n]|\\.)*"/g, "");
+
 const arrows = new Map(files.map((file) => [file, importsOf(file)]));
 const isTest = (file) => file.includes("/tests/");
 const layerOf = (file) => LAYERS.findIndex((layer) => file.startsWith(`${layer}/`));
@@ -29,6 +32,17 @@ const products = files.filter((file) => !isTest(file));
 test("each import names a module that is there", () => {
   assert.ok(files.length > 100);
   for (const [file, others] of arrows) for (const other of others) assert.ok(arrows.has(other), `${file} imports ${other}`);
+});
+
+test("each module imports the modules that it names", () => {
+  const exported = (code) => /^export default (\w+);/m.exec(code)?.[1];
+  const names = new Set(products.map((file) => exported(codeOf(file))).filter(Boolean));
+  assert.ok(names.size > 50);
+  for (const file of products) {
+    const code = codeOf(file), known = new Set([...code.matchAll(/^import (?:\* as )?(\w+)|\b(?:const|class) (\w+)/gm)].map(([, imported, own]) => imported ?? own));
+    const lacking = [...code.matchAll(/(?<!\w|[\w)\]]\.)([A-Z]\w+)\.\w/g)].map(([, name]) => name).filter((name) => names.has(name) && !known.has(name));
+    assert.deepStrictEqual(lacking, [], file);
+  }
 });
 
 test("no product imports a test", () => {
