@@ -1,9 +1,8 @@
 // Where a run stops: at a clause, at a predicate, where a variable is bound, and where goals fail or wait. The console stops a run at a
 // predicate alone (`spy`); the rest is found out at each such stop.
-
-// The filters of exceptions that an editor may set.
 import { fits } from "./options.mjs";
 
+// The filters of exceptions that an editor may set.
 const FILTERS = [{ filter: "stuck", label: "Goals wait, and none is ready", default: true }];
 
 class Breakpoints {

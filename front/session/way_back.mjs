@@ -6,7 +6,6 @@ import Replies from "../protocol/replies.mjs";
 const AT_ONCE = 1000; // lines that are played again at once
 const LIGHT = 1000; // so many lines of replies are soon told again, however short the history is
 
-
 /** Is a history whole? */
 const isWhole = (history) => !history.includes(Replies.NO_MEMORY);
 
