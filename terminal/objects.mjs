@@ -52,7 +52,7 @@ function dependence(line) {
 }
 
 /** The goal that a step took, as it was written then. */
-const taken = ({ number, name, act, text }) => ({ step: number, goal: name, act, text });
+const taken = ({ number, goal: name, act, text }) => ({ step: number, goal: name, act, text });
 
 /** What a clause says to a goal. */
 const choice = ({ number, says, waitsFor }) => ({ clause: number, says, ...(waitsFor.length > 0 && { waitsFor }) });

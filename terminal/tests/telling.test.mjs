@@ -114,7 +114,8 @@ test("their replies as objects", () => {
   const goal = objectOf("explain 1.3", ["1.3 waits _1_1 _0_1 := _1_1 + 30", "_1_1 in 1.1 ready", RECORDS[0], "steps 1 of 3"], textOf);
   assert.deepStrictEqual([goal.goal.goal, goal.goal.waitsFor, goal.steps.length], ["1.3", ["_1_1"], 1]);
   assert.deepStrictEqual(objectOf("causes", CAUSES, textOf).dependences.slice(5), [{ step: 6, on: 3, kind: "read", variable: "_1_1" }, { step: 6, on: 5, kind: "read", variable: "_1_2", woke: true }]);
-  assert.deepStrictEqual([objectOf("goal 2", ["2 1.1 by 2 price(12,_1_1)"], textOf).text, objectOf("goal 7", ["7 - ask p(X)"], textOf).act], ["price(12,_1_1)", "ask p(X)"]);
+  assert.deepStrictEqual(objectOf("goal 2", ["2 1.1 by 2 price(12,_1_1)"], textOf), { command: "goal 2", ok: true, step: 2, goal: "1.1", act: "by 2", text: "price(12,_1_1)" });
+  assert.deepStrictEqual(objectOf("goal 7", ["7 - ask p(X)"], textOf), { command: "goal 7", ok: true, step: 7, goal: null, act: "ask p(X)", text: null });
   assert.deepStrictEqual(objectOf("clauses 1.2", ["2 waits _1_1,_1_2", "3 no"], textOf).clauses, [{ clause: 2, says: "waits", waitsFor: ["_1_1", "_1_2"] }, { clause: 3, says: "no" }]);
   assert.deepStrictEqual(objectOf("since 5", RECORDS.slice(4), textOf).steps.map(({ step }) => step), [5, 6]);
   assert.deepStrictEqual(objectOf("keep T", ["undone 1,2", "kept 4"], textOf), { command: "keep T", ok: true, ports: [], undone: [1, 2], told: "kept 4" });
