@@ -2,7 +2,7 @@
 // Made by tools/make-commands of crates/ghc_term/src/fault.rt and refusals.table.
 const Refusals = {
   F1: "a growth found no memory; the session goes on",
-  F2: "a text is not of its grammar; both count from 1, the column in bytes; look at that line and column",
+  F2: "a text is not of its grammar; look at that line and column",
   F3: "a guard is no predefined test on the head's variables; write tests of variables of the head alone before the " +
     "bar",
   F4: "a variable stands twice in a head; name one of the two otherwise",

@@ -180,7 +180,7 @@ def read_refusals(root):
     if list(cures) != numbers:
         raise Wrong(f"{CURES} has not the numbers of {tables.FAULT}: {sorted(set(cures) ^ set(numbers))}")
     for (name, number, text, reason) in faults:
-        means = lowered(re.split(r"(?<=\.) ", reason)[0])
+        means = lowered(re.split(r"(?<=\.) |; ", reason)[0])
         yield f"F{number}", tables.shown_text(name, text), means, cures[f"F{number}"]
 
 
