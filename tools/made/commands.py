@@ -77,14 +77,14 @@ def rows_in(root, name, count):
 
 
 def read_groups(root):
-    """The commands, those together that --help tells in one line."""
+    """The commands, those together that --help tells in one line, by the words of the first."""
     found: list[list[Row]] = []
     for form, effect, follows, tells, more in rows_in(root, TABLE, 5):
         if effect not in EFFECTS or follows.removesuffix(" ..") not in FOLLOWS:
             raise Wrong(f"{TABLE}: {form} has {effect!r} or {follows!r} where another word belongs")
         if form.startswith("& "):
             first = found[-1][0]
-            found[-1].append(Row(form[2:], effect, follows, first.tells, first.more))
+            found[-1].append(Row(form[2:], effect, follows, tells or first.tells, more or first.more))
         else:
             found.append([Row(form, effect, follows, tells, more)])
     return found
