@@ -1,5 +1,7 @@
 -- A search along variables alone: which ones were seen, and of how many of them the values were looked into.
-use Rattle.ghc_term.proofs.Words.{◌≡◌, ℕ, zero, suc, ◌+◌, List, [], ◌∷◌, ◌++◌, take, slice_get, refl, sym, ap, ◌∙◌, subst, inl, inr, ◌⊎◌, ◌↔◌, arith, Option, Some, None, VarName, Tree, variable, Occurs, In, Reaches, here, through}
+use Rattle.ghc_term.proofs.Words.{◌≡◌, ℕ, zero, suc, ◌+◌, List, [], ◌∷◌, ◌++◌, take, slice_get, refl, sym, ap, ◌∙◌, subst, inl, inr, ◌⊎◌, ◌↔◌, arith, Option, Some, None, VarName, Tree, variable, Occurs, In, Reaches, here, through, length, AreKnown}
+use Rattle.ghc_term.specs.inner.Walking.{StandsIn, AreFirstKnown, Walking}
+use Rattle.std.proofs.Math.Seq.{take-append_seam}
 use Rattle.ghc_term.specs.inner.Seen.{StandsInValue}
 use Rattle.ghc_term.specs.inner.KeptList.{Gathers}
 use Rattle.ghc_term.proofs.ListsLemmas.{in_at}
@@ -94,3 +96,22 @@ module _ {T : VarName → Option Tree} {to : VarName} {from : Tree} where
 
   pub finished : (seen : List VarName) (n : ℕ) → slice_get seen n ≡ None → Far T to from seen n → ¬ Reaches T from to
   finished seen n e f = closed_under seen (λ x i. f.next x (subst (In x) (sym (all_taken seen n e)) i)) f.first
+
+-- known variables: what stands in the open trees is added, then the values of the variables that are new, one after another
+module _ {T : VarName → Option Tree} where
+  pub open_added : (old new : List VarName) (open_ones : List Tree) → Walking T old open_ones → Gathers (λ y. StandsIn y open_ones) old new → AreFirstKnown T (length old) new
+  open_added old new open_ones w a x i y s =
+      let front : take (length old) new ≡ old = ap (take (length old)) a.0.1 ∙ take-append_seam old a.0.0 in
+      (a.1 y).1 (w x (subst (In x) front i) s.0 s.1 y s.2)
+
+  pub value_added : (known known' : List VarName) (n : ℕ) (x : VarName) → slice_get known n ≡ Some x → Gathers (StandsInValue (T x)) known known' → AreFirstKnown T n known → AreFirstKnown T (n + 1) known'
+  value_added known known' n x g a w =
+      let at : slice_get known' n ≡ Some x = ap (λ l. slice_get l n) a.0.1 ∙ get_left known a.0.0 n x g in
+      let front : take n known' ≡ take n known = ap (take n) a.0.1 ∙ take_left known a.0.0 n x g in
+      λ z i y s. elim (in_next known' n x at z i) [
+        | inl j ↦ (a.1 y).1 (inl (w z (subst (In z) front j) y s))
+        | inr e ↦ (a.1 y).1 (inr (subst (λ v. StandsInValue (T v) y) e s))
+      ]
+
+  pub all_known : (known : List VarName) (n : ℕ) → slice_get known n ≡ None → AreFirstKnown T n known → AreKnown T known
+  all_known known n e w x i t b y o = w x (subst (In x) (sym (all_taken known n e)) i) y (t, b, o)

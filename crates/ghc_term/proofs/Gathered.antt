@@ -1,9 +1,10 @@
 -- How variables are gathered in a list.
-use Rattle.ghc_term.proofs.Words.{◌≡◌, ℕ, ◌+◌, ◌<◌, ◌↔◌, List, [], ◌∷◌, ◌++◌, length, get_or, take, take_more, take_all, append-nil, append_assoc, refl, sym, ap, ◌∙◌, subst, inl, inr, ◌⊎◌, Bool, true, false, IsTrue, Result, Ok, Err, IfOk, VarName, Tree, variable, integer, node, Trees, none, more, trees, Occurs, OccursIn, In, var_inj}
+use Rattle.ghc_term.proofs.Words.{◌≡◌, ℕ, ◌+◌, ◌<◌, ◌↔◌, List, [], ◌∷◌, ◌++◌, length, get_or, take, take_more, take_all, map, map-append, append-nil, append_assoc, refl, sym, ap, ◌∙◌, subst, inl, inr, ◌⊎◌, Bool, true, false, IsTrue, Result, Ok, Err, IfOk, VarName, Tree, variable, integer, node, Trees, none, more, trees, Occurs, OccursIn, In, Bor, var_inj}
+use Rattle.ghc_term.specs.inner.Walking.{StandsIn}
 use Rattle.ghc_term.specs.Variables.{variables, variables_of_all}
 use Rattle.ghc_term.specs.inner.KeptList.{numbered, IsTold, IsListOf, GoesOn, Gathers}
 use Rattle.ghc_term.proofs.ListsLemmas.{in_left, in_right, in_either, in_last, in_more, next_in}
-use Rattle.ghc_term.proofs.Searching.{StandsIn, stands_left, stands_right, stands_last, occurs_among, among_occurs}
+use Rattle.ghc_term.proofs.Searching.{stands_left, stands_right, stands_last, occurs_among, among_occurs}
 
 -- the variables of a tree, as a list, are those that stand in it
 mutual
@@ -179,3 +180,23 @@ module _ {P : VarName → Type 0} where
       λ o. elim ((g.same x).0 o) [ inl i ↦ i | inr s ↦ absurd s.1 ],
     ),
   )
+
+-- the variables of the first trees, and of one more
+pub next_stood : (ts : List (Bor Tree)) (i : ℕ) (d : Bor Tree) (old mid new : List VarName) → i < length ts
+    → Gathers (λ y. StandsIn y (map (λ t. t.now) (take i ts))) old mid → Gathers (λ y. Occurs y (get_or ts i d).now) mid new → Gathers (λ y. StandsIn y (map (λ t. t.now) (take (i + 1) ts))) old new
+next_stood ts i d old mid new h a b =
+    let t = (get_or ts i d).now in
+    let first = map (λ (b : Bor Tree). b.now) (take i ts) in
+    let all : map (λ (b : Bor Tree). b.now) (take (i + 1) ts) ≡ first ++ t ∷ [] = ap (map (λ (b : Bor Tree). b.now)) (take_more ts i d h) ∙ map-append (λ (b : Bor Tree). b.now) (take i ts) (get_or ts i d ∷ []) in (
+      goes_on old mid new a.0 b.0,
+      λ y. (
+        λ j. elim ((b.1 y).0 j) [
+          | inl m ↦ elim ((a.1 y).0 m) [ inl o ↦ inl o | inr s ↦ inr (subst (StandsIn y) (sym all) (stands_left first (t ∷ []) y s)) ]
+          | inr o ↦ inr (t, subst (In t) (sym all) (in_last first t), o)
+        ],
+        λ o. (b.1 y).1 (elim o [
+          | inl p ↦ inl ((a.1 y).1 (inl p))
+          | inr s ↦ elim (stands_last first t y (subst (StandsIn y) all s)) [ inl f ↦ inl ((a.1 y).1 (inr f)) | inr q ↦ inr q ]
+        ]),
+      ),
+    )

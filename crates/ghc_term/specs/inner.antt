@@ -24,3 +24,4 @@ pub mod Shown
 pub mod VariableList
 pub mod VariableMap
 pub mod View
+pub mod Walking

@@ -1,7 +1,8 @@
 // The variables of a term. What stands in many places is looked into once, as far as a part keeps its variables.
-ghost use Rattle.std.specs.Prelude.{OnOk, IfOk};
+ghost use Rattle.std.specs.Prelude.{OnOk, IfOk, map};
 ghost use Rattle.ghc_term.specs.Tree.{Occurs};
 ghost use Rattle.ghc_term.specs.inner.KeptList.{Gathers};
+ghost use Rattle.ghc_term.specs.inner.Walking.{StandsIn};
 
 use crate::kept::add_one;
 use crate::overlay::push_all;
@@ -98,6 +99,20 @@ pub(crate) fn add_variables(
 {
     keep_in_parts(alloc, term)?;
     gather(alloc, term, into)
+}
+
+// Adds the variables of the terms to the list.
+pub(crate) fn add_variables_of_all(
+    alloc: Global,
+    terms: &[&Term],
+    into: &mut VariableList,
+) -> Result<(), AllocError>
+    ensures { OnOk result (Gathers (λ y. StandsIn y (map (λ t. t.now) terms.now)) into.old into.new) }
+{
+    for term in terms {
+        add_variables(alloc, term, into)?;
+    }
+    Ok(())
 }
 
 impl Term {

@@ -14,7 +14,7 @@ use std::alloc::AllocError;
 // The variables that stand in a structure.
 #[derive(Drop)]
 pub(crate) struct Listed {
-    variables: Vec<VarName>,
+    variables: Box<Vec<VarName>>,
 }
 
 impl Fits for Listed {
@@ -22,7 +22,7 @@ impl Fits for Listed {
 
     type Tag = Tag;
 
-    ghost fits = { λ tag l. IsListOf tag.numbers l.variables.items };
+    ghost fits = { λ tag l. IsListOf tag.numbers l.variables.value.items };
 }
 
 // How the variables of arguments are told.
@@ -90,7 +90,7 @@ pub(crate) fn add_kept(
 
 // Adds the variables of the list.
 fn add_listed(listed: &Listed, into: &mut VariableList) -> Result<bool, AllocError>
-    ensures { IfOk result (λ found. (found ≡ true) × Gathers (λ y. In y listed.now.variables.items) into.old into.new) }
+    ensures { IfOk result (λ found. (found ≡ true) × Gathers (λ y. In y listed.now.variables.value.items) into.old into.new) }
 {
     add_each(listed.variables.as_slice(), into)?;
     Ok(true)
@@ -100,6 +100,9 @@ fn add_listed(listed: &Listed, into: &mut VariableList) -> Result<bool, AllocErr
 pub(crate) fn keep(kept: &Counted<Option<Listed>>, variables: Vec<VarName>)
     requires { IsListOf kept.now.numbers variables.items }
 {
+    let Ok(variables) = Box::new(*variables.allocator(), variables) else {
+        return;
+    };
     let (found, claim) = kept.turn(0, 3);
     if found != 0 {
         claim.done();

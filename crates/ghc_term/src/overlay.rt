@@ -3,10 +3,11 @@ ghost use Rattle.std.specs.Prelude.{◌≡◌, ◌↔◌, [], ◌++◌, map, IfO
 ghost use Rattle.ghc_term.specs.Bindings.{IsAcyclic, Leads, Reaches};
 ghost use Rattle.ghc_term.specs.Tree.{variable};
 ghost use Rattle.ghc_term.specs.inner.Known.{AreKnown, AreKnownBut};
+ghost use Rattle.ghc_term.specs.inner.Walking.{AreFirstKnown, Walking};
 ghost use Rattle.ghc_term.specs.Store.{value_at, with_bindings};
 
 use crate::bindings::Bindings;
-use crate::gathering::add_variables;
+use crate::gathering::{add_variables, add_variables_of_all};
 use crate::store::Store;
 use crate::table::variable_list::VariableList;
 use crate::term::Term;
@@ -14,7 +15,7 @@ use crate::var_name::VarName;
 use crate::view::TermView;
 use std::alloc::{AllocError, Global};
 
-// How many structures a search goes through as they are written, before it looks at their variables alone.
+// How many structures a walk goes through as they are written, before it looks at their variables alone.
 const MOST_PLAIN: u32 = 4096;
 
 /// A store with some bindings in front of it, in which no value reaches its own variable.
@@ -239,8 +240,42 @@ impl<'a> Overlay<'a> {
         Ok(())
     }
 
+    // Adds to the known variables all that the values of those from the place on reach: the value of each once.
+    fn learn_values(
+        &self,
+        alloc: Global,
+        from: usize,
+        known: &mut VariableList,
+    ) -> Result<(), AllocError>
+        requires { AreFirstKnown (value_in self.now) from known.old }
+        ensures { OnOk result (AreKnown (value_in self.now) known.new) }
+    {
+        for index in from..usize::MAX {
+            let Some(x) = name_at(known, index) else {
+                return Ok(());
+            };
+            self.add_those_of_value(alloc, x, known)?;
+        }
+        Err(AllocError)
+    }
+
+    // The rest of a walk of `learn`, along variables alone, each of them once, where parts of terms may stand in many places.
+    fn learn_far(
+        &self,
+        alloc: Global,
+        waiting: &[&Term],
+        known: &mut VariableList,
+    ) -> Result<(), AllocError>
+        requires { Walking (value_in self.now) known.old (map (λ t. t.now) waiting.now) }
+        ensures { OnOk result (AreKnown (value_in self.now) known.new) }
+    {
+        let count = known.as_slice().len();
+        add_variables_of_all(alloc, waiting, known)?;
+        self.learn_values(alloc, count, known)
+    }
+
     // Adds to the known variables all that the value of the variable reaches, where only this one of them may have been bound since they
-    // were known: one step for each part of the values that were not gone through.
+    // were known: one step for each part of the values that were not gone through, up to a limit, and then one for each variable.
     pub(crate) fn learn(
         &self,
         alloc: Global,
@@ -251,6 +286,7 @@ impl<'a> Overlay<'a> {
         ensures { OnOk result (AreKnown (value_in self.now) known.new) }
     {
         let mut waiting = Vec::new(alloc);
+        let mut left = MOST_PLAIN;
         self.open_value(x, &mut waiting)?;
         while let Some(term) = waiting.pop() {
             if term.is_closed() {
@@ -258,7 +294,13 @@ impl<'a> Overlay<'a> {
             }
             match term.view() {
                 TermView::Var(y) => self.see(y, known, &mut waiting)?,
-                TermView::Struct(_, arguments) => push_all(arguments, &mut waiting)?,
+                TermView::Struct(_, arguments) => {
+                    push_all(arguments, &mut waiting)?;
+                    if left == 0 {
+                        return self.learn_far(alloc, waiting.as_slice(), known);
+                    }
+                    left -= 1;
+                }
                 _ => {}
             }
         }
