@@ -11,6 +11,7 @@ pub mod Picking
 pub mod Comparing
 pub mod Deleting
 pub mod Slicing
+pub mod Parting
 pub mod Sourcing
 pub mod Following
 pub mod Causes

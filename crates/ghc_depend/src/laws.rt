@@ -1,5 +1,6 @@
 // Laws about the definitions, each as the contract of a function.
 ghost use Rattle.ghc_depend.specs.Laws.{OrdersHaveOneAnswer, OrdersAreDecided, ConsequencesHaveOneAnswer, LawOfDeletion, LawfulOrderKeepsReplay, ReplayingOrdersAreLawful, StepsSquare, UndosSquare, UndoAndStepSquare, UndoingEnds, OrdersAreSwaps, ReplaysExtend, NeighboursChangePlaces, UndoKeepsReplay, RollKeepsReplay, GoneComeBack, WithoutStepsIsOne, KeepsIsOne};
+ghost use Rattle.ghc_depend.specs.Parts.{PartsAreParted, PlacesAreAlone, WrongPartsHaveFaults};
 ghost use Rattle.ghc_depend.specs.Slices.{SlicesAreLeast, GoalSlicesAreLeast, SameFromHasTheSameText, ReplayIsOfItsClauses};
 
 /// An order is lawful or has one pair that tells why not, and not both.
@@ -119,4 +120,21 @@ pub fn same_from_has_the_same_text()
 /// which the steps of the slice went, and on no other.
 pub fn replay_is_of_its_clauses()
     ensures { ReplayIsOfItsClauses }
+{}
+
+/// The part of a goal that a step took is that step and the parts of the goals that it made; no step is of two of these.
+pub fn parts_are_parted()
+    ensures { PartsAreParted }
+{}
+
+/// The slice of a place in a value replays alone, with the effects recorded; the variable reaches the place there, which stands for
+/// what it stands for.
+pub fn places_are_alone()
+    ensures { PlacesAreAlone }
+{}
+
+/// *Algorithmic debugging* finds a fault: however goals are judged, the part of a goal that is judged wrong has a step whose goal is
+/// judged wrong, and which made no goal that a step took and that is judged wrong.
+pub fn wrong_parts_have_faults()
+    ensures { WrongPartsHaveFaults }
 {}
