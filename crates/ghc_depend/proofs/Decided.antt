@@ -45,7 +45,7 @@ known_reads b a =
       | inr n ↦ inr (λ r. n (r.0, key_in (finite.entries a.effect.binds) r.0 (ap is_some (sym (finite.get-entries a.effect.binds r.0)) ∙ r.1.1), r.1))
     ]
 
-decided_not : {A : Type 0} → Decided A → Decided (¬ A)
+pub decided_not : {A : Type 0} → Decided A → Decided (¬ A)
 decided_not (inl a) = inr (λ n. n a)
 decided_not (inr n) = inl n
 

@@ -1,5 +1,5 @@
 -- The part of a goal is its step and the parts of what that made; the slice of a place replays alone.
-use Rattle.ghc_depend.proofs.Words.{◌≡◌, ◌⊎◌, ℕ, zero, suc, ◌+◌, ◌≤◌, ◌<◌, Bool, IsTrue, List, [], ◌∷◌, ◌++◌, length, append_assoc, length-append, in_right, some_decided, true_decided, Decided, refl, sym, ap, ◌∙◌, subst, inl, inr, arith, Some, VarName, GoalName, Tree, In, value_at, Option, Program, Query, IsProgram, IsQuery, State, Record, AreDistinct, Replays, Before, before_once, records_distinct, replay_well, MakesGoal, IsBoundIn, IsPartedBy, picks_in, picks_has}
+use Rattle.ghc_depend.proofs.Words.{◌≡◌, ◌⊎◌, ℕ, zero, suc, ◌+◌, ◌≤◌, ◌<◌, Bool, IsTrue, List, [], ◌∷◌, ◌++◌, length, append_assoc, length-append, in_right, some_decided, true_decided, Decided, decided_by, refl, sym, ap, ◌∙◌, subst, inl, inr, arith, Some, VarName, GoalName, Tree, In, value_at, Option, Program, Query, IsProgram, IsQuery, State, Record, AreDistinct, Replays, Before, before_once, records_distinct, replay_well, MakesGoal, IsBoundIn, IsPartedBy, picks_in, picks_has}
 use Rattle.ghc_term.specs.Bindings.{Reaches, here, through}
 use Rattle.ghc_term.specs.Tree.{variable}
 use Rattle.ghc_term.proofs.Chains.{reaches_on}
@@ -8,9 +8,9 @@ use Rattle.ghc_depend.specs.Depend.{Descends, itself, made_by}
 use Rattle.ghc_depend.specs.Slices.{IsCauseOf, root}
 use Rattle.ghc_term.proofs.ListsLemmas.{in_either, in_splits}
 use Rattle.ghc_depend.proofs.Decided.{known_consumed}
-use Rattle.ghc_depend.proofs.Picking.{before_front}
+use Rattle.ghc_depend.proofs.Picking.{before_front, stands_in_front}
 use Rattle.ghc_depend.specs.Parts.{IsAtFault, WrongPartsHaveFaults, IsOfPart, IsPartedByMakes, PartsAreParted, IsOnWay, GavePlace, PlaceIsAlone, PlacesAreAlone}
-use Rattle.ghc_depend.proofs.Finding.{same_value}
+use Rattle.ghc_depend.proofs.Finding.{by_option, goal_or_not, not_both, same_value}
 use Rattle.ghc_depend.proofs.Results.{taken_at, is_old}
 use Rattle.ghc_depend.proofs.Placing.{place_of, in_front, front_in, consumed_once, numbered_once}
 use Rattle.ghc_depend.proofs.Slicing.{doubly, rest_is_closed}
@@ -19,7 +19,7 @@ use Rattle.ghc_depend.proofs.Deleting as deleting
 
 module _ (P : Program) (query : Query) (rs : List Record) (t : State) (replay : Replays P query rs t) where
   -- who takes a goal stands behind who made it
-  behind_maker : (r s : Record) (h : GoalName) → In r rs → In s rs → MakesGoal r h → s.goal ≡ Some h → Before rs r s
+  pub behind_maker : (r s : Record) (h : GoalName) → In r rs → In s rs → MakesGoal r h → s.goal ≡ Some h → Before rs r s
   behind_maker r s h i j m e =
       let p = place_of P query rs t replay s j in
       let there = taken_at P p.state s p.fires h e in
@@ -31,14 +31,54 @@ module _ (P : Program) (query : Query) (rs : List Record) (t : State) (replay : 
       ]
 
   -- and so does who takes what descends from it
-  behind_descent : (r : Record) (h : GoalName) → In r rs → MakesGoal r h → (k : GoalName) → Descends rs h k → (s : Record) → In s rs → s.goal ≡ Some k → Before rs r s
+  pub behind_descent : (r : Record) (h : GoalName) → In r rs → MakesGoal r h → (k : GoalName) → Descends rs h k → (s : Record) → In s rs → s.goal ≡ Some k → Before rs r s
   behind_descent r h i m k itself s j e = behind_maker r s h i j m e
   behind_descent r h i m k (made_by {h = g} q l makes took d) s j e =
       before_on rs r q s (records_distinct rs replay.0.1) (behind_descent r h i m g d q l took) (behind_maker q s k l j makes e)
 
   -- one maker
-  maker_once : (q r : Record) (h : GoalName) → In q rs → In r rs → MakesGoal q h → MakesGoal r h → q ≡ r
+  pub maker_once : (q r : Record) (h : GoalName) → In q rs → In r rs → MakesGoal q h → MakesGoal r h → q ≡ r
   maker_once q r h i j m n = numbered_once P query rs t replay r q j i (sym n.0 ∙ m.0)
+
+  -- Of each step it is known whether it is of the part of a goal: its goal is that goal, or its maker is of the part.
+  module _ (g : GoalName) where
+    made_known : (k : GoalName) (m : Record) → Decided (MakesGoal m k)
+    made_known k m = decided_by (λ p. let same : p.0 ≡ k = cc in subst (MakesGoal m) same p.2) (λ makes. (k, refl, makes)) (known_consumed (Some k) m)
+
+    unmade : (k : GoalName) → ¬ (k ≡ g) → ((m : Record) → In m rs → ¬ MakesGoal m k) → ¬ Descends rs g k
+    unmade k other none itself = other refl
+    unmade k other none (made_by m i makes took d) = none m i makes
+
+    by_maker : (k : GoalName) (m : Record) → In m rs → MakesGoal m k → ¬ (k ≡ g) → Descends rs g k → IsOfPart rs g m
+    by_maker k m i makes other itself = absurd (other refl)
+    by_maker k m i makes other (made_by q j makes' took d) = subst (IsOfPart rs g) (maker_once q m k j i makes' makes) (_, took, d)
+
+    from_maker : (q : Record) (front back : List Record) → rs ≡ front ++ q ∷ back → ((m : Record) → In m front → Decided (IsOfPart rs g m)) → Decided (IsOfPart rs g q)
+    from_maker q front back e in_front = by_option q.goal
+        (λ none. inr (λ p. not_both p.1 none))
+        (λ k took. elim (goal_or_not k g) [
+          | inl same ↦ inl (k, took, subst (Descends rs g) (sym same) itself)
+          | inr other ↦ elim (some_decided rs (λ m. MakesGoal m k) (λ m _. made_known k m)) [
+            | inr none ↦ inr (λ p. unmade p.0 (λ same. other (same_value took p.1 ∙ same)) (λ m i makes. none (m, i, subst (MakesGoal m) (same_value p.1 took) makes)) p.2)
+            | inl m ↦
+                let there : In q rs = subst (In q) (sym e) (in_right front (q ∷ back) q (inl refl)) in
+                let before = stands_in_front rs front back q m.0 (records_distinct rs replay.0.1) e (behind_maker m.0 q k m.1 there m.2 took) in
+                decided_by (λ p. (k, took, made_by m.0 m.1 m.2 p.1 p.2)) (λ p. by_maker k m.0 m.1 m.2 other (subst (Descends rs g) (same_value p.1 took) p.2)) (in_front m.0 before)
+          ]
+        ])
+
+    known_from : (n : ℕ) (q : Record) (front back : List Record) → rs ≡ front ++ q ∷ back → length front ≤ n → Decided (IsOfPart rs g q)
+    known_from zero q front back e l = from_maker q front back e (λ m i.
+        let s = in_splits front m i in
+        let whole : length front ≡ length s.0 + length (m ∷ s.1) = ap length s.2 ∙ length-append s.0 (m ∷ s.1) in
+        absurd (omega arith))
+    known_from (suc n) q front back e l = from_maker q front back e (λ m i.
+        let s = in_splits front m i in
+        let whole : length front ≡ length s.0 + length (m ∷ s.1) = ap length s.2 ∙ length-append s.0 (m ∷ s.1) in
+        known_from n m s.0 (s.1 ++ q ∷ back) (e ∙ ap (λ z. z ++ q ∷ back) s.2 ∙ append_assoc s.0 (m ∷ s.1) (q ∷ back)) (omega arith))
+
+    pub known_part : (q : Record) → In q rs → Decided (IsOfPart rs g q)
+    known_part q i = let s = in_splits rs q i in known_from (length s.0) q s.0 s.1 s.2 (omega arith)
 
   module _ (r : Record) (g : GoalName) (kept_r : In r rs) (took_g : r.goal ≡ Some g) where
     -- what descends from g is g, or descends from what r made
