@@ -1,5 +1,5 @@
 -- A part runs among the other steps from its goal alone and what that was given, and the others see only what it gave.
-use Rattle.ghc_depend.proofs.Words.{◌≡◌, ◌⊎◌, List, [], ◌∷◌, ◌++◌, append_assoc, append-nil, refl, sym, ap, ◌∙◌, subst, inl, inr, arith, Some, None, Option, option_or, is_some, IsTrue, VarName, GoalName, Tree, Goal, In, in_left, in_right, in_more, StoreValue, value_at, Decided, decided_both, decided_by, some_decided, true_decided, effect_local, Program, Query, IsProgram, IsQuery, State, Record, after, without_goal, Fires, Runs, query_state, Replays, Binds, bound_at}
+use Rattle.ghc_depend.proofs.Words.{◌≡◌, List, [], ◌∷◌, ◌++◌, append_assoc, append-nil, refl, sym, ap, ◌∙◌, subst, inl, inr, arith, Some, None, Option, option_or, is_some, IsTrue, VarName, GoalName, Tree, Goal, In, in_left, in_right, in_more, StoreValue, value_at, Decided, decided_both, decided_by, some_decided, true_decided, effect_local, Program, Query, IsProgram, IsQuery, State, Record, after, without_goal, Fires, Runs, query_state, Replays, Binds, bound_at}
 use Rattle.std.specs.FinMap as finite
 use Rattle.std.specs.FinSet as set
 use Rattle.ghc_term.specs.Tree.{variable}
@@ -8,9 +8,9 @@ use Rattle.ghc_term.specs.Store.{with_binds}
 use Rattle.ghc_flat.specs.Variables.{variables_of_goal}
 use Rattle.ghc_unify.proofs.Reached.{reaches_decided}
 use Rattle.ghc_depend.specs.Depend.{Descends, itself, made_by}
-use Rattle.ghc_depend.specs.Parts.{IsOfPart, IsWithinGoal, WasGiven, alone, Gains, RunsAmong, at_end, of_part, of_others, PartRunsAmongOthers, PartsRunAmongOthers, SeesWhatWasGiven, OthersSeeWhatPartsGave}
+use Rattle.ghc_depend.specs.Parts.{IsOfPart, IsWithinGoal, WasGiven, goal_alone, GainsGiven, RunsAmong, at_end, of_part, of_others, PartRunsAmongOthers, PartsRunAmongOthers, SeesWhatPartGave, OthersSeeWhatPartsGave}
 use Rattle.ghc_depend.proofs.Decided.{decided_not}
-use Rattle.ghc_depend.proofs.Finding.{by_option, goal_or_not, makes_at, named_or_not, own, own_made, same_value, not_both, without_it, without_other}
+use Rattle.ghc_depend.proofs.Finding.{by_option, goal_or_not, makes_at, own, own_made, same_value, not_both, without_it, without_other}
 use Rattle.ghc_depend.proofs.Results.{Results, IsUntaken, Taken, bound_by, untaken, of_query, at_first, fires, step_binds, taken}
 use Rattle.ghc_depend.proofs.Placing.{numbered_once, stepped}
 use Rattle.ghc_depend.proofs.Comparing.{bound_value}
@@ -160,7 +160,7 @@ module _ (P : Program) (query : Query) (rs : List Record) (t : State) (accepted 
       given_of : (x : VarName) (u : Tree) → value_at given_part.0 x ≡ Some u → G x × (value_at q.effect.binds x ≡ Some u)
       given_of x u e = narrowed_less G given_known q.effect.binds given_part.0 given_part.1 x u e
 
-      gains : Gains G q v gained
+      gains : GainsGiven G q v gained
       gains = record {
         goals = refl;
         gained = λ x u w e. gained_at x ∙ ap (λ o. option_or o (value_at v.store x)) (given_part.1.0 x w ∙ e);
@@ -224,7 +224,7 @@ module _ (P : Program) (query : Query) (rs : List Record) (t : State) (accepted 
             (w.0, of_others other (gains done behind s v q e h run.0 a other) w.1, subst (λ z. Along z m w.0) one w.2, subst (λ z. Results query z m) one w.3)
       ]
 
-  pub start : Along [] (query_state query) (alone g b)
+  pub start : Along [] (query_state query) (goal_alone g b)
   start = record {
     goals = λ k c e d apart. absurd (first_is_root k c e d apart);
     root = λ n. only_goal g b;
@@ -249,10 +249,10 @@ module _ (P : Program) (query : Query) (rs : List Record) (t : State) (accepted 
 
   pub runs_among : PartRunsAmongOthers P rs t g b
   runs_among =
-      let w = run_on [] rs [] (query_state query) (alone g b) t (sym (append-nil rs)) (at_first query) start replay.1 in
+      let w = run_on [] rs [] (query_state query) (goal_alone g b) t (sym (append-nil rs)) (at_first query) start replay.1 in
       record { end = w.0; runs = w.1; same = ends_alike w.0 w.2 }
 
-  pub sees : (s : Record) → In s rs → ¬ IsOfPart rs g s → SeesWhatWasGiven rs S g b s
+  pub sees : (s : Record) → In s rs → ¬ IsOfPart rs g s → SeesWhatPartGave rs S g b s
   sees s i other = record {
     takes = λ q j part c. other (c.0, c.1, made_by q j c.2 part.1 part.2);
     reads = λ q x j part read.

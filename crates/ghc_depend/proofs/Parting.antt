@@ -1,5 +1,5 @@
 -- The part of a goal is its step and the parts of what that made; the slice of a place replays alone.
-use Rattle.ghc_depend.proofs.Words.{◌≡◌, ◌⊎◌, ℕ, zero, suc, ◌+◌, ◌≤◌, ◌<◌, Bool, IsTrue, List, [], ◌∷◌, ◌++◌, length, append_assoc, length-append, in_right, some_decided, true_decided, Decided, decided_by, refl, sym, ap, ◌∙◌, subst, inl, inr, arith, Some, VarName, GoalName, Tree, In, value_at, Option, Program, Query, IsProgram, IsQuery, State, Record, AreDistinct, Replays, Before, before_once, records_distinct, replay_well, MakesGoal, IsBoundIn, IsPartedBy, picks_in, picks_has}
+use Rattle.ghc_depend.proofs.Words.{◌≡◌, ◌⊎◌, ℕ, zero, suc, ◌+◌, ◌≤◌, ◌<◌, Bool, IsTrue, List, ◌∷◌, ◌++◌, length, append_assoc, length-append, in_right, some_decided, true_decided, Decided, decided_by, refl, sym, ap, ◌∙◌, subst, inl, inr, arith, Some, VarName, GoalName, Tree, In, value_at, Option, Program, Query, IsProgram, IsQuery, State, Record, Replays, Before, before_once, records_distinct, replay_well, MakesGoal, IsBoundIn, IsPartedBy, picks_in, picks_has}
 use Rattle.ghc_term.specs.Bindings.{Reaches, here, through}
 use Rattle.ghc_term.specs.Tree.{variable}
 use Rattle.ghc_term.proofs.Chains.{reaches_on}

@@ -1,9 +1,9 @@
 -- Where a goal does not go in turns, all that does not follow from its part can come first, then the part, then the rest; and the part runs alone.
-use Rattle.ghc_depend.proofs.Words.{◌≡◌, ◌⊎◌, ℕ, List, [], ◌∷◌, ◌++◌, append-nil, refl, sym, ap, ◌∙◌, subst, inl, inr, arith, Some, None, VarName, GoalName, Tree, Goal, In, in_left, in_right, in_either, value_at, name_cmp, Decided, decided_both, decided_by, some_decided, is_some, Program, Query, IsProgram, IsQuery, State, Record, AreDistinct, numbers, number_in, number_of, records_distinct, Runs, query_state, Replays, Before, is_before, before_once, Consumes, DependsOn, Follows, directly, further, Binds, MakesGoal, IsLawful, IsInOrder, Picks}
+use Rattle.ghc_depend.proofs.Words.{◌≡◌, ◌⊎◌, ℕ, List, [], ◌∷◌, ◌++◌, refl, sym, ap, ◌∙◌, subst, inl, inr, Some, VarName, GoalName, Tree, Goal, In, in_left, in_right, in_either, value_at, name_cmp, Decided, decided_both, decided_by, some_decided, is_some, Program, Query, IsProgram, IsQuery, State, Record, AreDistinct, numbers, number_in, number_of, records_distinct, Runs, query_state, Replays, Before, is_before, before_once, DependsOn, Follows, directly, further, Binds, MakesGoal, IsLawful, IsInOrder}
 use Rattle.std.specs.FinMap as finite
 use Rattle.ghc_records.specs.Replay.{Names}
 use Rattle.ghc_depend.specs.Depend.{Descends, itself, made_by}
-use Rattle.ghc_depend.specs.Parts.{IsOfPart, IsWithinGoal, WasGiven, NoAskReachesInto, FollowsFromPart, GoesInTurns, AreInThree, PartsComeTogether, alone, RunsAmong, at_end, of_part, of_others, HasWhatWasGiven, PartRunsAlone, PartsRunAlone}
+use Rattle.ghc_depend.specs.Parts.{IsOfPart, IsWithinGoal, WasGiven, FollowsFromPart, GoesInTurns, AreInThree, PartsComeTogether, goal_alone, RunsAmong, at_end, of_part, of_others, PartRunsAlone, PartsRunAlone}
 use Rattle.ghc_depend.proofs.Arranging.{arranged}
 use Rattle.ghc_depend.proofs.Among as among
 use Rattle.ghc_depend.proofs.Comparing.{bound_value}
@@ -70,10 +70,10 @@ module _ (P : Program) (query : Query) (rs : List Record) (t : State) (accepted 
   no_maker : (a : Record) → In a rs → ¬ IsOfPart rs g a → FollowsFromPart rs g a → (h : GoalName) → MakesGoal a h → ¬ Descends rs g h
   no_maker a i other f h makes itself =
       let first : Before rs a r = behind_maker P query rs t replay a r g i call.kept makes call.took in
-      let behind : Before rs f.0 a = follows_behind rs f.0 a distinct f.3 in
+      let later : Before rs f.0 a = follows_behind rs f.0 a distinct f.3 in
       elim (root_first f.0 f.1 f.2) [
-        | inl same ↦ before_once rs a r distinct first (subst (λ z. Before rs z a) same behind)
-        | inr before ↦ before_once rs a r distinct first (before_on rs r f.0 a distinct before behind)
+        | inl same ↦ before_once rs a r distinct first (subst (λ z. Before rs z a) same later)
+        | inr before ↦ before_once rs a r distinct first (before_on rs r f.0 a distinct before later)
       ]
   no_maker a i other f h makes (made_by m j makes' took d) = other (subst (IsOfPart rs g) (maker_once P query rs t replay m a h j i makes' makes) (_, took, d))
 
@@ -91,76 +91,76 @@ module _ (P : Program) (query : Query) (rs : List Record) (t : State) (accepted 
         | inr (inr n) ↦ names_nothing c n.0 k.1 part n.1.0
       ]
 
-  module _ (ahead part behind : List Record) (three : AreInThree rs g ahead part behind) where
+  module _ (first part later : List Record) (three : AreInThree rs g first part later) where
     abbrev pub new : List Record
-    new = ahead ++ (part ++ behind)
+    new = first ++ (part ++ later)
 
-    of_ahead : (q : Record) → In q ahead → In q rs × ((¬ IsOfPart rs g q) × (¬ FollowsFromPart rs g q))
-    of_ahead q i = picks_in rs ahead q three.is_ahead i
+    in_first : (q : Record) → In q first → In q rs × ((¬ IsOfPart rs g q) × (¬ FollowsFromPart rs g q))
+    in_first q i = picks_in rs first q three.is_first i
 
-    of_part' : (q : Record) → In q part → In q rs × IsOfPart rs g q
-    of_part' q i = picks_in rs part q three.is_part i
+    in_part : (q : Record) → In q part → In q rs × IsOfPart rs g q
+    in_part q i = picks_in rs part q three.is_part i
 
-    of_behind : (q : Record) → In q behind → In q rs × ((¬ IsOfPart rs g q) × FollowsFromPart rs g q)
-    of_behind q i = picks_in rs behind q three.is_behind i
+    in_later : (q : Record) → In q later → In q rs × ((¬ IsOfPart rs g q) × FollowsFromPart rs g q)
+    in_later q i = picks_in rs later q three.is_later i
 
-    class : (q : Record) → In q rs → In q ahead ⊎ (In q part ⊎ In q behind)
+    class : (q : Record) → In q rs → In q first ⊎ (In q part ⊎ In q later)
     class q i = elim (picks_has rs part q three.is_part i) [
       | inl p ↦ inr (inl p)
-      | inr n ↦ elim (picks_has rs behind q three.is_behind i) [
+      | inr n ↦ elim (picks_has rs later q three.is_later i) [
         | inl k ↦ inr (inr k)
-        | inr m ↦ elim (picks_has rs ahead q three.is_ahead i) [ inl k ↦ inl k | inr o ↦ absurd (o (n, λ f. m (n, f))) ]
+        | inr m ↦ elim (picks_has rs first q three.is_first i) [ inl k ↦ inl k | inr o ↦ absurd (o (n, λ f. m (n, f))) ]
       ]
     ]
 
     pub in_new : (q : Record) → In q rs → In q new
     in_new q i = elim (class q i) [
-      | inl j ↦ in_left ahead (part ++ behind) q j
-      | inr (inl j) ↦ in_right ahead (part ++ behind) q (in_left part behind q j)
-      | inr (inr j) ↦ in_right ahead (part ++ behind) q (in_right part behind q j)
+      | inl j ↦ in_left first (part ++ later) q j
+      | inr (inl j) ↦ in_right first (part ++ later) q (in_left part later q j)
+      | inr (inr j) ↦ in_right first (part ++ later) q (in_right part later q j)
     ]
 
     pub of_new : (q : Record) → In q new → In q rs
-    of_new q i = elim (in_either ahead (part ++ behind) q i) [
-      | inl j ↦ (of_ahead q j).0
-      | inr j ↦ elim (in_either part behind q j) [ inl k ↦ (of_part' q k).0 | inr k ↦ (of_behind q k).0 ]
+    of_new q i = elim (in_either first (part ++ later) q i) [
+      | inl j ↦ (in_first q j).0
+      | inr j ↦ elim (in_either part later q j) [ inl k ↦ (in_part q k).0 | inr k ↦ (in_later q k).0 ]
     ]
 
     new_distinct : AreDistinct (numbers new)
-    new_distinct = distinct_both ahead (part ++ behind) (picks_distinct rs ahead three.is_ahead replay.0.1)
-        (distinct_both part behind (picks_distinct rs part three.is_part replay.0.1) (picks_distinct rs behind three.is_behind replay.0.1) (λ x y i j e.
-        let p = of_part' x i in
-        let q = of_behind y j in
+    new_distinct = distinct_both first (part ++ later) (picks_distinct rs first three.is_first replay.0.1)
+        (distinct_both part later (picks_distinct rs part three.is_part replay.0.1) (picks_distinct rs later three.is_later replay.0.1) (λ x y i j e.
+        let p = in_part x i in
+        let q = in_later y j in
         q.1.0 (subst (IsOfPart rs g) (sym (numbered_once P query rs t replay x y p.0 q.0 e)) p.1)))
         (λ x y i j e.
-        let p = of_ahead x i in
-        elim (in_either part behind y j) [
-          | inl k ↦ let q = of_part' y k in p.1.0 (subst (IsOfPart rs g) (numbered_once P query rs t replay x y p.0 q.0 e) q.1)
-          | inr k ↦ let q = of_behind y k in p.1.1 (subst (FollowsFromPart rs g) (numbered_once P query rs t replay x y p.0 q.0 e) q.1.1)
+        let p = in_first x i in
+        elim (in_either part later y j) [
+          | inl k ↦ let q = in_part y k in p.1.0 (subst (IsOfPart rs g) (numbered_once P query rs t replay x y p.0 q.0 e) q.1)
+          | inr k ↦ let q = in_later y k in p.1.1 (subst (FollowsFromPart rs g) (numbered_once P query rs t replay x y p.0 q.0 e) q.1.1)
         ])
 
     in_time : (c a : Record) → DependsOn rs c a → Before new a c
     in_time c a d =
         let k = ends rs c a d in
         let before = is_before rs a c d.0 in
-        let rest = part ++ behind in
+        let rest = part ++ later in
         elim (class a k.0) [
           | inl i ↦ elim (class c k.1) [
-            | inl j ↦ before_left ahead rest a c (picks_keep rs ahead a c distinct three.is_ahead i j before)
-            | inr (inl j) ↦ before_across ahead rest a c i (in_left part behind c j)
-            | inr (inr j) ↦ before_across ahead rest a c i (in_right part behind c j)
+            | inl j ↦ before_left first rest a c (picks_keep rs first a c distinct three.is_first i j before)
+            | inr (inl j) ↦ before_across first rest a c i (in_left part later c j)
+            | inr (inr j) ↦ before_across first rest a c i (in_right part later c j)
           ]
           | inr (inl i) ↦ elim (class c k.1) [
-            | inl j ↦ absurd ((of_ahead c j).1.1 (a, k.0, (of_part' a i).1, directly d))
-            | inr (inl j) ↦ before_right ahead rest a c (before_left part behind a c (picks_keep rs part a c distinct three.is_part i j before))
-            | inr (inr j) ↦ before_right ahead rest a c (before_across part behind a c i j)
+            | inl j ↦ absurd ((in_first c j).1.1 (a, k.0, (in_part a i).1, directly d))
+            | inr (inl j) ↦ before_right first rest a c (before_left part later a c (picks_keep rs part a c distinct three.is_part i j before))
+            | inr (inr j) ↦ before_right first rest a c (before_across part later a c i j)
           ]
           | inr (inr i) ↦
-              let other = (of_behind a i).1 in
+              let other = (in_later a i).1 in
               elim (class c k.1) [
-                | inl j ↦ absurd ((of_ahead c j).1.1 (other.1.0, other.1.1, other.1.2, further other.1.3 d))
-                | inr (inl j) ↦ absurd (waits_not c a (of_part' c j).1 other.0 other.1 d)
-                | inr (inr j) ↦ before_right ahead rest a c (before_right part behind a c (picks_keep rs behind a c distinct three.is_behind i j before))
+                | inl j ↦ absurd ((in_first c j).1.1 (other.1.0, other.1.1, other.1.2, further other.1.3 d))
+                | inr (inl j) ↦ absurd (waits_not c a (in_part c j).1 other.0 other.1 d)
+                | inr (inr j) ↦ before_right first rest a c (before_right part later a c (picks_keep rs later a c distinct three.is_later i j before))
               ]
         ]
 
@@ -205,19 +205,19 @@ module _ (P : Program) (query : Query) (rs : List Record) (t : State) (accepted 
     given_there : (x : VarName) → WasGiven rs (value_at t.store) g b x → WasGiven new (value_at t.store) g b x
     given_there x w = (w.0, (w.1.0, in_new w.1.0 w.1.1, (λ p. w.1.2 (back w.1.0 p)), w.1.3))
 
-    -- what was given, a step ahead bound
-    given_ahead : (q : Record) (x : VarName) → In q rs → IsWithinGoal (value_at t.store) b x → ¬ IsOfPart rs g q → Binds q x → In q ahead
-    given_ahead q x i w other binds = elim (class q i) [
+    -- what was given, a step first bound
+    given_first : (q : Record) (x : VarName) → In q rs → IsWithinGoal (value_at t.store) b x → ¬ IsOfPart rs g q → Binds q x → In q first
+    given_first q x i w other binds = elim (class q i) [
       | inl j ↦ j
-      | inr (inl j) ↦ absurd (other (of_part' q j).1)
-      | inr (inr j) ↦ absurd (straight (x, q, w, i, other, (of_behind q j).1.1, binds))
+      | inr (inl j) ↦ absurd (other (in_part q j).1)
+      | inr (inr j) ↦ absurd (straight (x, q, w, i, other, (in_later q j).1.1, binds))
     ]
 
-    split : (m : State) × Runs P (query_state query) ahead m × Runs P m (part ++ behind) t
-    split = runs_split P ahead (part ++ behind) (query_state query) t again.1
+    split : (m : State) × Runs P (query_state query) first m × Runs P m (part ++ later) t
+    split = runs_split P first (part ++ later) (query_state query) t again.1
 
-    split_more : (m : State) × Runs P split.0 part m × Runs P m behind t
-    split_more = runs_split P part behind split.0 t split.2
+    split_more : (m : State) × Runs P split.0 part m × Runs P m later t
+    split_more = runs_split P part later split.0 t split.2
 
     abbrev Along : List Record → State → State → Type 0
     Along = among.Along P query new t accepted asked again r g b call_again
@@ -225,56 +225,56 @@ module _ (P : Program) (query : Query) (rs : List Record) (t : State) (accepted 
     abbrev Run : State → List Record → State → Type 0
     Run = among.Run P query new t accepted asked again r g b call_again
 
-    one : (w : State) × Run (alone g b) ahead w × Along ahead split.0 w × Results query ahead split.0
-    one = among.run_on P query new t accepted asked again r g b call_again [] ahead (part ++ behind) (query_state query) (alone g b) split.0 refl (at_first query)
+    to_begin : (w : State) × Run (goal_alone g b) first w × Along first split.0 w × Results query first split.0
+    to_begin = among.run_on P query new t accepted asked again r g b call_again [] first (part ++ later) (query_state query) (goal_alone g b) split.0 refl (at_first query)
         (among.start P query new t accepted asked again r g b call_again) split.1
 
-    two : (w : State) × Run one.0 part w × Along (ahead ++ part) split_more.0 w × Results query (ahead ++ part) split_more.0
-    two = among.run_on P query new t accepted asked again r g b call_again ahead part behind split.0 one.0 split_more.0 refl one.3 one.2 split_more.1
+    to_end : (w : State) × Run to_begin.0 part w × Along (first ++ part) split_more.0 w × Results query (first ++ part) split_more.0
+    to_end = among.run_on P query new t accepted asked again r g b call_again first part later split.0 to_begin.0 split_more.0 refl to_begin.3 to_begin.2 split_more.1
 
-    begins : (one.0.goals ≡ (alone g b).goals) × ((x : VarName) (c : Tree) → value_at one.0.store x ≡ Some c → (value_at (alone g b).store x ≡ Some c) ⊎ WasGiven new (value_at t.store) g b x)
-    begins = none_of_part (among.given_known P query new t accepted asked again r g b call_again) ahead (alone g b) one.0 (λ q i p. (of_ahead q i).1.0 (back q p)) one.1
+    begins : (to_begin.0.goals ≡ (goal_alone g b).goals) × ((x : VarName) (c : Tree) → value_at to_begin.0.store x ≡ Some c → (value_at (goal_alone g b).store x ≡ Some c) ⊎ WasGiven new (value_at t.store) g b x)
+    begins = none_of_part (among.given_known P query new t accepted asked again r g b call_again) first (goal_alone g b) to_begin.0 (λ q i p. (in_first q i).1.0 (back q p)) to_begin.1
 
-    was_given : (x : VarName) (c : Tree) → value_at one.0.store x ≡ Some c → WasGiven rs (value_at t.store) g b x × (value_at t.store x ≡ Some c)
+    was_given : (x : VarName) (c : Tree) → value_at to_begin.0.store x ≡ Some c → WasGiven rs (value_at t.store) g b x × (value_at t.store x ≡ Some c)
     was_given x c e = elim (begins.1 x c e) [
       | inl f ↦ absurd (not_both f (finite.get-empty name_cmp x))
-      | inr w ↦ (given_back x w, at_last P query new t accepted asked again r g b call_again ahead split.0 one.3 (λ q i. in_left ahead (part ++ behind) q i) x c (one.2.less x c e))
+      | inr w ↦ (given_back x w, at_last P query new t accepted asked again r g b call_again first split.0 to_begin.3 (λ q i. in_left first (part ++ later) q i) x c (to_begin.2.less x c e))
     ]
 
-    is_given : (x : VarName) (c : Tree) → WasGiven rs (value_at t.store) g b x → value_at t.store x ≡ Some c → value_at one.0.store x ≡ Some c
+    is_given : (x : VarName) (c : Tree) → WasGiven rs (value_at t.store) g b x → value_at t.store x ≡ Some c → value_at to_begin.0.store x ≡ Some c
     is_given x c w e =
         let u = bound_value w.1.0 x w.1.3 in
         let same = same_value ((full P query rs t accepted asked replay r g b call).bound w.1.0 x u.0 w.1.1 u.1) e in
-        one.2.given_bound w.1.0 x u.0 (given_ahead w.1.0 x w.1.1 w.0 w.1.2 w.1.3) (given_there x w) u.1 ∙ ap Some same
+        to_begin.2.given_bound w.1.0 x u.0 (given_first w.1.0 x w.1.1 w.0 w.1.2 w.1.3) (given_there x w) u.1 ∙ ap Some same
 
-    ends_alike : (x : VarName) → IsWithinGoal (value_at t.store) b x → value_at two.0.store x ≡ value_at t.store x
+    ends_alike : (x : VarName) → IsWithinGoal (value_at t.store) b x → value_at to_end.0.store x ≡ value_at t.store x
     ends_alike x w = by_option (value_at t.store x)
-        (λ n. by_option (value_at two.0.store x) (λ m. m ∙ sym n) (λ u m. absurd (not_both
-        (at_last P query new t accepted asked again r g b call_again (ahead ++ part) split_more.0 two.3 of_two x u (two.2.less x u m)) n)))
+        (λ n. by_option (value_at to_end.0.store x) (λ m. m ∙ sym n) (λ u m. absurd (not_both
+        (at_last P query new t accepted asked again r g b call_again (first ++ part) split_more.0 to_end.3 of_both x u (to_end.2.less x u m)) n)))
         (λ u e.
         let c = bound_by query rs t (full P query rs t accepted asked replay r g b call) x u e in
         elim (class c.0 c.1) [
-          | inl j ↦ two.2.given_bound c.0 x u (in_left ahead part c.0 j) (given_there x (w, (c.0, c.1, (of_ahead c.0 j).1.0, ap is_some c.2))) c.2
-          | inr (inl j) ↦ two.2.own_bound c.0 x u (in_right ahead part c.0 j) (there c.0 (of_part' c.0 j).1) c.2
-          | inr (inr j) ↦ let k = (of_behind c.0 j).1 in absurd (straight (x, c.0, w, c.1, k.0, k.1, ap is_some c.2))
+          | inl j ↦ to_end.2.given_bound c.0 x u (in_left first part c.0 j) (given_there x (w, (c.0, c.1, (in_first c.0 j).1.0, ap is_some c.2))) c.2
+          | inr (inl j) ↦ to_end.2.own_bound c.0 x u (in_right first part c.0 j) (there c.0 (in_part c.0 j).1) c.2
+          | inr (inr j) ↦ let k = (in_later c.0 j).1 in absurd (straight (x, c.0, w, c.1, k.0, k.1, ap is_some c.2))
         ] ∙ sym e)
       where
-        of_two : (q : Record) → In q (ahead ++ part) → In q new
-        of_two q i = elim (in_either ahead part q i) [ inl j ↦ in_left ahead (part ++ behind) q j | inr j ↦ in_right ahead (part ++ behind) q (in_left part behind q j) ]
+        of_both : (q : Record) → In q (first ++ part) → In q new
+        of_both q i = elim (in_either first part q i) [ inl j ↦ in_left first (part ++ later) q j | inr j ↦ in_right first (part ++ later) q (in_left part later q j) ]
 
     pub runs_alone : PartRunsAlone P rs t g b part
     runs_alone = record {
-      begin = one.0;
-      end = two.0;
+      begin = to_begin.0;
+      end = to_end.0;
       given = record { goals = begins.0; bound = λ x c. (was_given x c, λ p. is_given x c p.0 p.1) };
-      runs = only_part part one.0 two.0 (λ q i. there q (of_part' q i).1) two.1;
+      runs = only_part part to_begin.0 to_end.0 (λ q i. there q (in_part q i).1) to_end.1;
       same = ends_alike;
     }
 
 pub come_together : PartsComeTogether
-come_together P query rs t r g b ahead part behind accepted asked replay i e had free straight three =
+come_together P query rs t r g b first part later accepted asked replay i e had free straight three =
     let call : TookGoal rs r g b = record { kept = i; took = e; had = had; left_alone = free } in
-    (lawful P query rs t accepted asked replay r g b call straight ahead part behind three, in_order P query rs t accepted asked replay r g b call straight ahead part behind three)
+    (lawful P query rs t accepted asked replay r g b call straight first part later three, in_order P query rs t accepted asked replay r g b call straight first part later three)
 
 pub run_alone : PartsRunAlone
 run_alone P query rs t r g b part accepted asked replay i e had free straight picks =
@@ -282,6 +282,6 @@ run_alone P query rs t r g b part accepted asked replay i e had free straight pi
     let follows : (q : Record) → In q rs → Decided (FollowsFromPart rs g q) = λ q j. decided_by (λ p. (p.0, p.1, p.2.0, p.2.1)) (λ p. (p.0, p.1, (p.2, p.3))) (some_decided rs (λ p. IsOfPart rs g p × Follows rs p q) (λ p k.
     decided_both (known_part P query rs t replay g p k) (known_follows rs replay.0.1 p k q j))) in
     let other : (q : Record) → In q rs → Decided (¬ IsOfPart rs g q) = λ q j. decided_not (known_part P query rs t replay g q j) in
-    let ahead = pick rs (λ q j. decided_both (other q j) (decided_not (follows q j))) in
-    let behind = pick rs (λ q j. decided_both (other q j) (follows q j)) in
-    runs_alone P query rs t accepted asked replay r g b call straight ahead.0 part behind.0 (record { is_ahead = ahead.1; is_part = picks; is_behind = behind.1 })
+    let first = pick rs (λ q j. decided_both (other q j) (decided_not (follows q j))) in
+    let later = pick rs (λ q j. decided_both (other q j) (follows q j)) in
+    runs_alone P query rs t accepted asked replay r g b call straight first.0 part later.0 (record { is_first = first.1; is_part = picks; is_later = later.1 })

@@ -1,9 +1,8 @@
 -- Two worlds: what the steps of a part know, and what the others know. Only what is within the part's goal is in both.
-use Rattle.ghc_depend.proofs.Words.{◌≡◌, ◌⊎◌, ℕ, List, [], ◌∷◌, ◌++◌, append_assoc, refl, sym, ap, ◌∙◌, subst, inl, inr, arith, Some, None, Option, option_or, IsTrue, VarName, GoalName, Tree, Goal, In, in_left, in_right, in_more, IsAcyclic, value_at, name_cmp, goal_cmp, Decided, Program, Query, IsProgram, IsQuery, State, Record, after, without_goal, Fires, Runs, query_state, Replays, MakesGoal, MakesVariable, bound_at, made_or_old, of_query as variable_of_query, replay_well}
+use Rattle.ghc_depend.proofs.Words.{◌≡◌, ◌⊎◌, List, [], ◌∷◌, ◌++◌, append_assoc, refl, sym, ap, ◌∙◌, subst, inl, inr, Some, None, Option, option_or, IsTrue, VarName, GoalName, Tree, Goal, In, in_left, in_right, in_more, IsAcyclic, value_at, name_cmp, goal_cmp, Decided, Program, Query, IsProgram, IsQuery, State, Record, after, without_goal, Fires, Runs, query_state, Replays, MakesVariable, bound_at, made_or_old, of_query as variable_of_query, replay_well}
 use Rattle.std.specs.FinMap as finite
 use Rattle.std.specs.FinSet as set
-use Rattle.ghc_term.specs.Tree.{variable, Occurs}
-use Rattle.ghc_term.specs.Bindings.{Reaches, here}
+use Rattle.ghc_term.specs.Bindings.{here}
 use Rattle.ghc_term.proofs.Chains.{reaches_on}
 use Rattle.ghc_flat.specs.Variables.{variables_of_goal}
 use Rattle.ghc_fire.proofs.Origins.{Inside}

@@ -66,11 +66,11 @@ abbrev pub NoAskReachesInto : List Record → GoalName → Type 0
 NoAskReachesInto rs g = (r : Record) → In r rs → ¬ IsReachedInto rs g r
 
 -- the state that has the goal b, named g, and nothing else
-abbrev pub alone : GoalName → Goal → State
-alone g b = record { goals = finite.insert finite.empty g b; store = finite.empty }
+abbrev pub goal_alone : GoalName → Goal → State
+goal_alone g b = record { goals = finite.insert finite.empty g b; store = finite.empty }
 
 -- The state u is s with those bindings of the step r more that were given.
-pub record Gains (given : VarName → Type 0) (r : Record) (s u : State) : Type 0 where
+pub record GainsGiven (given : VarName → Type 0) (r : Record) (s u : State) : Type 0 where
   pub goals : u.goals ≡ s.goals
   pub gained : (x : VarName) (t : Tree) → given x → value_at r.effect.binds x ≡ Some t → value_at u.store x ≡ Some t
   pub others : (x : VarName) → ¬ (given x × Binds r x) → value_at u.store x ≡ value_at s.store x
@@ -79,12 +79,12 @@ pub record Gains (given : VarName → Type 0) (r : Record) (s u : State) : Type 
 pub data RunsAmong (P : Program) (part : Record → Type 0) (given : VarName → Type 0) : State → List Record → State → Type 0 where
   at_end : {s : State} → RunsAmong P part given s [] s
   of_part : {s t : State} {r : Record} {rs : List Record} → part r → Fires P s r → RunsAmong P part given (after s r) rs t → RunsAmong P part given s (r ∷ rs) t
-  of_others : {s t u : State} {r : Record} {rs : List Record} → ¬ part r → Gains given r s u → RunsAmong P part given u rs t → RunsAmong P part given s (r ∷ rs) t
+  of_others : {s t u : State} {r : Record} {rs : List Record} → ¬ part r → GainsGiven given r s u → RunsAmong P part given u rs t → RunsAmong P part given s (r ∷ rs) t
 
 -- From the goal b, named g, alone, its part runs among the other steps, which add just what it was given; all within the goal ends as in t.
 pub record PartRunsAmongOthers (P : Program) (rs : List Record) (t : State) (g : GoalName) (b : Goal) : Type 0 where
   pub end : State
-  pub runs : RunsAmong P (IsOfPart rs g) (WasGiven rs (value_at t.store) g b) (alone g b) rs end
+  pub runs : RunsAmong P (IsOfPart rs g) (WasGiven rs (value_at t.store) g b) (goal_alone g b) rs end
   pub same : (x : VarName) → IsWithinGoal (value_at t.store) b x → value_at end.store x ≡ value_at t.store x
 
 -- So it is for all records that replay from an accepted program and query, and for each goal that a step took, where no ask reaches into its part.
@@ -94,7 +94,7 @@ PartsRunAmongOthers =
     → In r rs → r.goal ≡ Some g → r.consumed ≡ Some b → NoAskReachesInto rs g → PartRunsAmongOthers P rs t g b
 
 -- The step s takes no goal that the part of the goal b, named g, made, and reads of what the part bound only what the goal gave.
-pub record SeesWhatWasGiven (rs : List Record) (S : VarName → Option Tree) (g : GoalName) (b : Goal) (s : Record) : Type 0 where
+pub record SeesWhatPartGave (rs : List Record) (S : VarName → Option Tree) (g : GoalName) (b : Goal) (s : Record) : Type 0 where
   pub takes : (q : Record) → In q rs → IsOfPart rs g q → ¬ Consumes s q
   pub reads : (q : Record) (x : VarName) → In q rs → IsOfPart rs g q → ReadsFrom s q x → HasGiven rs S g b x
 
@@ -102,7 +102,7 @@ pub record SeesWhatWasGiven (rs : List Record) (S : VarName → Option Tree) (g 
 abbrev pub OthersSeeWhatPartsGave : Type 0
 OthersSeeWhatPartsGave =
     (P : Program) (query : Query) (rs : List Record) (t : State) (r s : Record) (g : GoalName) (b : Goal) → IsProgram P → IsQuery P query → Replays P query rs t
-    → In r rs → r.goal ≡ Some g → r.consumed ≡ Some b → NoAskReachesInto rs g → In s rs → ¬ IsOfPart rs g s → SeesWhatWasGiven rs (value_at t.store) g b s
+    → In r rs → r.goal ≡ Some g → r.consumed ≡ Some b → NoAskReachesInto rs g → In s rs → ¬ IsOfPart rs g s → SeesWhatPartGave rs (value_at t.store) g b s
 
 -- The step follows from the part of the goal g: it is a consequence of a step of the part.
 abbrev pub FollowsFromPart : List Record → GoalName → Record → Type 0
@@ -112,18 +112,18 @@ FollowsFromPart rs g q = (p : Record) × In p rs × IsOfPart rs g p × Follows r
 abbrev pub GoesInTurns : List Record → (VarName → Option Tree) → GoalName → Goal → Type 0
 GoesInTurns rs S g b = (x : VarName) × (q : Record) × IsWithinGoal S b x × In q rs × (¬ IsOfPart rs g q) × FollowsFromPart rs g q × Binds q x
 
--- Three lists of the steps, each in recorded order: the part of the goal g; the others that follow from it, behind; and the rest, ahead.
-pub record AreInThree (rs : List Record) (g : GoalName) (ahead part behind : List Record) : Type 0 where
-  pub is_ahead : Picks (λ q. (¬ IsOfPart rs g q) × (¬ FollowsFromPart rs g q)) rs ahead
+-- Three lists of the steps, each in recorded order: first those that are not of the part of the goal g and do not follow from it, then the part, and later the others that follow from it.
+pub record AreInThree (rs : List Record) (g : GoalName) (first part later : List Record) : Type 0 where
+  pub is_first : Picks (λ q. (¬ IsOfPart rs g q) × (¬ FollowsFromPart rs g q)) rs first
   pub is_part : Picks (IsOfPart rs g) rs part
-  pub is_behind : Picks (λ q. (¬ IsOfPart rs g q) × FollowsFromPart rs g q) rs behind
+  pub is_later : Picks (λ q. (¬ IsOfPart rs g q) × FollowsFromPart rs g q) rs later
 
--- Where a goal does not go in turns, and no ask reaches into its part, it is lawful to have first what does not follow from the part, then the part, then the rest.
+-- Where a goal does not go in turns, and no ask reaches into its part, the three lists one after the other are a lawful order.
 abbrev pub PartsComeTogether : Type 0
 PartsComeTogether =
-    (P : Program) (query : Query) (rs : List Record) (t : State) (r : Record) (g : GoalName) (b : Goal) (ahead part behind : List Record) → IsProgram P → IsQuery P query
+    (P : Program) (query : Query) (rs : List Record) (t : State) (r : Record) (g : GoalName) (b : Goal) (first part later : List Record) → IsProgram P → IsQuery P query
     → Replays P query rs t → In r rs → r.goal ≡ Some g → r.consumed ≡ Some b → NoAskReachesInto rs g → ¬ GoesInTurns rs (value_at t.store) g b
-    → AreInThree rs g ahead part behind → IsLawful rs (numbers (ahead ++ (part ++ behind))) × IsInOrder rs (numbers (ahead ++ (part ++ behind))) (ahead ++ (part ++ behind))
+    → AreInThree rs g first part later → IsLawful rs (numbers (first ++ (part ++ later))) × IsInOrder rs (numbers (first ++ (part ++ later))) (first ++ (part ++ later))
 
 -- The state has the goal b, named g, alone, and just those bindings of S that the goal was given.
 pub record HasWhatWasGiven (rs : List Record) (S : VarName → Option Tree) (g : GoalName) (b : Goal) (u : State) : Type 0 where
