@@ -13,10 +13,9 @@ use Rattle.ghc_depend.proofs.Decided.{decided_not}
 use Rattle.ghc_depend.proofs.Finding.{by_option, goal_or_not, makes_at, own, own_made, same_value, not_both, without_it, without_other}
 use Rattle.ghc_depend.proofs.Results.{Results, IsUntaken, Taken, bound_by, untaken, of_query, at_first, fires, step_binds, taken}
 use Rattle.ghc_depend.proofs.Placing.{numbered_once, stepped}
-use Rattle.ghc_depend.proofs.Comparing.{bound_value}
 use Rattle.ghc_depend.proofs.Turning.{no_query}
 use Rattle.ghc_depend.proofs.Within.{narrowed, narrowed_less, only_goal}
-use Rattle.ghc_depend.proofs.Worlds.{over, TookGoal, both, full, acyclic, known, named_once, worlds}
+use Rattle.ghc_depend.proofs.Worlds.{over, TookGoal, full, acyclic, known, named_once, read_across, read_back}
 
 -- a step keeps what is bound
 kept_bound : (P : Program) (v : State) (q : Record) → Fires P v q → (x : VarName) (u : Tree) → value_at v.store x ≡ Some u → value_at (after v q).store x ≡ Some u
@@ -96,10 +95,7 @@ module _ (P : Program) (query : Query) (rs : List Record) (t : State) (accepted 
           let c = bound_by query done s h x u e in
           elim (part_known c.0 (of_done c.0 c.1)) [
             | inl p ↦ a.own_bound c.0 x u c.1 p c.2
-            | inr other ↦
-                let inner = ((worlds P query rs t accepted asked replay r g b call q q_in).inner part).reads x i in
-                let outer = (((worlds P query rs t accepted asked replay r g b call c.0 (of_done c.0 c.1)).outer other).binds x u c.2).0 in
-                a.given_bound c.0 x u c.1 (both P query rs t accepted asked replay r g b call x inner outer, (c.0, of_done c.0 c.1, other, ap is_some c.2)) c.2
+            | inr other ↦ a.given_bound c.0 x u c.1 (read_across P query rs t accepted asked replay r g b call q c.0 x q_in (of_done c.0 c.1) part other i (ap is_some c.2), (c.0, of_done c.0 c.1, other, ap is_some c.2)) c.2
           ]
 
       goal_there : (step : Taken P s q) → finite.get v.goals step.name ≡ Some step.goal
@@ -255,11 +251,7 @@ module _ (P : Program) (query : Query) (rs : List Record) (t : State) (accepted 
   pub sees : (s : Record) → In s rs → ¬ IsOfPart rs g s → SeesWhatPartGave rs S g b s
   sees s i other = record {
     takes = λ q j part c. other (c.0, c.1, made_by q j c.2 part.1 part.2);
-    reads = λ q x j part read.
-        let u = bound_value q x read.1 in
-        let outer = ((worlds P query rs t accepted asked replay r g b call s i).outer other).reads x read.0 in
-        let inner = (((worlds P query rs t accepted asked replay r g b call q j).inner part).binds x u.0 u.1).0 in
-        (both P query rs t accepted asked replay r g b call x inner outer, (q, j, part, read.1));
+    reads = λ q x j part read. (read_back P query rs t accepted asked replay r g b call s q x i j other part read.0 read.1, (q, j, part, read.1));
   }
 
 pub among : PartsRunAmongOthers

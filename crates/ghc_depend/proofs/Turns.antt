@@ -17,7 +17,7 @@ use Rattle.ghc_depend.proofs.Placing.{numbered_once, place_of}
 use Rattle.ghc_depend.proofs.Results.{Results, at_first, bound_by, taken}
 use Rattle.ghc_depend.proofs.TakenTogether.{before_on, follows_behind}
 use Rattle.ghc_depend.proofs.Within.{unnamed}
-use Rattle.ghc_depend.proofs.Worlds.{TookGoal, at_last, both, full, worlds}
+use Rattle.ghc_depend.proofs.Worlds.{TookGoal, at_last, full, read_across}
 
 -- what descends in some steps descends in all that have them
 moved : {rs ss : List Record} {g k : GoalName} → ((q : Record) → In q rs → In q ss) → Descends rs g k → Descends ss g k
@@ -83,11 +83,7 @@ module _ (P : Program) (query : Query) (rs : List Record) (t : State) (accepted 
       let k = ends rs c a d in
       elim d.1 [
         | inl m ↦ no_maker a k.0 other f m.0 m.2 (subst (Descends rs g) (same_value part.1 m.1) part.2)
-        | inr (inl read) ↦
-            let u = bound_value a read.0 read.1.1 in
-            let inner = ((worlds P query rs t accepted asked replay r g b call c k.1).inner part).reads read.0 read.1.0 in
-            let outer = (((worlds P query rs t accepted asked replay r g b call a k.0).outer other).binds read.0 u.0 u.1).0 in
-            straight (read.0, a, both P query rs t accepted asked replay r g b call read.0 inner outer, k.0, other, f, read.1.1)
+        | inr (inl read) ↦ straight (read.0, a, read_across P query rs t accepted asked replay r g b call c a read.0 k.1 k.0 part other read.1.0 read.1.1, k.0, other, f, read.1.1)
         | inr (inr n) ↦ names_nothing c n.0 k.1 part n.1.0
       ]
 

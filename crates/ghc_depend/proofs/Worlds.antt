@@ -1,5 +1,5 @@
 -- Two worlds: what the steps of a part know, and what the others know. Only what is within the part's goal is in both.
-use Rattle.ghc_depend.proofs.Words.{◌≡◌, ◌⊎◌, List, [], ◌∷◌, ◌++◌, append_assoc, refl, sym, ap, ◌∙◌, subst, inl, inr, Some, None, Option, option_or, IsTrue, VarName, GoalName, Tree, Goal, In, in_left, in_right, in_more, IsAcyclic, value_at, name_cmp, goal_cmp, Decided, Program, Query, IsProgram, IsQuery, State, Record, after, without_goal, Fires, Runs, query_state, Replays, MakesVariable, bound_at, made_or_old, of_query as variable_of_query, replay_well}
+use Rattle.ghc_depend.proofs.Words.{◌≡◌, ◌⊎◌, List, [], ◌∷◌, ◌++◌, append_assoc, refl, sym, ap, ◌∙◌, subst, inl, inr, Some, None, Option, option_or, IsTrue, VarName, GoalName, Tree, Goal, In, in_left, in_right, in_more, IsAcyclic, value_at, name_cmp, goal_cmp, Decided, Program, Query, IsProgram, IsQuery, State, Record, after, without_goal, Fires, Runs, query_state, Replays, Binds, MakesVariable, bound_at, made_or_old, of_query as variable_of_query, replay_well}
 use Rattle.std.specs.FinMap as finite
 use Rattle.std.specs.FinSet as set
 use Rattle.ghc_term.specs.Bindings.{here}
@@ -11,6 +11,7 @@ use Rattle.ghc_records.proofs.Heads.{of_goals}
 use Rattle.ghc_records.specs.Replay.{Names}
 use Rattle.ghc_depend.specs.Depend.{Descends, itself, made_by}
 use Rattle.ghc_depend.specs.Parts.{IsOfPart, IsWithinGoal, NoAskReachesInto}
+use Rattle.ghc_depend.proofs.Comparing.{bound_value}
 use Rattle.ghc_depend.proofs.Finding.{by_option, makes_at, own, own_made, same_value, not_both}
 use Rattle.ghc_depend.proofs.Results.{Results, taken_at, bound_by, goal_by, of_query, at_first, firing}
 use Rattle.ghc_depend.proofs.Placing.{place_of, front_in, numbered_once, results_of, stepped}
@@ -55,7 +56,7 @@ module _ (P : Program) (query : Query) (rs : List Record) (t : State) (accepted 
   abbrev pub Outer : VarName → Type 0
   Outer x = IsWithinGoal S b x ⊎ (¬ MadeIn x)
 
-  pub both : (x : VarName) → Inner x → Outer x → IsWithinGoal S b x
+  both : (x : VarName) → Inner x → Outer x → IsWithinGoal S b x
   both x (inl w) o = w
   both x (inr m) (inl w) = w
   both x (inr m) (inr n) = absurd (n m)
@@ -218,5 +219,16 @@ module _ (P : Program) (query : Query) (rs : List Record) (t : State) (accepted 
   all_keep done (m ∷ rest) s e h a run q (inr i) =
       all_keep (done ++ m ∷ []) rest (after s m) (e ∙ sym (append_assoc done (m ∷ []) rest)) (more done rest s m e h run.0 a) (apart_after done rest s m e h run.0 a) run.1 q i
 
-  pub worlds : (q : Record) → In q rs → KeepsToItsWorld q
+  worlds : (q : Record) → In q rs → KeepsToItsWorld q
   worlds = all_keep [] rs (query_state query) refl (at_first query) apart_first replay.1
+
+  -- what a step of the part reads and another bound, or the other way round, is within the goal
+  pub read_across : (c a : Record) (x : VarName) → In c rs → In a rs → IsOfPart rs g c → ¬ IsOfPart rs g a → IsTrue (set.contains c.effect.reads x) → Binds a x → IsWithinGoal S b x
+  read_across c a x i j part other read binds =
+      let u = bound_value a x binds in
+      both x (((worlds c i).inner part).reads x read) (((worlds a j).outer other).binds x u.0 u.1).0
+
+  pub read_back : (c a : Record) (x : VarName) → In c rs → In a rs → ¬ IsOfPart rs g c → IsOfPart rs g a → IsTrue (set.contains c.effect.reads x) → Binds a x → IsWithinGoal S b x
+  read_back c a x i j other part read binds =
+      let u = bound_value a x binds in
+      both x (((worlds a j).inner part).binds x u.0 u.1).0 (((worlds c i).outer other).reads x read)
