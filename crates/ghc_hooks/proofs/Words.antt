@@ -58,10 +58,11 @@ pub use Rattle.ghc_term.proofs.Indexed.{inserted, removed, value_is}
 pub use Rattle.ghc_term.proofs.ListsLemmas.{contains_in, in_at, in_contains, in_either, in_get, in_last, in_left, in_more, in_right, in_splits, not_both}
 pub use Rattle.ghc_term.proofs.Names.{itself, name_antisymmetric, name_total, same_name}
 pub use Rattle.ghc_term.proofs.Placing.{one_value}
-pub use Rattle.ghc_term.proofs.Searching.{StandsIn, argument_reaches, falls_away, list_is_value, nothing_open, occurs_among, popped, sees_falls, size_positive, sizes, stands_last, stands_left, stands_right, unfold_falls, value_in_list}
+pub use Rattle.ghc_term.proofs.Searching.{argument_reaches, falls_away, list_is_value, nothing_open, occurs_among, popped, sees_falls, size_positive, sizes, stands_last, stands_left, stands_right, unfold_falls, value_in_list}
 pub use Rattle.ghc_term.proofs.SetsLemmas.{agree, has_member, holds_nothing, is_member, member, no_member, one_inserted, one_set, same_held, set_of}
 pub use Rattle.ghc_term.proofs.VariableMaps.{none_in}
 pub use Rattle.ghc_term.proofs.Weights.{size, size_all, size_variable}
+pub use Rattle.ghc_term.specs.inner.Walking.{StandsIn}
 pub use Rattle.ghc_term.specs.Bindings.{Comes, IsAcyclic, Leads, Passes, Reaches, along, at_free, at_integer, at_node, here, name_cmp, now, on, through}
 pub use Rattle.ghc_term.specs.Expression.{Expression, leaf, operation}
 pub use Rattle.ghc_term.specs.Goal.{Goal, assign, call, stream, unify}
