@@ -15,4 +15,6 @@ pub mod Spies
 pub mod SpyLaws
 pub mod OtherClauses
 pub mod Explaining
+pub mod Parts
+pub mod PartLines
 pub mod inner

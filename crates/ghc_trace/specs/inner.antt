@@ -4,6 +4,7 @@ pub mod Gathering
 pub mod GoalLinesCode
 pub mod NewsCode
 pub mod OtherClausesCode
+pub mod PartsCode
 pub mod PortCode
 pub mod SpiesCode
 pub mod SpyKeys
