@@ -21,5 +21,4 @@ pub mod FaceIsOne
 pub mod Unblocking
 pub mod Under
 pub mod AtOnce
-pub mod TakingUp
 mod Words

@@ -18,8 +18,6 @@ pub mod Merged
 pub mod Bind
 pub mod Weights
 pub mod Drops
-pub mod Far
-pub mod Gathered
 pub mod Goals
 pub mod Resolving
 pub mod Pieces

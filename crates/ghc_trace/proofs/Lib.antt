@@ -14,11 +14,6 @@ pub mod Giving
 pub mod Held
 pub mod HeldFor
 pub mod Explained
-pub mod PartSteps
-pub mod PartGiving
-pub mod PartMade
-pub mod PartFinding
-pub mod PartFollowing
 pub mod Resting
 pub mod OtherClauses
 pub mod TakenAgain

@@ -15,6 +15,4 @@ pub mod Spies
 pub mod SpyLaws
 pub mod OtherClauses
 pub mod Explaining
-pub mod Parts
-pub mod PartLines
 pub mod inner

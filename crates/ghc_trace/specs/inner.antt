@@ -4,7 +4,6 @@ pub mod Gathering
 pub mod GoalLinesCode
 pub mod NewsCode
 pub mod OtherClausesCode
-pub mod PartsCode
 pub mod PortCode
 pub mod SpiesCode
 pub mod SpyKeys

@@ -2,7 +2,6 @@
 //! bound the variables of a chain, which goals descend from a goal, and which predicates are spied.
 #![tactic(auto)]
 
-mod call_given;
 mod cause_places;
 mod descent;
 mod disturbed;
@@ -16,8 +15,6 @@ mod holding;
 mod laws;
 mod news;
 mod others;
-mod part_lines;
-mod parts;
 mod port;
 mod reason_text;
 mod reasons;
@@ -39,8 +36,6 @@ pub use goal_lines::push_goals;
 pub use holding::{Holder, holders, holders_for};
 pub use laws::{notes_tell_news, notes_tell_ports, other_clauses_are_taken};
 pub use others::other_clauses;
-pub use part_lines::push_call;
-pub use parts::taker_of;
 pub use port::{Port, push_port, push_ports};
 pub use reason_text::push_reason;
 pub use reasons::{Reason, why};
