@@ -2,6 +2,8 @@
 use denote.Param.Send.{IsSend, IsSync, sendable}
 use Rattle.std.proofs.Crossing.{crosses}
 use Rattle.std.proofs.MapsCrossing as maps
+use Rattle.counted_slot.proofs.Counted.TheSendSync as slot
+use Rattle.ghc_term.proofs.kept.Listed.TheSendSync as listed
 use Rattle.ghc_term.proofs.term.Term.TheLaws.TheKnot as of_terms
 use Rattle.ghc_term.proofs.expr.Expr.TheLaws.TheKnot as of_expressions
 use Rattle.ghc_term.proofs.goal_name.GoalName.TheSendSync as goal_name
@@ -33,10 +35,10 @@ use Rattle.ghc_hooks.specs.contracts.tries.Tries as tries
 use Rattle.ghc_core.specs.contracts.core_state.Core as core
 
 term_send : IsSend term.the_row
-term_send = search (of_terms.crosses, crosses, sendable) depth 60 fits 20000
+term_send = search (slot.the_send, slot.the_sync, listed.the_send, listed.the_sync, of_terms.crosses, crosses, sendable) depth 60 fits 20000
 
 term_sync : IsSync term.the_row
-term_sync = search (of_terms.crosses, crosses, sendable) depth 60 fits 20000
+term_sync = search (slot.the_sync, slot.the_send, listed.the_sync, listed.the_send, of_terms.crosses, crosses, sendable) depth 60 fits 20000
 
 expression_send : IsSend expression.the_row
 expression_send = search (term_send, term_sync, operator.the_send, operator.the_sync, of_expressions.crosses, crosses, sendable) depth 60 fits 20000

@@ -29,7 +29,7 @@ by_records (r ∷ rs) a b d i j (inr h) =
     let k = before_in (numbers rs) a.number b.number h in
     inr (by_records rs a b d.1 (the_one rs a r d i k.0) (the_one rs b r d j k.1) h)
 
-known_consumed : (o : Option GoalName) (a : Record) → Decided ((g : GoalName) × (o ≡ Some g) × MakesGoal a g)
+pub known_consumed : (o : Option GoalName) (a : Record) → Decided ((g : GoalName) × (o ≡ Some g) × MakesGoal a g)
 known_consumed None a = inr (λ c. let clash : None ≡ Some c.0 = c.1 in cc)
 known_consumed (Some g) a =
     elim (decided_both (nat_decided g.step a.number) (decided_both (le_decided 1 g.place) (le_decided g.place (length a.effect.makes)))) [
@@ -45,7 +45,7 @@ known_reads b a =
       | inr n ↦ inr (λ r. n (r.0, key_in (finite.entries a.effect.binds) r.0 (ap is_some (sym (finite.get-entries a.effect.binds r.0)) ∙ r.1.1), r.1))
     ]
 
-decided_not : {A : Type 0} → Decided A → Decided (¬ A)
+pub decided_not : {A : Type 0} → Decided A → Decided (¬ A)
 decided_not (inl a) = inr (λ n. n a)
 decided_not (inr n) = inl n
 

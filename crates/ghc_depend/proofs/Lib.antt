@@ -11,6 +11,11 @@ pub mod Picking
 pub mod Comparing
 pub mod Deleting
 pub mod Slicing
+pub mod Parting
+pub mod Within
+pub mod Worlds
+pub mod Among
+pub mod Turns
 pub mod Sourcing
 pub mod Following
 pub mod Causes

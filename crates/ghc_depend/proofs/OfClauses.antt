@@ -1,7 +1,6 @@
 -- Steps replay under each program that has the clauses by which they went.
-use Rattle.ghc_depend.proofs.Words.{◌≡◌, List, [], ◌∷◌, refl, inl, inr, Some, None, Option, VarName, Tree, Goal, In, value_at, Program, Query, State, Record, after, Fires, HasStepEffect, Runs, query_state, Act, ByClause as by_clause, Unified as unified, Assigned as assigned, Given as given, Closed as closed, Asked as asked, HasEffect}
+use Rattle.ghc_depend.proofs.Words.{◌≡◌, List, [], ◌∷◌, refl, inl, inr, Some, None, Option, VarName, Tree, Goal, In, value_at, Program, State, Record, after, HasStepEffect, Runs, query_state, Act, ByClause as by_clause, Unified as unified, Assigned as assigned, Given as given, Closed as closed, Asked as asked, HasEffect}
 use Rattle.ghc_term.specs.Goal.{call, unify, assign, stream}
-use Rattle.ghc_fire.specs.Effect.{Effect}
 use Rattle.ghc_depend.specs.Slices.{HasClausesOf, ReplayIsOfItsClauses}
 
 module _ (P Q : Program) (whole : List Record) (has : HasClausesOf P Q whole) where

@@ -1,5 +1,5 @@
 -- What replays alone, and stands in another replay, is extended to it by forward steps.
-use Rattle.ghc_depend.proofs.Words.{◌≡◌, ◌≤◌, ◌⊎◌, ℕ, List, [], ◌∷◌, ◌++◌, refl, sym, ap, ◌∙◌, subst, inl, inr, arith, VarName, In, IsAcyclic, value_at, Program, Query, IsProgram, IsQuery, AreDistinct, State, Record, numbers, after, query_state, Runs, Replays, Picks, nothing, leave, number_in, number_of, in_decided, nat_decided, of_query, replay_well, run_once, Uses, DependsOn, directly, further, IsClosedUnder, IsPartedBy}
+use Rattle.ghc_depend.proofs.Words.{◌⊎◌, List, [], ◌∷◌, ◌++◌, sym, ◌∙◌, subst, inl, inr, In, IsAcyclic, value_at, Program, Query, IsProgram, IsQuery, State, Record, numbers, query_state, Runs, Replays, Picks, nothing, leave, number_in, number_of, in_decided, nat_decided, of_query, replay_well, run_once, Uses, directly, further, IsClosedUnder, IsPartedBy}
 use Rattle.ghc_records.specs.Orders.{take}
 use Rattle.ghc_depend.specs.Laws.{ReplaysExtend}
 use Rattle.ghc_depend.proofs.Finding.{ends}

@@ -20,7 +20,7 @@ pub record Place (P : Program) (query : Query) (rs : List Record) (r : Record) :
   pub fires : Fires P state r
 
 module _ (P : Program) (query : Query) (whole : List Record) (numbered : HaveStepNumbers whole) where
-  stepped : (done rest : List Record) (r : Record) (s : State) → whole ≡ done ++ r ∷ rest → Results query done s → Fires P s r → Results query (done ++ r ∷ []) (after s r)
+  pub stepped : (done rest : List Record) (r : Record) (s : State) → whole ≡ done ++ r ∷ rest → Results query done s → Fires P s r → Results query (done ++ r ∷ []) (after s r)
   stepped done rest r s e h f =
       with_step query done s h P r f (numbered.0 r (subst (In r) (sym e) (in_right done (r ∷ rest) r (inl refl)))).0 (apart_at done rest r (subst (λ z. AreDistinct (numbers z)) e numbered.1))
 

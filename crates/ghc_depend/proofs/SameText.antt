@@ -1,9 +1,9 @@
 -- What a variable reaches decides its text.
-use Rattle.ghc_depend.proofs.Words.{◌≡◌, ◌⊎◌, ℕ, List, refl, sym, ◌∙◌, inl, inr, Some, Option, VarName, Tree, integer}
-use Rattle.ghc_term.specs.Tree.{variable, node, Trees, none, more}
+use Rattle.ghc_depend.proofs.Words.{◌≡◌, ℕ, List, refl, sym, ◌∙◌, inl, inr, Some, Option, VarName, Tree}
+use Rattle.ghc_term.specs.Tree.{variable, node, Trees, more}
 use Rattle.ghc_term.specs.Bindings.{Reaches, here, through}
-use Rattle.ghc_term.specs.Resolved.{Resolves, ResolvesAll, IsTextOf, an_integer, unbound, bound, a_node, no_more, one_more}
-use Rattle.ghc_depend.specs.Slices.{SameFrom, SameFromHasTheSameText}
+use Rattle.ghc_term.specs.Resolved.{Resolves, ResolvesAll, an_integer, unbound, bound, a_node, no_more, one_more}
+use Rattle.ghc_depend.specs.Slices.{SameFromHasTheSameText}
 
 module _ (S U : VarName → Option Tree) where
   in_first : (f : List ℕ) (t : Tree) (ts : Trees) (y : VarName) → Reaches S t y → Reaches S (node f (more t ts)) y

@@ -17,7 +17,7 @@ use Rattle.ghc_depend.proofs.Comparing.{bound_value}
 use Rattle.ghc_depend.proofs.Deleting as deleting
 
 -- what is picked by a property is picked by its double denial
-doubly : {X : Type 0} {Q : X → Type 0} (xs ys : List X) → Picks Q xs ys → Picks (λ x. ¬ ¬ Q x) xs ys
+pub doubly : {X : Type 0} {Q : X → Type 0} (xs ys : List X) → Picks Q xs ys → Picks (λ x. ¬ ¬ Q x) xs ys
 doubly [] ys nothing = nothing
 doubly (x ∷ xs) ys (take q p) = take (λ n. n q) (doubly xs _ p)
 doubly (x ∷ xs) ys (leave n p) = leave (λ d. d n) (doubly xs ys p)

@@ -1,8 +1,8 @@
 -- Lawful orders are those that are reached where neighbours change places.
-use Rattle.ghc_depend.proofs.Words.{◌≡◌, ◌⊎◌, ℕ, List, [], ◌∷◌, ◌++◌, refl, sym, subst, inl, inr, append_assoc, In, in_left, in_right, in_either, in_splits, AreDistinct, Record, numbers, Before, is_before, before_is, before_in, before_once, records_distinct, Uses, DependsOn, IsLawful, IsInOrder}
+use Rattle.ghc_depend.proofs.Words.{ℕ, List, [], ◌∷◌, ◌++◌, refl, sym, subst, inl, inr, append_assoc, In, in_left, in_right, in_either, in_splits, AreDistinct, Record, numbers, Before, is_before, before_is, before_in, before_once, records_distinct, Uses, IsLawful, IsInOrder}
 use Rattle.ghc_depend.specs.Laws.{SwapsInto, no_swap, one_more_swap, OrdersAreSwaps}
 use Rattle.ghc_depend.proofs.Decided.{by_numbers, by_records}
-use Rattle.ghc_depend.proofs.Picking.{before_front, before_right, kept_in, distinct_split}
+use Rattle.ghc_depend.proofs.Picking.{before_front, before_right, kept_in}
 use Rattle.ghc_depend.proofs.Arranging.{swap_before, neighbours_lawful}
 
 module _ {X : Type 0} where

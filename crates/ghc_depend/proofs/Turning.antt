@@ -1,5 +1,5 @@
 -- An order in which the kept steps replay is lawful; and two steps that are possible make a square.
-use Rattle.ghc_depend.proofs.Words.{◌≡◌, ◌≤◌, ◌⊎◌, ℕ, List, [], ◌∷◌, ◌++◌, refl, sym, ap, ◌∙◌, subst, inl, inr, arith, VarName, In, in_left, in_right, in_either, value_at, Program, Query, IsProgram, IsQuery, AreDistinct, State, Record, numbers, Replays, Before, is_before, before_is, before_once, number_in, number_of, of_query, records_distinct, Consumes, ReadsFrom, NamesFrom, Uses, DependsOn, IsLawful, IsInOrder, IsTooEarly}
+use Rattle.ghc_depend.proofs.Words.{◌≡◌, ◌≤◌, ℕ, List, [], ◌∷◌, ◌++◌, refl, sym, ap, ◌∙◌, subst, inl, inr, arith, In, in_left, in_right, in_either, Program, Query, IsQuery, AreDistinct, State, Record, numbers, Replays, Before, is_before, before_once, number_in, number_of, of_query, records_distinct, Uses, IsTooEarly}
 use Rattle.ghc_depend.specs.Laws.{ReplayingOrdersAreLawful, StepsSquare}
 use Rattle.ghc_depend.proofs.Finding.{ends}
 use Rattle.ghc_depend.proofs.Decided.{by_records}

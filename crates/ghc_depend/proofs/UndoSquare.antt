@@ -1,7 +1,7 @@
 -- An undo and a step make a square; and undoing ends.
-use Rattle.ghc_depend.proofs.Words.{◌≡◌, ◌⊎◌, ◌<◌, ◌≤◌, List, [], ◌∷◌, ◌++◌, length, sym, subst, inl, inr, arith, In, in_left, AreDistinct, Record, nothing, leave, is_before, before_is, picks_once, Replays, records_distinct, DependsOn, Follows, directly, further, IsWithout}
+use Rattle.ghc_depend.proofs.Words.{◌≡◌, ◌⊎◌, ◌≤◌, List, [], ◌∷◌, ◌++◌, length, sym, subst, inl, inr, arith, In, in_left, Record, nothing, leave, is_before, before_is, picks_once, Replays, records_distinct, DependsOn, Follows, directly, further, IsWithout}
 use Rattle.ghc_records.specs.Orders.{take}
-use Rattle.ghc_depend.specs.Laws.{UndoAndStepMeet, UndoAndStepSquare, UndoingEnds}
+use Rattle.ghc_depend.specs.Laws.{UndoAndStepSquare, UndoingEnds}
 use Rattle.ghc_depend.proofs.Picking.{before_last, pick_last, distinct_split}
 use Rattle.ghc_depend.proofs.Undoing.{undone}
 

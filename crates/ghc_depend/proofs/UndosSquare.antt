@@ -1,5 +1,5 @@
 -- Two undos make a square.
-use Rattle.ghc_depend.proofs.Words.{◌≡◌, ◌↔◌, ◌⊎◌, List, [], ◌∷◌, sym, inl, inr, In, Record, Picks, nothing, leave, Before, is_before, before_is, DependsOn}
+use Rattle.ghc_depend.proofs.Words.{◌≡◌, List, [], ◌∷◌, sym, inl, inr, In, Record, Picks, nothing, leave, is_before, before_is}
 use Rattle.ghc_records.specs.Orders.{take}
 use Rattle.ghc_depend.specs.Depend.{Follows, directly, further}
 use Rattle.ghc_depend.specs.Kept.{IsWithout}

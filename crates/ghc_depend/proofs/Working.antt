@@ -11,7 +11,7 @@ abbrev pub StandBehind : List Record → List Record → Type 0
 StandBehind rs new = (front back : List Record) (r a : Record) → new ≡ front ++ r ∷ back → DependsOn rs r a → In a front
 
 -- a part of an acyclic store is acyclic
-acyclic_part : (S F : VarName → Option Tree) → ((x : VarName) (t : Tree) → S x ≡ Some t → F x ≡ Some t) → IsAcyclic F → IsAcyclic S
+pub acyclic_part : (S F : VarName → Option Tree) → ((x : VarName) (t : Tree) → S x ≡ Some t → F x ≡ Some t) → IsAcyclic F → IsAcyclic S
 acyclic_part S F h acyclic x t e r = acyclic x t (h x t e) (reaches_more r h)
 
 module _ (P : Program) (query : Query) (rs : List Record) (t : State) (replay : Replays P query rs t) (acyclic : IsAcyclic (value_at t.store))

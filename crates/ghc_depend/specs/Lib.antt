@@ -2,6 +2,7 @@ pub mod Depend
 pub mod Cause
 pub mod Deletion
 pub mod Slices
+pub mod Parts
 pub mod Lawful
 pub mod Kept
 pub mod Facts

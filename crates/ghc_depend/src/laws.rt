@@ -1,5 +1,6 @@
 // Laws about the definitions, each as the contract of a function.
 ghost use Rattle.ghc_depend.specs.Laws.{OrdersHaveOneAnswer, OrdersAreDecided, ConsequencesHaveOneAnswer, LawOfDeletion, LawfulOrderKeepsReplay, ReplayingOrdersAreLawful, StepsSquare, UndosSquare, UndoAndStepSquare, UndoingEnds, OrdersAreSwaps, ReplaysExtend, NeighboursChangePlaces, UndoKeepsReplay, RollKeepsReplay, GoneComeBack, WithoutStepsIsOne, KeepsIsOne};
+ghost use Rattle.ghc_depend.specs.Parts.{PartsAreParted, PartsRunAmongOthers, OthersSeeWhatPartsGave, PartsComeTogether, PartsRunAlone, PlacesAreAlone, WrongPartsHaveFaults};
 ghost use Rattle.ghc_depend.specs.Slices.{SlicesAreLeast, GoalSlicesAreLeast, SameFromHasTheSameText, ReplayIsOfItsClauses};
 
 /// An order is lawful or has one pair that tells why not, and not both.
@@ -119,4 +120,45 @@ pub fn same_from_has_the_same_text()
 /// which the steps of the slice went, and on no other.
 pub fn replay_is_of_its_clauses()
     ensures { ReplayIsOfItsClauses }
+{}
+
+/// The part of a goal that a step took is that step and the parts of the goals that it made; no step is of two of these.
+pub fn parts_are_parted()
+    ensures { PartsAreParted }
+{}
+
+/// Where no ask reaches into the part of a goal, the part runs among the other steps. It begins with the goal alone, the others add just
+/// what the goal was given, and each of its steps is possible in its turn, with the effect recorded.
+pub fn parts_run_among_others()
+    ensures { PartsRunAmongOthers }
+{}
+
+/// Where no ask reaches into the part of a goal, the other steps take no goal that the part made, and read of what it bound only what
+/// the goal gave.
+pub fn others_see_what_parts_gave()
+    ensures { OthersSeeWhatPartsGave }
+{}
+
+/// Where no ask reaches into the part of a goal, and what the goal was given did not come of the part, an order is lawful that has first
+/// what does not follow from the part, then the part, then the rest.
+pub fn parts_come_together()
+    ensures { PartsComeTogether }
+{}
+
+/// Where no ask reaches into the part of a goal, and what the goal was given did not come of the part, the part runs alone. It begins with
+/// the goal and what that was given, has the effects recorded, and gives what it gave.
+pub fn parts_run_alone()
+    ensures { PartsRunAlone }
+{}
+
+/// The slice of a place in a value replays alone, with the effects recorded; the variable reaches the place there, which stands for
+/// what it stands for.
+pub fn places_are_alone()
+    ensures { PlacesAreAlone }
+{}
+
+/// *Algorithmic debugging* finds a fault: however goals are judged, the part of a goal that is judged wrong has a step whose goal is
+/// judged wrong, and which made no goal that a step took and that is judged wrong.
+pub fn wrong_parts_have_faults()
+    ensures { WrongPartsHaveFaults }
 {}

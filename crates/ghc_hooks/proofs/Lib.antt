@@ -21,4 +21,5 @@ pub mod FaceIsOne
 pub mod Unblocking
 pub mod Under
 pub mod AtOnce
+pub mod TakingUp
 mod Words

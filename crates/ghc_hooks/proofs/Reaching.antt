@@ -20,7 +20,7 @@ module _ {T : VarName → Option Tree} {from : List Tree} where
   }
 
   -- a tree is taken from the end of the open ones, others come in its place, and more is reached
-  replaced : (reached more : Variables) (rest new : List Tree) (t : Tree) → Reaching T from reached (rest ++ t ∷ [])
+  pub replaced : (reached more : Variables) (rest new : List Tree) (t : Tree) → Reaching T from reached (rest ++ t ∷ [])
       → ((y : VarName) → IsTrue (set.contains reached y) → IsTrue (set.contains more y))
       → ((y : VarName) → Occurs y t → IsTrue (set.contains more y) ⊎ StandsIn y new)
       → ((x : VarName) → IsTrue (set.contains more x) → IsTrue (set.contains reached x) ⊎ (Occurs x t × ((u : Tree) → T x ≡ Some u → In u new)))

@@ -2,13 +2,18 @@
 ghost use Rattle.std.specs.Prelude.{◌≡◌, ◌⊎◌, ◌++◌, map, IfOk, OnOk, IsTrue};
 ghost use Rattle.ghc_term.specs.Bindings.{Reaches};
 ghost use Rattle.ghc_term.specs.Store.{value_at};
+ghost use Rattle.ghc_term.specs.Lists.{In};
 ghost use Rattle.ghc_term.specs.Sets.{IsSetOf};
-ghost use Rattle.ghc_hooks.specs.Reached.{leaves, OneReaches, TakesUp};
+ghost use Rattle.ghc_term.specs.Tree.{Occurs};
+ghost use Rattle.ghc_hooks.specs.Reached.{leaves, OneReaches, TakesUp, TakesUpAll};
 ghost use Rattle.ghc_match.specs.Looked.{ExpressionReaches};
 ghost use Rattle.ghc_match.specs.inner.Meeting.{Gains};
 
 use ghc_term::{Expr, ExprView, Store, Term, TermView, VarName, Variables};
 use std::alloc::{AllocError, Global};
+
+// How many structures a search goes through as they are written, before it looks at their variables alone.
+const MOST_PLAIN: u32 = 4096;
 
 // Adds the leaves of the expression, from left to right. One step for each part of the expression, by a list of the parts that wait.
 pub fn push_leaves<'a>(
@@ -43,6 +48,7 @@ fn push_all<'a>(terms: &'a [Term], waiting: &mut Vec<&'a Term>) -> Result<(), Al
 }
 
 // Takes up a variable: if it was not reached before, its value is still to be gone through.
+#[inline(always)]
 fn take_up<'a>(
     store: &'a Store,
     x: VarName,
@@ -61,8 +67,39 @@ fn take_up<'a>(
     Ok(())
 }
 
+// Takes up each of the variables: a look-up or two for each.
+fn take_up_all<'a>(
+    store: &'a Store,
+    names: &[VarName],
+    reached: &mut Variables,
+    waiting: &mut Vec<&'a Term>,
+) -> Result<(), AllocError>
+    ensures { OnOk result (TakesUpAll (value_at store.now.held) (λ x. In x names.now) reached.old reached.new (map (λ t. t.now) waiting.old.items) (map (λ t. t.now) waiting.new.items)) }
+{
+    for name in names {
+        take_up(store, *name, reached, waiting)?;
+    }
+    Ok(())
+}
+
+// Takes up each variable that stands in the term.
+#[inline(never)]
+fn take_up_those_of<'a>(
+    alloc: Global,
+    store: &'a Store,
+    term: &Term,
+    reached: &mut Variables,
+    waiting: &mut Vec<&'a Term>,
+) -> Result<(), AllocError>
+    ensures { OnOk result (TakesUpAll (value_at store.now.held) (λ x. Occurs x term.now) reached.old reached.new (map (λ t. t.now) waiting.old.items) (map (λ t. t.now) waiting.new.items)) }
+{
+    let names = term.variables(alloc)?;
+    take_up_all(store, names.members(), reached, waiting)
+}
+
 /// All variables that the terms reach in the store. It goes by a loop, once through each term and through the value of each variable,
-/// and past what is closed as written. It fails only where memory is refused.
+/// and past what is closed as written. After 4,096 structures it asks each further one for its variables, so that a part that stands in
+/// many places costs its variables there. It fails only where memory is refused.
 pub fn reached_from<'a>(
     alloc: Global,
     store: &'a Store,
@@ -73,13 +110,21 @@ pub fn reached_from<'a>(
     store.acyclic();
     let mut reached = Variables::new(alloc);
     let mut waiting = terms;
+    let mut left = MOST_PLAIN;
     while let Some(term) = waiting.pop() {
         if term.is_closed() {
             continue;
         }
         match term.view() {
             TermView::Var(x) => take_up(store, x, &mut reached, &mut waiting)?,
-            TermView::Struct(_, arguments) => push_all(arguments, &mut waiting)?,
+            TermView::Struct(_, arguments) => {
+                if left == 0 {
+                    take_up_those_of(alloc, store, term, &mut reached, &mut waiting)?;
+                } else {
+                    left -= 1;
+                    push_all(arguments, &mut waiting)?;
+                }
+            }
             _ => {}
         }
     }

@@ -18,6 +18,8 @@ pub mod Merged
 pub mod Bind
 pub mod Weights
 pub mod Drops
+pub mod Far
+pub mod Gathered
 pub mod Goals
 pub mod Resolving
 pub mod Pieces

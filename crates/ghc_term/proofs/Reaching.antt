@@ -1,12 +1,13 @@
 -- Variables that reach none but each other, and the walks that add to them.
 use Rattle.ghc_term.proofs.Words.{◌≡◌, ◌≢◌, ℕ, true, false, List, [], ◌∷◌, ◌++◌, refl, sym, ap, ◌∙◌, subst, inl, inr, ◌⊎◌, append-nil, Option, Some, None, is_some, IfNone, eq_by_cmp, eq_by_cmp_equiv, option_or, VarName, Tree, variable, node, trees, Occurs, In, Reaches, here, through, name_cmp, AreKnown, AreKnownBut, StoreValue, value_at, with_binds, Sees, value_list}
+use Rattle.ghc_term.specs.inner.Walking.{StandsIn, Walking}
 use Rattle.std.specs.FinMap as finite
 use Rattle.ghc_term.proofs.BindingLists.{entry_of}
 use Rattle.ghc_term.proofs.ListsLemmas.{in_left, in_right, in_more}
 use Rattle.ghc_term.proofs.MapsLemmas.{key_in}
 use Rattle.ghc_term.proofs.Names.{name_total, same_name}
 use Rattle.ghc_term.proofs.WithBinds.{bound_at}
-use Rattle.ghc_term.proofs.Searching.{StandsIn, stands_right, give_way, occurs_among, value_in_list}
+use Rattle.ghc_term.proofs.Searching.{stands_right, give_way, occurs_among, value_in_list}
 
 -- what a variable of a tree reaches, the tree reaches
 pub reaches_in : {S : VarName → Option Tree} {t : Tree} {x y : VarName} → Occurs y t → Reaches S (variable y) x → Reaches S t x
@@ -44,10 +45,7 @@ stay_known s s' m es x known known' k same all others after z i n t e y o =
           absurd (others entry.0 entry.1 (λ r. n (sym entry.2 ∙ r)) (subst (λ w. In w known') (sym entry.2) i))
     ] refl bound
 
--- a walk through values: what stands in the value of a known variable is known, or in one of the open trees
-abbrev pub Walking : (VarName → Option Tree) → List VarName → List Tree → Type 0
-Walking T known open_ones = (x : VarName) → In x known → (u : Tree) → T x ≡ Some u → (y : VarName) → Occurs y u → In y known ⊎ StandsIn y open_ones
-
+-- a walk through values
 module _ {T : VarName → Option Tree} where
   -- the walk begins at the value of a variable
   pub begun : (x : VarName) (known : List VarName) (before open_ones : List Tree) → AreKnownBut T x known → open_ones ≡ before ++ value_list (T x) → Walking T known open_ones

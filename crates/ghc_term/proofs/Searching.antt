@@ -1,11 +1,8 @@
 -- How far a search for a variable has come: which variables were seen, and which trees are still open.
 use Rattle.ghc_term.proofs.Words.{◌≡◌, ℕ, ◌+◌, ◌<◌, List, [], ◌∷◌, ◌++◌, length, refl, sym, ap, ◌∙◌, subst, inl, inr, ◌⊎◌, arith, append-nil, Option, Some, None, map, Bor, map-append, VarName, Tree, variable, integer, node, trees, Occurs, OccursIn, StoreValue, value_at, In, Reaches, here, through, IsAcyclic, Sees, value_list}
+use Rattle.ghc_term.specs.inner.Walking.{StandsIn}
 use Rattle.ghc_term.proofs.ListsLemmas.{in_left, in_right, in_either, in_last, in_more}
 use Rattle.ghc_term.proofs.Weights.{size, size_all, size_variable}
-
--- the variable stands in one of the trees
-abbrev pub StandsIn : VarName → List Tree → Type 0
-StandsIn y ts = (t : Tree) × In t ts × Occurs y t
 
 pub stands_left : (ts us : List Tree) (y : VarName) → StandsIn y ts → StandsIn y (ts ++ us)
 stands_left ts us y s = (s.0, in_left ts us s.0 s.1, s.2)

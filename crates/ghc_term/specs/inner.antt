@@ -11,6 +11,8 @@ pub mod GoalCode
 pub mod GoalPlaces
 pub mod GoalShape
 pub mod GoalShown
+pub mod Kept
+pub mod KeptList
 pub mod Known
 pub mod Lookup
 pub mod Measure
@@ -22,3 +24,4 @@ pub mod Shown
 pub mod VariableList
 pub mod VariableMap
 pub mod View
+pub mod Walking

@@ -2,7 +2,7 @@
 ghost use Rattle.std.specs.Prelude.{◌≡◌, [], ◌∷◌};
 ghost use Rattle.ghc_term.specs.inner.View.{items_of, closed_of, KnowsClosed};
 
-use crate::term::{Term, are_closed};
+use crate::term::{Term, are_closed, do_branch};
 
 // Two arguments, as a list cell has, stand beside their name; others have memory of their own. With them stands whether no variable
 // stands in them, which takes no memory there.
@@ -45,6 +45,15 @@ impl Arguments {
         match self {
             Arguments::Two(is_closed, _) => *is_closed,
             Arguments::Others(is_closed, _) => *is_closed,
+        }
+    }
+
+    // Whether two of them or more are structures in which variables stand. Where nothing is open, it looks at none.
+    #[inline(always)]
+    pub(crate) fn branches(&self) -> bool {
+        match self {
+            Arguments::Two(is_closed, terms) => !*is_closed && do_branch(terms),
+            Arguments::Others(is_closed, list) => !*is_closed && do_branch(list.as_slice()),
         }
     }
 

@@ -1,16 +1,22 @@
 // A store with some bindings in front of it.
-ghost use Rattle.std.specs.Prelude.{◌≡◌, ◌↔◌, [], ◌++◌, map, IfOk, OnOk, IsTrue, option_copied};
+ghost use Rattle.std.specs.Prelude.{◌≡◌, ◌↔◌, [], ◌++◌, map, IfOk, OnOk, IsTrue, option_copied, slice_get};
 ghost use Rattle.ghc_term.specs.Bindings.{IsAcyclic, Leads, Reaches};
+ghost use Rattle.ghc_term.specs.Tree.{variable};
 ghost use Rattle.ghc_term.specs.inner.Known.{AreKnown, AreKnownBut};
+ghost use Rattle.ghc_term.specs.inner.Walking.{AreFirstKnown, Walking};
 ghost use Rattle.ghc_term.specs.Store.{value_at, with_bindings};
 
 use crate::bindings::Bindings;
+use crate::gathering::{add_variables, add_variables_of_all};
 use crate::store::Store;
 use crate::table::variable_list::VariableList;
 use crate::term::Term;
 use crate::var_name::VarName;
 use crate::view::TermView;
 use std::alloc::{AllocError, Global};
+
+// How many structures a walk goes through as they are written, before it looks at their variables alone.
+const MOST_PLAIN: u32 = 4096;
 
 /// A store with some bindings in front of it, in which no value reaches its own variable.
 #[derive(Clone, Copy)]
@@ -45,6 +51,16 @@ impl Chain<'_> {
     }
 }
 
+// The variable at the place, from 0 on.
+fn name_at(list: &VariableList, place: usize) -> Option<VarName>
+    ensures { result ≡ slice_get list.now place }
+{
+    match list.as_slice().get(place) {
+        Some(x) => Some(*x),
+        None => None,
+    }
+}
+
 // Adds the terms to those that are still to be searched.
 pub fn push_all<'a>(terms: &'a [Term], waiting: &mut Vec<&'a Term>) -> Result<(), AllocError>
     ensures { OnOk result (map (λ t. t.now) waiting.new.items ≡ map (λ t. t.now) waiting.old.items ++ terms.now) }
@@ -57,7 +73,8 @@ pub fn push_all<'a>(terms: &'a [Term], waiting: &mut Vec<&'a Term>) -> Result<()
 
 impl<'a> Overlay<'a> {
     ghost use Rattle.ghc_term.specs.inner.Overlay.{value_in};
-    ghost use Rattle.ghc_term.specs.inner.Seen.{Sees, value_list};
+    ghost use Rattle.ghc_term.specs.inner.Seen.{Sees, value_list, StandsInValue};
+    ghost use Rattle.ghc_term.specs.inner.KeptList.{Gathers};
 
     /// What the variable is bound to, in front or else in the store: two look-ups at most.
     pub fn get(&self, x: VarName) -> Option<&'a Term>
@@ -119,6 +136,49 @@ impl<'a> Overlay<'a> {
         self.binds.len() == 0 && self.store.is_known_apart(y, x)
     }
 
+    // The same of a variable.
+    fn is_name_known_apart(&self, y: VarName, x: VarName) -> bool
+        ensures { IsTrue result → ¬ Reaches (value_in self.now) (variable y) x }
+    {
+        self.binds.len() == 0 && self.store.is_known_apart(y, x)
+    }
+
+    // Adds the variables of the variable's value, if there is one.
+    fn add_those_of_value(
+        &self,
+        alloc: Global,
+        x: VarName,
+        seen: &mut VariableList,
+    ) -> Result<(), AllocError>
+        ensures { OnOk result (Gathers (StandsInValue (value_in self.now x)) seen.old seen.new) }
+    {
+        match self.get(x) {
+            Some(value) => add_variables(alloc, value, seen),
+            None => Ok(()),
+        }
+    }
+
+    // The search of `reaches` along variables alone, each of them once, where parts of terms may stand in many places.
+    fn search_far(&self, alloc: Global, from: &Term, to: VarName) -> Result<bool, AllocError>
+        ensures { IfOk result (λ yes. IsTrue yes ↔ Reaches (value_in self.now) from.now to) }
+    {
+        let mut seen = VariableList::new(alloc);
+        add_variables(alloc, from, &mut seen)?;
+        for index in 0..usize::MAX {
+            let Some(x) = name_at(&seen, index) else {
+                return Ok(false);
+            };
+            if x == to {
+                return Ok(true);
+            }
+            if self.is_name_known_apart(x, to) {
+                continue;
+            }
+            self.add_those_of_value(alloc, x, &mut seen)?;
+        }
+        Err(AllocError)
+    }
+
     // The search of `reaches`, of which nothing is seen so far.
     fn search(
         &self,
@@ -131,6 +191,7 @@ impl<'a> Overlay<'a> {
         ensures { IfOk result (λ yes. IsTrue yes ↔ Reaches (value_in self.now) from.now to) }
     {
         let mut waiting = Vec::new(alloc);
+        let mut left = MOST_PLAIN;
         waiting.push(from)?;
         while let Some(term) = waiting.pop() {
             if term.is_closed() {
@@ -146,7 +207,13 @@ impl<'a> Overlay<'a> {
                     }
                     self.see(x, seen, &mut waiting)?;
                 }
-                TermView::Struct(_, arguments) => push_all(arguments, &mut waiting)?,
+                TermView::Struct(_, arguments) => {
+                    if left == 0 {
+                        return self.search_far(alloc, from, to);
+                    }
+                    left -= 1;
+                    push_all(arguments, &mut waiting)?;
+                }
                 _ => {}
             }
         }
@@ -173,8 +240,42 @@ impl<'a> Overlay<'a> {
         Ok(())
     }
 
+    // Adds to the known variables all that the values of those from the place on reach: the value of each once.
+    fn learn_values(
+        &self,
+        alloc: Global,
+        from: usize,
+        known: &mut VariableList,
+    ) -> Result<(), AllocError>
+        requires { AreFirstKnown (value_in self.now) from known.old }
+        ensures { OnOk result (AreKnown (value_in self.now) known.new) }
+    {
+        for index in from..usize::MAX {
+            let Some(x) = name_at(known, index) else {
+                return Ok(());
+            };
+            self.add_those_of_value(alloc, x, known)?;
+        }
+        Err(AllocError)
+    }
+
+    // The rest of a walk of `learn`, along variables alone, each of them once, where parts of terms may stand in many places.
+    fn learn_far(
+        &self,
+        alloc: Global,
+        waiting: &[&Term],
+        known: &mut VariableList,
+    ) -> Result<(), AllocError>
+        requires { Walking (value_in self.now) known.old (map (λ t. t.now) waiting.now) }
+        ensures { OnOk result (AreKnown (value_in self.now) known.new) }
+    {
+        let count = known.as_slice().len();
+        add_variables_of_all(alloc, waiting, known)?;
+        self.learn_values(alloc, count, known)
+    }
+
     // Adds to the known variables all that the value of the variable reaches, where only this one of them may have been bound since they
-    // were known: one step for each part of the values that were not gone through.
+    // were known: one step for each part of the values that were not gone through, up to a limit, and then one for each variable.
     pub(crate) fn learn(
         &self,
         alloc: Global,
@@ -185,6 +286,7 @@ impl<'a> Overlay<'a> {
         ensures { OnOk result (AreKnown (value_in self.now) known.new) }
     {
         let mut waiting = Vec::new(alloc);
+        let mut left = MOST_PLAIN;
         self.open_value(x, &mut waiting)?;
         while let Some(term) = waiting.pop() {
             if term.is_closed() {
@@ -192,7 +294,13 @@ impl<'a> Overlay<'a> {
             }
             match term.view() {
                 TermView::Var(y) => self.see(y, known, &mut waiting)?,
-                TermView::Struct(_, arguments) => push_all(arguments, &mut waiting)?,
+                TermView::Struct(_, arguments) => {
+                    push_all(arguments, &mut waiting)?;
+                    if left == 0 {
+                        return self.learn_far(alloc, waiting.as_slice(), known);
+                    }
+                    left -= 1;
+                }
                 _ => {}
             }
         }

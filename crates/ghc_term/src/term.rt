@@ -1,12 +1,15 @@
 // Terms: trees whose inner parts are shared.
-ghost use Rattle.std.specs.Prelude.{◌≡◌, ◌≢◌, ◌↔◌, [], ◌∷◌, IfOk, IsTrue};
+ghost use Rattle.std.specs.Prelude.{◌≡◌, ◌≢◌, ◌↔◌, [], ◌∷◌, false, IfOk, IsTrue};
 ghost use Rattle.ghc_term.specs.Tree.{variable, integer, atom, node, trees, IsClosed, AreClosed};
 ghost use Rattle.ghc_term.specs.inner.View.{items_of, KnowsClosed};
 
 use crate::arguments::{Arguments, give_up, parts_of_two};
+use crate::kept::{Listed, add_kept, is_kept, keep, nothing_kept};
 use crate::name::Name;
+use crate::table::variable_list::VariableList;
 use crate::var_name::VarName;
 use crate::view::TermView;
+use counted_slot::Counted;
 use std::alloc::{AllocError, Global};
 use std::marker::Model;
 use std::sync::Arc;
@@ -25,6 +28,7 @@ enum Shape {
     Int(i64),
     Atom(Name),
     Struct(Arc<Structure>),
+    Branch(Arc<Branch>),
 }
 
 // A name over one argument or more.
@@ -32,6 +36,14 @@ enum Shape {
 struct Structure {
     name: Name,
     arguments: Arguments,
+}
+
+// A structure of which two arguments or more are open structures. Its variables are kept once they were asked for, so that a part that
+// stands in many places is looked into once.
+#[cycle(term)]
+struct Branch {
+    structure: Structure,
+    kept: Counted<Option<Listed>>,
 }
 
 impl Model for Term {
@@ -107,6 +119,9 @@ impl Term {
         requires { (items_of arguments ≢ []) × KnowsClosed arguments }
         ensures { IfOk result (λ t. t ≡ node name (trees (items_of arguments))) }
     {
+        if arguments.branches() {
+            return Term::over_branching(alloc, name, arguments);
+        }
         match Arc::new(alloc, Structure { name, arguments }) {
             Ok(structure) => Ok(Term {
                 shape: Shape::Struct(structure),
@@ -116,6 +131,32 @@ impl Term {
                     name: _name,
                     arguments,
                 } = failed.value;
+                give_up(arguments);
+                Err(AllocError)
+            }
+        }
+    }
+
+    // The same of a structure that is to keep its variables.
+    fn over_branching(alloc: Global, name: Name, arguments: Arguments) -> Result<Term, AllocError>
+        requires { (items_of arguments ≢ []) × KnowsClosed arguments }
+        ensures { IfOk result (λ t. t ≡ node name (trees (items_of arguments))) }
+    {
+        let kept = nothing_kept(&arguments);
+        let structure = Structure { name, arguments };
+        match Arc::new(alloc, Branch { structure, kept }) {
+            Ok(branch) => Ok(Term {
+                shape: Shape::Branch(branch),
+            }),
+            Err(failed) => {
+                let Branch {
+                    structure,
+                    kept: _kept,
+                } = failed.value;
+                let Structure {
+                    name: _name,
+                    arguments,
+                } = structure;
                 give_up(arguments);
                 Err(AllocError)
             }
@@ -134,6 +175,9 @@ impl Term {
             Shape::Struct(structure) => Ok(Term {
                 shape: Shape::Struct(Arc::try_clone(structure)?),
             }),
+            Shape::Branch(branch) => Ok(Term {
+                shape: Shape::Branch(Arc::try_clone(branch)?),
+            }),
         }
     }
 
@@ -147,6 +191,7 @@ impl Term {
             Shape::Int(_) => true,
             Shape::Atom(_) => true,
             Shape::Struct(structure) => structure.arguments.is_closed(),
+            Shape::Branch(branch) => branch.structure.arguments.is_closed(),
         }
     }
 
@@ -163,8 +208,80 @@ impl Term {
             Shape::Struct(structure) => {
                 TermView::Struct(&structure.name, structure.arguments.as_slice())
             },
+            Shape::Branch(branch) => TermView::Struct(
+                &branch.structure.name,
+                branch.structure.arguments.as_slice(),
+            ),
         }
     }
+}
+
+impl Term {
+    ghost use Rattle.ghc_term.specs.Lists.{In};
+    ghost use Rattle.ghc_term.specs.Tree.{Occurs};
+    ghost use Rattle.ghc_term.specs.declared.var_name.VarName.{VarName};
+    ghost use Rattle.ghc_term.specs.inner.KeptList.{Gathers};
+
+    // Whether it is a structure in which a variable stands.
+    #[inline(always)]
+    pub(crate) fn is_open_structure(&self) -> bool {
+        match &self.shape {
+            Shape::Struct(structure) => !structure.arguments.is_closed(),
+            Shape::Branch(_) => true,
+            _ => false,
+        }
+    }
+
+    // Whether it keeps its variables, or would keep them.
+    pub(crate) fn may_keep(&self) -> bool {
+        match &self.shape {
+            Shape::Branch(_) => true,
+            _ => false,
+        }
+    }
+
+    // Whether it keeps its variables.
+    pub(crate) fn keeps(&self) -> bool {
+        match &self.shape {
+            Shape::Branch(branch) => is_kept(&branch.kept),
+            _ => false,
+        }
+    }
+
+    // Adds its variables where it keeps them, and says whether it does.
+    pub(crate) fn add_kept(&self, into: &mut VariableList) -> Result<bool, AllocError>
+        ensures found { IfOk result (λ found. IsTrue found → Gathers (λ y. Occurs y self.now) into.old into.new) }
+        ensures none { IfOk result (λ found. (found ≡ false) → (into.new ≡ into.old)) }
+    {
+        match &self.shape {
+            Shape::Branch(branch) => add_kept(&branch.kept, into),
+            _ => Ok(false),
+        }
+    }
+
+    // Keeps its variables, if it is to keep them and does not yet.
+    pub(crate) fn keep(&self, variables: Vec<VarName>)
+        requires { (x : VarName) → In x variables.items ↔ Occurs x self.now }
+    {
+        match &self.shape {
+            Shape::Branch(branch) => keep(&branch.kept, variables),
+            _ => {}
+        }
+    }
+}
+
+// Whether two of the terms or more are structures in which variables stand: one step a term.
+pub(crate) fn do_branch(terms: &[Term]) -> bool {
+    let mut has_one = false;
+    for term in terms {
+        if term.is_open_structure() {
+            if has_one {
+                return true;
+            }
+            has_one = true;
+        }
+    }
+    false
 }
 
 // Whether no variable stands in the terms: one step a term.
@@ -192,6 +309,32 @@ impl Drop for Term {
                     let Some(structure) = Arc::into_inner(structure) else {
                         return;
                     };
+                    let Structure {
+                        name: _name,
+                        arguments,
+                    } = structure;
+                    let last = match arguments {
+                        Arguments::Two(_, terms) => {
+                            let (_first, last) = parts_of_two(terms);
+                            last
+                        }
+                        Arguments::Others(_, mut list) => {
+                            let Some(last) = list.pop() else {
+                                return;
+                            };
+                            last
+                        }
+                    };
+                    self = last;
+                }
+                Shape::Branch(branch) => {
+                    let Some(branch) = Arc::into_inner(branch) else {
+                        return;
+                    };
+                    let Branch {
+                        structure,
+                        kept: _kept,
+                    } = branch;
                     let Structure {
                         name: _name,
                         arguments,

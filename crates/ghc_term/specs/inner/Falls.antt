@@ -3,7 +3,7 @@ use Rattle.std.specs.Prelude.{◌+◌, ◌≤◌, max, List, [], ◌∷◌}
 use Rattle.std.proofs.Common.{arith}
 use denote.Param.Weighed.{most}
 use Rattle.ghc_term.specs.declared.term.Shape.{Shape}
-use Rattle.ghc_term.specs.declared.term.Shape.TheVariants.{Var, Int, Atom, Struct}
+use Rattle.ghc_term.specs.declared.term.Shape.TheVariants.{Var, Int, Atom, Struct, Branch}
 use Rattle.ghc_term.specs.declared.arguments.Arguments.{Arguments}
 use Rattle.ghc_term.specs.declared.arguments.Arguments.TheVariants.{Two, Others}
 use Rattle.ghc_term.specs.declared.term.Term.TheDeep.{deep-Shape, deep-Arguments}
@@ -25,3 +25,4 @@ deep_height (Var _ x) = omega arith
 deep_height (Int k) = omega arith
 deep_height (Atom f) = omega arith
 deep_height (Struct s) = omega (arith, most_items s.value.arguments)
+deep_height (Branch b) = omega (arith, most_items b.value.structure.arguments)

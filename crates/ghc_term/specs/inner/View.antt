@@ -1,10 +1,12 @@
 -- What one level of a term stands for, and how high a tree is.
-use Rattle.std.specs.Prelude.{◌≢◌, ◌↔◌, ℕ, Bool, List, ◌+◌, [], max, IsTrue}
+use Rattle.std.specs.Prelude.{◌≡◌, ◌≢◌, ◌↔◌, ℕ, Bool, List, ◌+◌, [], max, IsTrue}
 use Rattle.ghc_term.specs.declared.term.Shape.{Shape}
-use Rattle.ghc_term.specs.declared.term.Shape.TheVariants.{Var, Int, Atom, Struct}
+use Rattle.ghc_term.specs.declared.term.Shape.TheVariants.{Var, Int, Atom, Struct, Branch}
 use Rattle.ghc_term.specs.declared.arguments.Arguments.{Arguments}
 use Rattle.ghc_term.specs.declared.arguments.Arguments.TheVariants.{Two, Others}
 use Rattle.ghc_term.specs.Tree.{Tree, variable, integer, node, Trees, none, more, trees, atom, AreClosed}
+use Rattle.ghc_term.specs.Variables.{variables_of_all}
+use Rattle.ghc_term.specs.inner.KeptList.{numbered}
 
 -- the arguments in order
 abbrev pub items_of : Arguments → List Tree
@@ -26,6 +28,7 @@ tree_of (Var _ x) = variable x
 tree_of (Int k) = integer k
 tree_of (Atom f) = atom f
 tree_of (Struct s) = node s.value.name (trees (items_of s.value.arguments))
+tree_of (Branch b) = node b.value.structure.name (trees (items_of b.value.structure.arguments))
 
 -- a structure has at least one argument, and knows whether a variable stands in it
 abbrev pub IsWellMade : Shape → Type 0
@@ -33,6 +36,7 @@ IsWellMade (Var _ x) = Unit {0}
 IsWellMade (Int k) = Unit {0}
 IsWellMade (Atom f) = Unit {0}
 IsWellMade (Struct s) = (items_of s.value.arguments ≢ []) × KnowsClosed s.value.arguments
+IsWellMade (Branch b) = (items_of b.value.structure.arguments ≢ []) × KnowsClosed b.value.structure.arguments × (b.value.kept.numbers ≡ numbered (variables_of_all (trees (items_of b.value.structure.arguments))))
 
 abbrev mutual
   pub height : Tree → ℕ

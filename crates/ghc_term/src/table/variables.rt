@@ -37,6 +37,13 @@ impl Variables {
         }
     }
 
+    // The variables of the list.
+    pub(crate) fn of(members: VariableList) -> Variables
+        ensures { result ≡ set.from_list members }
+    {
+        Variables { members }
+    }
+
     /// Whether the variable is in the set: one look-up.
     pub fn contains(&self, x: VarName) -> bool
         ensures { result ≡ set.contains self.now x }

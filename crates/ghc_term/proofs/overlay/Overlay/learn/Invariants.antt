@@ -1,6 +1,6 @@
 use Rattle.ghc_term.proofs.Words.{map, value_in}
+use Rattle.ghc_term.specs.inner.Walking.{Walking}
 use Rattle.ghc_term.proofs.Merged.{all_bound}
-use Rattle.ghc_term.proofs.Reaching.{Walking}
 use Rattle.ghc_term.proofs.Searching.{sizes}
 use Rattle.ghc_term.proofs.overlay.Overlay.learn.Given as goal
 
