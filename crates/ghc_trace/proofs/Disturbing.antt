@@ -8,7 +8,7 @@ abbrev pub LooksAtOneOf : NotesByGoal → List (VarName × Tree) → GoalName �
 LooksAtOneOf notes bs g = (b : VarName × Tree) × In b bs × HasLookedAt notes b.0 g
 
 -- a variable has a value in a map where it is among the keys
-is_key : (es : List (VarName × Tree)) (x : VarName) → finite.contains_key (finite.from_entries {R = name_cmp} es) x ≡ list_any (eq_by_cmp name_cmp x) (keys_of es)
+pub is_key : (es : List (VarName × Tree)) (x : VarName) → finite.contains_key (finite.from_entries {R = name_cmp} es) x ≡ list_any (eq_by_cmp name_cmp x) (keys_of es)
 is_key es x = ap is_some (finite.get-from_entries name_total es x) ∙ is_some-find name_cmp x es
 
 -- all that look at one of the bindings of a step look where it binds

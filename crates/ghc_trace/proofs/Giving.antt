@@ -18,7 +18,7 @@ cause_as : (kept : List Record) {Q R : Record → Type 0} → ((r : Record) → 
 cause_as kept h (root {r = r} q) i = root (h r i q)
 cause_as kept h (cause {a = a} {b = b} c d) i = cause (cause_as kept h c (ends kept b a d).1) d
 
-picks_as : {Q R : Record → Type 0} (xs ys : List Record) → ((r : Record) → In r xs → Q r ↔ R r) → Picks Q xs ys → Picks R xs ys
+pub picks_as : {Q R : Record → Type 0} (xs ys : List Record) → ((r : Record) → In r xs → Q r ↔ R r) → Picks Q xs ys → Picks R xs ys
 picks_as [] ys h nothing = nothing
 picks_as (x ∷ xs) ys h (taken q p) = taken ((h x (inl refl)).0 q) (picks_as xs _ (λ r i. h r (inr i)) p)
 picks_as (x ∷ xs) ys h (leave n p) = leave (λ r. n ((h x (inl refl)).1 r)) (picks_as xs ys (λ r i. h r (inr i)) p)

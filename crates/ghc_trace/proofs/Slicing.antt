@@ -24,14 +24,14 @@ in_rest (s ∷ ss) (suc far) zero r at h = absurd (omega (arith, h))
 in_rest (s ∷ ss) (suc far) (suc p) r at h = in_rest ss far p r at (omega (arith, h))
 
 -- at a place there is no step, or one before all that follow
-step_at : (ss : SlotList) (p : ℕ) → (held_in (drop p ss) ≡ held_in (drop (suc p) ss)) ⊎ ((a : Record) × StandsIn ss p a × (held_in (drop p ss) ≡ a ∷ held_in (drop (suc p) ss)))
+pub step_at : (ss : SlotList) (p : ℕ) → (held_in (drop p ss) ≡ held_in (drop (suc p) ss)) ⊎ ((a : Record) × StandsIn ss p a × (held_in (drop p ss) ≡ a ∷ held_in (drop (suc p) ss)))
 step_at [] zero = inl refl
 step_at [] (suc p) = inl refl
 step_at (None ∷ ss) zero = inl refl
 step_at (Some a ∷ ss) zero = inr (a, refl, refl)
 step_at (s ∷ ss) (suc p) = step_at ss p
 
-opened : (ss : SlotList) (p : ℕ) (a : Record) → StandsIn ss p a → held_in (drop p ss) ≡ a ∷ held_in (drop (suc p) ss)
+pub opened : (ss : SlotList) (p : ℕ) (a : Record) → StandsIn ss p a → held_in (drop p ss) ≡ a ∷ held_in (drop (suc p) ss)
 opened [] zero a at = cc
 opened [] (suc p) a at = cc
 opened (None ∷ ss) zero a at = cc

@@ -9,6 +9,9 @@ use Rattle.ghc_records.specs.Orders.{Picks}
 use Rattle.ghc_records.specs.Record.{State, Record, numbers}
 use Rattle.ghc_records.specs.UseIndex.{StepBinds}
 use Rattle.ghc_records.specs.inner.Slots.{SlotList, StandsIn}
+use Rattle.ghc_term.specs.Store.{value_at}
+use Rattle.ghc_depend.specs.Deletion.{IsPartedBy}
+use Rattle.ghc_depend.specs.Parts.{GavePlace}
 use Rattle.ghc_depend.specs.Slices.{IsCauseOf, IsGoalSliceOf, IsSliceOf}
 
 -- At the place p, in front of the other place, stands a step of which P holds.
@@ -34,6 +37,10 @@ IsSliceTold kept roots told = (found : List Record) × Picks (IsCauseOf kept (Is
 -- Told are the steps of the slice of x, in recorded order, by their numbers.
 abbrev pub IsToldSliceOf : List Record → State → VarName → List ℕ → Type 0
 IsToldSliceOf kept t x told = (found rest : List Record) × IsSliceOf kept t x found rest × (numbers found ≡ told)
+
+-- Told are the steps of the slice of the place of y in the term of x, in recorded order, by their numbers.
+abbrev pub IsToldPlaceSliceOf : List Record → State → VarName → VarName → List ℕ → Type 0
+IsToldPlaceSliceOf kept t x y told = (found rest : List Record) × IsPartedBy kept (IsCauseOf kept (GavePlace (value_at t.store) x y)) found rest × (numbers found ≡ told)
 
 -- These are the numbers of the kept steps that bound a variable of which Q holds.
 abbrev pub AreBindersOf : List Record → (VarName → Type 0) → List ℕ → Type 0

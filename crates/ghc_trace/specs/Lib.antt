@@ -15,4 +15,9 @@ pub mod Spies
 pub mod SpyLaws
 pub mod OtherClauses
 pub mod Explaining
+pub mod Parts
+pub mod PartLines
+pub mod Blaming
+pub mod BlameLaws
+pub mod BlameLines
 pub mod inner

@@ -54,7 +54,11 @@ fn push_arguments<'a>(arguments: &'a [Term], terms: &mut Vec<&'a Term>) -> Resul
 }
 
 // All variables that the goal reaches in the store.
-fn reached_by_goal(alloc: Global, store: &Store, goal: &Goal) -> Result<Variables, AllocError>
+pub(crate) fn reached_by_goal(
+    alloc: Global,
+    store: &Store,
+    goal: &Goal,
+) -> Result<Variables, AllocError>
     ensures { IfOk result (λ xs. IsSetOf xs (GoalReaches (value_at store.now.held) goal.now)) }
 {
     let mut terms = Vec::new(alloc);

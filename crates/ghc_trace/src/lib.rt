@@ -2,6 +2,9 @@
 //! bound the variables of a chain, which goals descend from a goal, and which predicates are spied.
 #![tactic(auto)]
 
+mod blame_lines;
+mod blaming;
+mod call_given;
 mod cause_places;
 mod descent;
 mod disturbed;
@@ -12,12 +15,20 @@ mod given_goal;
 mod goal_laws;
 mod goal_lines;
 mod holding;
+mod judgements;
 mod laws;
 mod news;
+mod next_question;
 mod others;
+mod part_lines;
+mod parts;
+mod place_slices;
 mod port;
+mod questions;
 mod reason_text;
 mod reasons;
+mod slice_calls;
+mod slice_store;
 mod slices;
 mod spies;
 mod spy_laws;
@@ -26,6 +37,7 @@ mod step_ports;
 mod stuck;
 mod who_bound;
 
+pub use blaming::push_blame;
 pub use descent::descends;
 pub use disturbed::Disturbed;
 pub use explaining::{push_goal, push_holders, push_steps};
@@ -34,8 +46,14 @@ pub use given_goal::slice_of_goal;
 pub use goal_laws::{lines_are_of_goals, notes_tell_goals};
 pub use goal_lines::push_goals;
 pub use holding::{Holder, holders, holders_for};
-pub use laws::{notes_tell_news, notes_tell_ports, other_clauses_are_taken};
+pub use judgements::{Answer, Answers, Judgement, Subject};
+pub use laws::{
+    blame_goes_on, blame_has_one_top, blame_is_sound, notes_tell_news, notes_tell_ports,
+    other_clauses_are_taken,
+};
 pub use others::other_clauses;
+pub use part_lines::push_call;
+pub use parts::taker_of;
 pub use port::{Port, push_port, push_ports};
 pub use reason_text::push_reason;
 pub use reasons::{Reason, why};
