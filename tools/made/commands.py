@@ -31,7 +31,7 @@ READ_BY = {
     "goal_command": r"(X or )?G",
     "two_word_command": r"G( \[C\])?|F/N|\[1\]",
     "three_word_command": r"G \[C\]",
-    "of_line": r"N \.\.|K TERM|GOALS",
+    "of_line": r"N \.\.|K TERM|GOALS|X or G \.\.",
 }
 
 
@@ -277,7 +277,7 @@ def unlike_parser(root, groups):
         form, reads = rows[word].form, sorted(parsed[word])
         if any(not re.fullmatch(READ_BY.get(function, ""), rows[word].rest) for function in reads):
             yield f"{TABLE}: `{form}` is not what {', '.join(reads)} of command.rt read"
-        elif len(reads) == 1 and re.search(r"\[| or ", form):
+        elif len(reads) == 1 and reads != ["of_line"] and re.search(r"\[| or ", form):
             yield f"{TABLE}: `{form}` has two forms, of which command.rt reads one, in {reads[0]}"
 
 

@@ -16,8 +16,11 @@ pub mod PredicateWordLemmas
 pub mod GivenNames
 pub mod CauseReplies
 pub mod ExplainReplies
+pub mod PartReplying
+pub mod BlameReplying
 pub mod LookReplies
 pub mod Ordering
+pub mod Answering
 pub mod LineMemory
 pub mod Spying
 pub mod RunLines

@@ -1,19 +1,19 @@
--- Numbers that are gathered word by word.
+-- What is gathered word by word: numbers, or answers.
 use Rattle.ghc_console.proofs.CitedWords.{◌≡◌, ◌⊎◌, ◌∙◌, inl, inr, ℕ, List, [], ◌∷◌, ◌++◌, refl, sym, ap, subst, append_assoc, append-nil, Option, Some, None, BeginsWithNumber, in_front, number_of}
 
--- the numbers that are still to come, after those that are there
-abbrev pub behind : List ℕ → Option (List ℕ) → Option (List ℕ)
-behind numbers None = None
-behind numbers (Some more) = Some (numbers ++ more)
+-- what is still to come, after what is there
+abbrev pub behind : {X : Type 0} → List X → Option (List X) → Option (List X)
+behind there None = None
+behind there (Some more) = Some (there ++ more)
 
-pub one_more : (numbers : List ℕ) (number : ℕ) (more : Option (List ℕ)) → behind numbers (in_front (Some number) more) ≡ behind (numbers ++ number ∷ []) more
-one_more numbers number None = refl
-one_more numbers number (Some more) = ap Some (sym (append_assoc numbers (number ∷ []) more))
+pub one_more : {X : Type 0} (there : List X) (x : X) (more : Option (List X)) → behind there (in_front (Some x) more) ≡ behind (there ++ x ∷ []) more
+one_more there x None = refl
+one_more there x (Some more) = ap Some (sym (append_assoc there (x ∷ []) more))
 
-pub all_there : (numbers : List ℕ) → behind numbers (Some []) ≡ Some numbers
-all_there numbers = ap Some (append-nil numbers)
+pub all_there : {X : Type 0} (there : List X) → behind there (Some []) ≡ Some there
+all_there there = ap Some (append-nil there)
 
-pub none_there : (more : Option (List ℕ)) → behind [] more ≡ more
+pub none_there : {X : Type 0} (more : Option (List X)) → behind [] more ≡ more
 none_there None = refl
 none_there (Some more) = refl
 

@@ -5,9 +5,10 @@ use Rattle.std.specs.Str.{bytes_eq}
 use Rattle.ghc_term.specs.declared.goal_name.GoalName.{GoalName}
 use Rattle.ghc_core.specs.declared.command.Command.TheVariants.{Undo, Redo, Roll, Arrange, Close}
 use Rattle.ghc_console.specs.Words.{behind, goal_name_of, is_printable, is_variable, number_of, numbers_of, words_of}
+use Rattle.ghc_console.specs.BlameWords.{blame_of}
 use Rattle.ghc_console.specs.PredicateWords.{predicate_of}
 use Rattle.ghc_console.specs.declared.command.LineCommand.{LineCommand}
-use Rattle.ghc_console.specs.declared.command.LineCommand.TheVariants.{Nothing, Step, Obey, Show, Records, Since, Causes, GoalOf, Clauses, Goals, Why, Who, Explain, ExplainGoal, Keep, KeepGoal, Shelf, Save, SaveSteps, Spy, Unspy, Input, Ask, Leap, Skip, Quit, Unknown}
+use Rattle.ghc_console.specs.declared.command.LineCommand.TheVariants.{Nothing, Step, Obey, Show, Records, Since, Causes, GoalOf, Clauses, Goals, Why, Who, Explain, ExplainGoal, Part, Keep, KeepGoal, Shelf, Save, SaveSteps, Spy, Unspy, Input, Ask, Leap, Skip, Quit, Unknown}
 
 -- A step with the goal, by the least clause that accepts, where the word named one.
 abbrev pub step_with : Option GoalName → LineCommand
@@ -71,9 +72,11 @@ command_with_variable name word = if bytes_eq name (codes "show") then Show word
     else (if bytes_eq name (codes "explain") then Explain word
     else (if bytes_eq name (codes "keep") then Keep word else Unknown)))
 
--- The command of a word with a goal: `explain G` or `keep G`.
+-- The command of a word with a goal: `explain G`, `part G` or `keep G`.
 abbrev pub command_with_goal : List ℕ → GoalName → LineCommand
-command_with_goal name goal = if bytes_eq name (codes "explain") then ExplainGoal goal else (if bytes_eq name (codes "keep") then KeepGoal goal else Unknown)
+command_with_goal name goal = if bytes_eq name (codes "explain") then ExplainGoal goal
+    else (if bytes_eq name (codes "part") then Part goal
+    else (if bytes_eq name (codes "keep") then KeepGoal goal else Unknown))
 
 -- The same, where the next word named a goal; or the command of a number, where it said one.
 abbrev pub named : List ℕ → Option GoalName → Option ℕ → LineCommand
@@ -136,12 +139,13 @@ abbrev pub ask_with : List ℕ → LineCommand
 ask_with (byte ∷ bytes) = Ask (byte ∷ bytes)
 ask_with [] = Unknown
 
--- The command of the words of a line. `arrange` takes any number of words after it; `in K T` a number, and all that stands after the first two words; and `ask T` all that stands after the first.
+-- The command of the words of a line. `arrange` and `blame` take any number of words after them; `in K T` a number, and all that stands after the first two words; and `ask T` all that stands after the first.
 abbrev pub command_of_words : List (List ℕ) → List ℕ → LineCommand
 command_of_words [] line = Nothing
 command_of_words (name ∷ words) line = if bytes_eq name (codes "arrange") then arrange_with (numbers_of words)
     else (if bytes_eq name (codes "in") then input_to words (behind 2 line)
-    else (if bytes_eq name (codes "ask") then ask_with (behind 1 line) else command_by_count name words))
+    else (if bytes_eq name (codes "blame") then blame_of words
+    else (if bytes_eq name (codes "ask") then ask_with (behind 1 line) else command_by_count name words)))
 
 -- The command that a line says. With a byte that is not printable it says none that is known.
 abbrev pub command_of : List ℕ → LineCommand

@@ -2,6 +2,7 @@ pub mod Lines
 pub mod Reading
 pub mod Words
 pub mod PredicateWords
+pub mod BlameWords
 pub mod Commands
 pub mod LineMemory
 pub mod VariableNamed
@@ -10,6 +11,8 @@ pub mod SessionState
 pub mod TextLines
 pub mod Looks
 pub mod Explaining
+pub mod PartReplies
+pub mod BlameReplies
 pub mod RunReplies
 pub mod Keeping
 pub mod KeepLaws

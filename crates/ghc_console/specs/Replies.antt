@@ -44,6 +44,8 @@ use Rattle.ghc_trace.specs.Who.{AreBindersTold, binder_text}
 use Rattle.ghc_trace.specs.Spies.{Spies}
 pub use Rattle.ghc_console.specs.TextLines.{lined, lines_or_none, numbers_text, record_lines, refusal, text_lines, undone_text}
 use Rattle.ghc_console.specs.Explaining.{RepliesToExplain, RepliesToExplainGoal}
+use Rattle.ghc_console.specs.BlameReplies.{RepliesToBlame, RepliesToBlameGoal, RepliesToBlamePlace}
+use Rattle.ghc_console.specs.PartReplies.{RepliesToPart}
 use Rattle.ghc_console.specs.Looks.{RepliesToSince, RepliesToCauses, RepliesToGoalOf, RepliesToClauses}
 use Rattle.ghc_console.specs.RunReplies.{TellsRun, RepliesToSkip}
 use Rattle.ghc_console.specs.Keeping.{TellsKept}
@@ -52,7 +54,7 @@ use Rattle.ghc_console.specs.VariableNamed.{IsVariableNamed}
 use Rattle.ghc_console.specs.AskedFor.{IsReadAskFor}
 use Rattle.ghc_console.specs.Commands.{command_of}
 use Rattle.ghc_console.specs.declared.command.LineCommand.{LineCommand}
-use Rattle.ghc_console.specs.declared.command.LineCommand.TheVariants.{Nothing as nothing, Step as step, Obey as obey, Show as show, Records as records, Since as since, Causes as causes, GoalOf as goal_of, Clauses as clauses, Goals as goals, Why as why, Who as who, Explain as explain, ExplainGoal as explain_goal, Keep as keep, KeepGoal as keep_goal, Shelf as shelf, Save as save, SaveSteps as save_steps, Spy as spy, Unspy as unspy, Input as input, Ask as ask, Leap as leap, Skip as skip, Quit as quit, Unknown as unknown}
+use Rattle.ghc_console.specs.declared.command.LineCommand.TheVariants.{Nothing as nothing, Step as step, Obey as obey, Show as show, Records as records, Since as since, Causes as causes, GoalOf as goal_of, Clauses as clauses, Goals as goals, Why as why, Who as who, Explain as explain, ExplainGoal as explain_goal, Part as part, Blame as blame, BlamePlace as blame_place, BlameGoal as blame_goal, Keep as keep, KeepGoal as keep_goal, Shelf as shelf, Save as save, SaveSteps as save_steps, Spy as spy, Unspy as unspy, Input as input, Ask as ask, Leap as leap, Skip as skip, Quit as quit, Unknown as unknown}
 use Rattle.ghc_console.specs.Reading.{line_limit}
 use Rattle.ghc_console.specs.SessionState.{SessionState, HasClauseFor, LeavesSpies, predicate_text}
 
@@ -171,6 +173,10 @@ Replies workers spies w (why n) text v = RepliesToWhy w n text × (v ≡ w)
 Replies workers spies w (who word) text v = RepliesToWho w word text × (v ≡ w)
 Replies workers spies w (explain word) text v = RepliesToExplain w word text × (v ≡ w)
 Replies workers spies w (explain_goal g) text v = RepliesToExplainGoal w g text × (v ≡ w)
+Replies workers spies w (part g) text v = RepliesToPart w g text × (v ≡ w)
+Replies workers spies w (blame word told) text v = RepliesToBlame w word told text × (v ≡ w)
+Replies workers spies w (blame_place word place told) text v = RepliesToBlamePlace w word place told text × (v ≡ w)
+Replies workers spies w (blame_goal g told) text v = RepliesToBlameGoal w g told text × (v ≡ w)
 Replies workers spies w (keep word) text v = RepliesToKeep w word text v
 Replies workers spies w (keep_goal g) text v = RepliesToKeepGoal w g text v
 Replies workers spies w shelf text v = TellsListing (shelf_listed w.shelf) text × (v ≡ w)

@@ -64,11 +64,11 @@ abbrev pub is_variable : List ℕ → Bool
 is_variable [] = false
 is_variable (byte ∷ bytes) = begins_variable byte && list_all is_name_byte bytes
 
--- The numbers with one more in front, where all of them are there.
-abbrev pub in_front : Option ℕ → Option (List ℕ) → Option (List ℕ)
-in_front (Some number) (Some numbers) = Some (number ∷ numbers)
-in_front (Some number) None = None
-in_front None numbers = None
+-- What words say, with what one more says in front, where all of it is there.
+abbrev pub in_front : {X : Type 0} → Option X → Option (List X) → Option (List X)
+in_front (Some said) (Some more) = Some (said ∷ more)
+in_front (Some said) None = None
+in_front None more = None
 
 -- The numbers that the words say, in their order, where each of them says one.
 abbrev pub numbers_of : List (List ℕ) → Option (List ℕ)

@@ -12,6 +12,7 @@ use crate::command::{LineCommand, parse};
 use crate::debugger::Debugger;
 use crate::devices::reading::Line;
 use crate::replies::all_causes::causes;
+use crate::replies::blame::{blame, blame_goal, blame_place};
 use crate::replies::causes::{who, why};
 use crate::replies::clause_lines::clauses;
 use crate::replies::explain::explain;
@@ -19,6 +20,7 @@ use crate::replies::explain_goal::explain_goal;
 use crate::replies::goal_of_step::goal_of;
 use crate::replies::keep::{keep, keep_goal};
 use crate::replies::obey_reply::{ask, input, obey};
+use crate::replies::part::part;
 use crate::replies::runs::skip;
 use crate::replies::since::since;
 use crate::replies::spy_reply::{spy, unspy};
@@ -56,6 +58,21 @@ fn tell(
         LineCommand::Who(word) => who(alloc, &debugger.core, word.as_str(), reply),
         LineCommand::Explain(word) => explain(alloc, &mut debugger.core, word.as_str(), reply),
         LineCommand::ExplainGoal(goal) => explain_goal(alloc, &mut debugger.core, *goal, reply),
+        LineCommand::Part(goal) => part(alloc, &mut debugger.core, *goal, reply),
+        LineCommand::Blame(word, answers) => {
+            blame(alloc, &mut debugger.core, word.as_str(), answers, reply)
+        }
+        LineCommand::BlamePlace(word, place, answers) => blame_place(
+            alloc,
+            &mut debugger.core,
+            word.as_str(),
+            place.as_str(),
+            answers,
+            reply,
+        ),
+        LineCommand::BlameGoal(goal, answers) => {
+            blame_goal(alloc, &mut debugger.core, *goal, answers, reply)
+        }
         LineCommand::Keep(word) => keep(alloc, &mut debugger.core, word.as_str(), reply),
         LineCommand::KeepGoal(goal) => keep_goal(alloc, &mut debugger.core, *goal, reply),
         LineCommand::Spy(name, arity) => {
@@ -124,6 +141,10 @@ fn index_for(debugger: &mut Debugger, command: &LineCommand)
         | LineCommand::Who(_)
         | LineCommand::Explain(_)
         | LineCommand::ExplainGoal(_)
+        | LineCommand::Part(_)
+        | LineCommand::Blame(_, _)
+        | LineCommand::BlamePlace(_, _, _)
+        | LineCommand::BlameGoal(_, _)
         | LineCommand::Keep(_)
         | LineCommand::KeepGoal(_) => debugger.core.index_records(),
         _ => {}

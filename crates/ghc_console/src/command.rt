@@ -7,12 +7,14 @@ ghost use Rattle.ghc_console.specs.declared.command.LineCommand.TheVariants.{Ste
 ghost use Rattle.ghc_console.specs.Commands.{arrange_with, clauses_with, command_by_count, command_of, command_of_one_word, command_of_three_words, command_of_two_words, command_of_words, command_with_goal, command_with_number, command_with_variable, input_to, save_of, leap_of, named, run_limit};
 
 use crate::asked_for::ask_command;
+use crate::blame_words::blame_command;
 use crate::input_text::InputText;
 use crate::predicate_words::{spy_command, unspy_command};
-use crate::word::Word;
-use crate::words::{goal_name, is_variable_word, next_word, number, unindented};
+use crate::word::{Word, variable_word};
+use crate::words::{goal_name, is_plain, is_variable_word, next_word, number, unindented};
 use ghc_core::{Command, Order};
 use ghc_term::{GoalName, Name};
+use ghc_trace::Answers;
 use std::alloc::{AllocError, Global};
 
 /// The most steps of a run, where a line says no number.
@@ -49,6 +51,14 @@ pub enum LineCommand {
     Explain(Word),
     /// Why the goal is there, and stands as it does.
     ExplainGoal(GoalName),
+    /// What the call of the goal was given, and what it gave.
+    Part(GoalName),
+    /// The next question about the value of the variable that is written so, by these answers.
+    Blame(Word, Answers),
+    /// The next question about the place of the second variable in the term of the first.
+    BlamePlace(Word, Word, Answers),
+    /// The next question about the goal.
+    BlameGoal(GoalName, Answers),
     /// The rolling back of all steps on which the value of the variable that is written so does not rest.
     Keep(Word),
     /// The rolling back of all steps on which the goal, with all at which it looks, does not rest.
@@ -115,17 +125,6 @@ fn one_word_command(first_word: &[u8]) -> LineCommand
     LineCommand::Unknown
 }
 
-// The word of a variable, which is kept.
-fn variable_word(alloc: Global, word: &[u8]) -> Result<Word, AllocError>
-    requires { is_variable word.now ≡ true }
-    ensures { IfOk result (λ kept. kept ≡ word.now) }
-{
-    match str::from_utf8(word) {
-        Ok(text) => Word::new(alloc, text),
-        Err(_) => unreachable!(),
-    }
-}
-
 // The command of a word with a number.
 fn number_command(first_word: &[u8], step: u32) -> LineCommand
     ensures { result ≡ command_with_number first_word.now step }
@@ -188,6 +187,9 @@ fn goal_command(first_word: &[u8], goal: GoalName) -> LineCommand
 {
     if first_word == b"explain".as_slice() {
         return LineCommand::ExplainGoal(goal);
+    }
+    if first_word == b"part".as_slice() {
+        return LineCommand::Part(goal);
     }
     if first_word == b"keep".as_slice() {
         return LineCommand::KeepGoal(goal);
@@ -345,16 +347,13 @@ fn of_line(alloc: Global, line: &[u8]) -> Result<LineCommand, AllocError>
     if name == b"in".as_slice() {
         return input_command(alloc, behind);
     }
+    if name == b"blame".as_slice() {
+        return blame_command(alloc, behind);
+    }
     if name == b"ask".as_slice() {
         return ask_command(alloc, behind);
     }
     counted_command(alloc, name, behind)
-}
-
-pub(crate) fn is_plain(line: &[u8]) -> bool
-    ensures { result ≡ list_all is_printable line.now }
-{
-    line.iter().all(|byte| *byte >= 32 && *byte <= 126)
 }
 
 // The goal of a line that says nothing but `step`, a space and the name of a goal, as most lines do: it goes over these bytes alone.
@@ -385,7 +384,8 @@ fn of_any_line(alloc: Global, line: &[u8]) -> Result<LineCommand, AllocError>
 }
 
 /// The command that a line says; a line that says none is `Unknown`. It takes time in proportion to the line. It takes memory only for
-/// the word of `show`, `who`, `explain` or `keep`, the name of `spy` or `nospy`, the numbers of `arrange` and the text of `in` or `ask`.
+/// the word of `show`, `who`, `explain` or `keep`, the words after `blame`, the name of `spy` or `nospy`, the numbers of `arrange` and the
+/// text of `in` or `ask`.
 #[inline(always)]
 pub fn parse(alloc: Global, line: &[u8]) -> Result<LineCommand, AllocError>
     ensures command { IfOk result (λ command. command ≡ command_of line.now) }

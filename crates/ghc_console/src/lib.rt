@@ -4,6 +4,7 @@
 mod answer;
 mod answered;
 mod asked_for;
+mod blame_words;
 mod command;
 mod count_text;
 mod debugger;

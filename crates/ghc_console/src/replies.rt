@@ -13,6 +13,7 @@ ghost use Rattle.ghc_console.specs.inner.WritesTold.{WritesTold};
 ghost use Rattle.ghc_console.specs.Replies.{RepliesToStep, RepliesToShow, lined, TellsSlot, refusal};
 
 pub(crate) mod all_causes;
+pub(crate) mod blame;
 pub(crate) mod causes;
 pub(crate) mod clause_lines;
 pub(crate) mod explain;
@@ -26,6 +27,7 @@ pub(crate) mod listing;
 pub(crate) mod listing_laws;
 pub(crate) mod obey_reply;
 pub(crate) mod outside;
+pub(crate) mod part;
 pub(crate) mod record_listing;
 pub(crate) mod rollbacks;
 pub(crate) mod run_lines;

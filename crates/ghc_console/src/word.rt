@@ -1,5 +1,6 @@
 // A word that is kept.
-ghost use Rattle.std.specs.Prelude.{◌≡◌, IfOk};
+ghost use Rattle.std.specs.Prelude.{◌≡◌, IfOk, true};
+ghost use Rattle.ghc_console.specs.Words.{is_variable};
 
 use std::alloc::{AllocError, Global};
 use std::marker::Model;
@@ -32,5 +33,16 @@ impl Word {
         ensures { result.now ≡ self.now }
     {
         self.text.as_str()
+    }
+}
+
+// The word of a variable, which is kept.
+pub(crate) fn variable_word(alloc: Global, word: &[u8]) -> Result<Word, AllocError>
+    requires { is_variable word.now ≡ true }
+    ensures { IfOk result (λ kept. kept ≡ word.now) }
+{
+    match str::from_utf8(word) {
+        Ok(text) => Word::new(alloc, text),
+        Err(_) => unreachable!(),
     }
 }

@@ -2,7 +2,7 @@
 ghost use Rattle.std.specs.Prelude.{◌≡◌, ◌≢◌, ◌∷◌, ◌++◌, ◌+◌, ◌<◌, All, [], length, take, drop, IfSome, IfNone};
 ghost use Rattle.std.specs.List.{list_all};
 ghost use Rattle.ghc_term.specs.InputTerm.{is_name_byte};
-ghost use Rattle.ghc_console.specs.Words.{begins_variable, behind, goal_name_of, goal_named, is_variable, number_of, unindented as unindented_of, words_of};
+ghost use Rattle.ghc_console.specs.Words.{begins_variable, behind, goal_name_of, goal_named, is_printable, is_variable, number_of, unindented as unindented_of, words_of};
 
 use ghc_term::GoalName;
 
@@ -14,6 +14,13 @@ pub(crate) fn first(bytes: &[u8], wanted: u8) -> Option<usize>
     ensures none { IfNone result (All (λ b. b ≢ wanted) bytes.now) }
 {
     bytes.iter().position(|b| *b == wanted)
+}
+
+// Whether all bytes of a line are printable.
+pub(crate) fn is_plain(line: &[u8]) -> bool
+    ensures { result ≡ list_all is_printable line.now }
+{
+    line.iter().all(|byte| *byte >= 32 && *byte <= 126)
 }
 
 /// The first word of a line, and what stands after it; none where the line has no word. It takes time in proportion to what it

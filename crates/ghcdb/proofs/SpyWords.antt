@@ -9,6 +9,8 @@ use Rattle.ghc_term.specs.declared.goal_name.GoalName.{GoalName}
 use Rattle.ghc_term.specs.InputTerm.{IsNameText, is_name_byte}
 use Rattle.ghc_reader.specs.Lexed.{greatest_number}
 use Rattle.ghc_core.specs.declared.command.Command.TheVariants as core
+use Rattle.ghc_trace.specs.declared.judgements.Answer.{Answer}
+use Rattle.ghc_console.specs.BlameWords as blaming
 use Rattle.ghc_console.specs.Commands as commands
 use Rattle.ghc_console.specs.PredicateWords.{is_name, predicate_named, predicate_of, predicate_of_parts}
 use Rattle.ghc_console.specs.Words.{behind, goal_name_of, is_number, is_printable, is_variable, number_of, numbers_of, words_of}
@@ -132,7 +134,8 @@ with_variable name word =
     (choose (bytes_eq name (codes "explain")) _ _ tt (choose (bytes_eq name (codes "keep")) _ _ tt tt)))
 
 with_goal : (name : List ℕ) (goal : GoalName) → IsSaidByLine (commands.command_with_goal name goal)
-with_goal name goal = choose (bytes_eq name (codes "explain")) _ _ tt (choose (bytes_eq name (codes "keep")) _ _ tt tt)
+with_goal name goal =
+    choose (bytes_eq name (codes "explain")) _ _ tt (choose (bytes_eq name (codes "part")) _ _ tt (choose (bytes_eq name (codes "keep")) _ _ tt tt))
 
 with_goal_or_number : (name : List ℕ) (o : Option GoalName) (number : Option ℕ) → IsSaidByLine (commands.named name o number)
 with_goal_or_number name (Some goal) number = with_goal name goal
@@ -174,12 +177,34 @@ ask_said : (text : List ℕ) → IsSaidByLine (commands.ask_with text)
 ask_said [] = tt
 ask_said (b ∷ bs) = tt
 
+term_said : (word : List ℕ) (o : Option (List Answer)) → IsSaidByLine (blaming.blame_term word o)
+term_said word None = tt
+term_said word (Some answers) = tt
+
+place_said : (word place : List ℕ) (o : Option (List Answer)) → IsSaidByLine (blaming.blame_place word place o)
+place_said word place None = tt
+place_said word place (Some answers) = tt
+
+goal_said : (o : Option GoalName) (answers : Option (List Answer)) → IsSaidByLine (blaming.blame_goal o answers)
+goal_said None answers = tt
+goal_said (Some goal) None = tt
+goal_said (Some goal) (Some answers) = tt
+
+variable_said : (word : List ℕ) (words : List (List ℕ)) → IsSaidByLine (blaming.blame_of_variable word words)
+variable_said word [] = tt
+variable_said word (next ∷ words) = choose (is_variable next) _ _ (place_said word next (blaming.answers_of words)) (term_said word (blaming.answers_of (next ∷ words)))
+
+blame_said : (words : List (List ℕ)) → IsSaidByLine (blaming.blame_of words)
+blame_said [] = tt
+blame_said (word ∷ words) = choose (is_variable word) _ _ (variable_said word words) (goal_said (goal_name_of word) (blaming.answers_of words))
+
 of_words : (words : List (List ℕ)) (line : List ℕ) → IsSaidByLine (commands.command_of_words words line)
 of_words [] line = tt
 of_words (name ∷ words) line =
     choose (bytes_eq name (codes "arrange")) _ _ (arrange_said (numbers_of words))
     (choose (bytes_eq name (codes "in")) _ _ (input_said words (behind 2 line))
-    (choose (bytes_eq name (codes "ask")) _ _ (ask_said (behind 1 line)) (by_count name words)))
+    (choose (bytes_eq name (codes "blame")) _ _ (blame_said words)
+    (choose (bytes_eq name (codes "ask")) _ _ (ask_said (behind 1 line)) (by_count name words))))
 
 pub said_by_line : (line : List ℕ) → IsSaidByLine (commands.command_of line)
 said_by_line line = choose (list_all is_printable line) (commands.command_of_words (words_of line) line) Unknown (of_words (words_of line) line) tt

@@ -3,8 +3,7 @@ ghost use Rattle.std.specs.Prelude.{◌≡◌};
 ghost use Rattle.ghc_console.specs.Words.{words_of};
 ghost use Rattle.ghc_console.specs.ScheduleLines.{commit_of, commit_with, note_of, note_with, propose_by, propose_of, propose_with, schedule_line_of, schedule_line_of_words};
 
-use crate::command::is_plain;
-use crate::words::{goal_name, next_word, number};
+use crate::words::{goal_name, is_plain, next_word, number};
 use ghc_core::Event;
 use ghc_term::GoalName;
 

@@ -58,6 +58,10 @@ fn carry_out(alloc: Global, world: &mut World, command: LineCommand) -> Option<R
         | LineCommand::Who(_)
         | LineCommand::Explain(_)
         | LineCommand::ExplainGoal(_)
+        | LineCommand::Part(_)
+        | LineCommand::Blame(_, _)
+        | LineCommand::BlamePlace(_, _, _)
+        | LineCommand::BlameGoal(_, _)
         | LineCommand::Keep(_)
         | LineCommand::KeepGoal(_)
         | LineCommand::Shelf
