@@ -41,6 +41,11 @@ DOUBLED = """d(0,X) :- true | X = a.
 d(N,X) :- N > 0 | M := N - 1, X = f(Y,Y), d(M,Y).
 """
 
+# A term that is doubled in each of N steps as it is written, and shown behind Z: d(N,X,Y,Z).
+WRITTEN = """d(0,X,_,Z) :- true | Z = X.
+d(N,X,Y,Z) :- N > 0 | M := N - 1, d(M,{},{},Z).
+"""
+
 
 class Session(NamedTuple):
     """A session of some size, and the last line that it has to print, or None where that does not matter."""
@@ -94,6 +99,41 @@ def doubled(size):
     return Session(DOUBLED, f"d({size},X), d({size},Y)", ["leap", "ask X = Y", "leap"], last="stopped quiet")
 
 
+def history_of_written(size):
+    """The history of all steps of WRITTEN, doubled so many times: a call, an assignment, and so on, and the unification of Z at last."""
+    goals = ["0.1"] + [f"{step}.2" for step in range(1, 2 * size, 2)]
+    lines = [f"{2 * count + 1} {goal} by {1 if count == size else 2}\n{2 * count + 2} {2 * count + 1}.1 is" for count, goal in enumerate(goals)]
+    steps = "\n".join(lines).removesuffix("is") + "eq"
+    return f"ghc-history 2\nopening 0 1\nentries {2 * size + 2}\n{steps}\nspies 0\nend {2 * size + 3}\n"
+
+
+def written(first, second, variable="V"):
+    """An open term is doubled as it is written so many times. The goal that has it is tried, stepped, and tried again."""
+
+    def session(size):
+        last = 2 * size + 2
+        lines = [f"leap {last - 1}", f"step {last - 1}.1", f"undo {last}", "leap", "roll 1", "leap"]
+        return Session(WRITTEN.format(first, second), f"d({size},{variable},W,Z)", lines, last="stopped quiet")
+
+    return session
+
+
+def written_twice(size):
+    """Two such terms, by four workers."""
+    query = f"d({size},V,W,Z), d({size},V,W,Y)"
+    return Session(WRITTEN.format("f(X,Y)", "g(Y,X)"), query, ["leap"], last="stopped quiet", workers=4)
+
+
+def loaded_written(first, second):
+    """The same steps are loaded, and then the variable that is in it everywhere is bound."""
+
+    def session(size):
+        lines = ["ask V = a", "leap"]
+        return Session(WRITTEN.format(first, second), f"d({size},V,W,Z)", lines, history_of_written(size), "stopped quiet")
+
+    return session
+
+
 class Growth(NamedTuple):
     what: str
     session: Callable[[int], Session]
@@ -108,6 +148,12 @@ GROWTHS = [
     Growth("walks along closed lists by two workers", walks, 20_000),
     Growth("undos of all steps of a run", undone, 10_000),
     Growth("two terms doubled through variables made equal", doubled, 4_000),
+    Growth("an open term doubled as written", written("f(X,X)", "Y"), 250),
+    Growth("an open term doubled as written, its parts apart", written("f(g(X),h(X))", "Y"), 250),
+    Growth("two open terms doubled as written, each with the other", written("f(X,Y)", "g(Y,X)"), 250),
+    Growth("an open term of twenty variables doubled as written", written("f(X,X)", "Y", f"k({','.join(f'V{index}' for index in range(20))})"), 250),
+    Growth("two open terms doubled as written by four workers", written_twice, 250),
+    Growth("an open term doubled as written, loaded", loaded_written("f(X,Y)", "g(Y,X)"), 250),
 ]
 
 

@@ -427,6 +427,8 @@ def at_a_terminal(copy):
         front,
         4,
     )
+    alone = copy.run_at_terminal("a.ghc", path=["node"])
+    yield "and so does a program that is named alone", alone, ("node: ghcdb a.ghc, on ghcdb\n", 4)
     yield "one in a pipe is not", copy.run(*words), ("the program: a --query q\n", "", 3)
     yield "nor is a schedule", copy.run_at_terminal(*words, "--schedule", "s"), (
         "the program: a --query q --schedule s\n",

@@ -91,13 +91,13 @@ STORIES = {
     "append": Story(
         APPEND,
         "append([1],[2],R)",
-        "goals;step 0.1;step 1.1;step 1.2 1;step 3.1;show R;records;since 2;goal 3;why 2;causes;who R;explain R;undo 2;shelf;redo 2;undo 1;save;arrange 1 2 3 4;"
+        "goals;step 0.1;step 1.1;step 1.2 1;step 3.1;show R;records;since 2;goal 3;part 0.1;part 1.2;blame R;blame R -0.1 +1.2;blame R _1_1 -0.1;why 2;causes;who R;explain R;undo 2;shelf;redo 2;undo 1;save;arrange 1 2 3 4;"
         "arrange 2 1 3 4;roll 3;goals;roll 1;goals;redo 1;redo 9;records;save 1;save",
     ),
     "waits": Story(
         WAITS,
         "p(X,Y), q(X,Y), X = c, Y = b, X = d",
-        "goals;explain X;clauses 0.2;step 0.3;clauses 0.1;step 0.4;step 0.5;step 0.1 2;why 3;causes;undo 1;undo 2;goals;roll 2;goals;redo 2;records;shelf",
+        "goals;explain X;clauses 0.2;part 0.2;blame 0.2 -0.2;step 0.3;clauses 0.1;step 0.4;step 0.5;step 0.1 2;why 3;causes;undo 1;undo 2;goals;roll 2;goals;redo 2;records;shelf",
     ),
     "many": Story(
         MANY,
@@ -113,7 +113,7 @@ STORIES = {
     "asks": Story(
         APPEND,
         "append([1],[2],R)",
-        "step 0.1;ask append(R,[3],Q), true, _1_1 = [7], f(R,_,_2_3) = Q;ask append(R,[3],Q), true, _1_1 = [7], f(R,_) = Q;why 2;goals;"
+        "step 0.1;ask append(R,[3],Q), true, _1_1 = [7], f(R,_,_2_3) = Q;ask append(R,[3],Q), true, _1_1 = [7], f(R,_) = Q;why 2;part 0.1;blame 2.1 -0.1;goals;"
         "undo 1;step 2.2;undo 3;arrange 2 1;undo 2;redo 2;roll 1;redo 2;shelf;redo 1;redo 2;ask r(R);ask f(;ask;spy append/3;records;save 1;save",
     ),
     "keep": Story(
