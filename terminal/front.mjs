@@ -1,16 +1,20 @@
 // The terminal in front of ghcdb's console: it hands lines on, and adds what a person needs. Each added line begins with the mark; all
 // others are the console's own, as it told them.
 import Causes from "../front/text/causes.mjs";
+import { Blaming } from "../front/run/blaming.mjs";
 import { Ended } from "../front/session/program.mjs";
 import { NotTold, Session } from "../front/session/session.mjs";
 import { isNoFile } from "../front/session/files.mjs";
 import { helpLines, meaningOf, suggestionFor, usageOf } from "../front/protocol/commands.mjs";
+import Judging from "./judging.mjs";
 import * as Own from "../front/run/own.mjs";
 import { plain } from "./plain.mjs";
 import { whyRefused } from "../front/session/refused.mjs";
 import * as Saving from "./saving.mjs";
-import { notesAfter, plural } from "../front/run/telling.mjs";
+import { plural } from "../front/run/reasons.mjs";
+import { notesAfter } from "../front/run/telling.mjs";
 import * as Unsaved from "./unsaved.mjs";
+import Watching from "./watching.mjs";
 import Replies from "../front/protocol/replies.mjs";
 
 const MARK = "% ";
@@ -20,7 +24,6 @@ const AT_ONCE = 500; // lines that are shown before keys are heard again
 const PROMPT_STEPS = 1000; // a run of so many steps ends soon
 const HEARD_LATE = 300; // milliseconds after ^C in which a line that is no long run may still answer
 const LEFT_LATE = 60_000; // milliseconds in which the last line is ended when the terminal is closed
-const MOST_WATCHED = 1_000_000;
 const ASK_AGAIN = { quit: "quit again ends", restart: "restart again begins anew" };
 
 const RUN_ENDED = "the run was ended; the session stands as before it. leap 1000 runs for 1000 steps at most";
@@ -33,6 +36,7 @@ class Front {
   /** `out` and `errors` take whole lines for standard output and standard error. */
   constructor({ words, native, out, errors }) {
     this.session = new Session(words, native);
+    this.blaming = new Blaming(this.session);
     this.out = (line) => out(plain(line));
     this.errors = (line) => errors(plain(line));
     this.hasEnded = false;
@@ -125,18 +129,23 @@ class Front {
   /** Does what a typed line asks for. One line at a time. */
   async answer(typed) {
     if (typed.trim() === "") return;
-    const meaning = meaningOf(typed, this.session.variables);
     this.isBusy = true;
     this.isInterrupted = false;
     try {
-      if (meaning.name !== undefined) await this.act(meaning, typed);
-      else await this.passOn(meaning, typed);
+      await this.heed(typed);
     } catch (error) {
       await this.tellWhyNot(error);
     } finally {
       clearTimeout(this.endsLate);
       this.isBusy = false;
     }
+  }
+
+  /** A word may answer the question that is open; else it is a command. */
+  async heed(typed) {
+    if (this.blaming.isAnswer(typed.trim())) return this.answerQuestion(typed.trim());
+    const meaning = meaningOf(typed, this.session.variables);
+    return meaning.name === undefined ? this.passOn(meaning, typed) : this.act(meaning, typed);
   }
 
   async tellWhyNot(error) {
@@ -166,8 +175,8 @@ class Front {
       this.out(reply[0]);
       return this.note(usageOf(meaning.name));
     }
-    await this.show(reply);
-    return this.note(...await notesAfter(this.session, meaning, reply));
+    await this.show(reply, meaning);
+    return this.noteAll(await notesAfter(this.session, meaning, reply));
   }
 
   /** Sends lines one after another, until ^C. */
@@ -184,13 +193,13 @@ class Front {
     }
   }
 
-  /** Tells a reply; of a long run its first and last lines. */
-  async show(reply) {
-    const isRun = reply.length > LONG && reply.at(-1).startsWith("stopped ");
-    if (!isRun) return this.showAll(reply);
-    reply.slice(0, FIRST).forEach((line) => this.out(line));
-    this.note(`.. ${plural(reply.length - 1 - FIRST - LAST, "step")} more (records shows all) ..`);
-    return reply.slice(-LAST - 1).forEach((line) => this.out(line));
+  /** Tells a reply; of a long run or explanation its first and last lines. */
+  async show(reply, { name, line, isWhole } = {}) {
+    const last = reply.at(-1), isExplanation = name === "explain" && !isWhole && last.startsWith("steps ");
+    if (reply.length <= LONG || !(last.startsWith("stopped ") || isExplanation)) return this.showAll(reply);
+    reply.slice(0, FIRST).forEach((told) => this.out(told));
+    this.note(`.. ${plural(reply.length - 1 - FIRST - LAST, "step")} more (${isExplanation ? `${line} all` : "records"} shows all) ..`);
+    return reply.slice(-LAST - 1).forEach((told) => this.out(told));
   }
 
   /** Tells lines, of which there may be many: between pieces of them keys are heard, and ^C ends it. */
@@ -312,31 +321,14 @@ class Front {
     return true;
   }
 
-  /** The console knows a variable of a step as `_n_m` alone; here it may have the name that the text gives it. */
+  /** `all` is the terminal's: it shortens nothing. */
   async on_explain(meaning, typed) {
-    const words = meaning.words.map((word) => (this.session.variables.includes(word) ? word : Own.variablesOf(this.session, word)[0] ?? word));
-    return this.send({ ...meaning, words, line: [meaning.name, ...words].join(" ") }, typed);
+    const isWhole = meaning.words.at(-1) === "all", words = (isWhole ? meaning.words.slice(0, -1) : meaning.words).map((word) => Own.signOf(this.session, word));
+    return this.send({ ...meaning, words, isWhole, line: [meaning.name, ...words].join(" ") }, typed);
   }
 
   async on_keep(meaning, typed) {
     return this.on_explain(meaning, typed);
-  }
-
-  async on_watch({ words: [name] }) {
-    if (name === undefined) return this.note(usageOf("watch"));
-    const line = `show ${name}`, was = await this.session.ask(line);
-    if (was[0] === "F25 command") return this.note(usageOf("watch"));
-    if (Replies.isRefused(was)) return this.send({ name: "show", words: [name], line }, line);
-    let now = was, last = "", taken = 0;
-    for (; taken < MOST_WATCHED && !this.isInterrupted && isUnbound(now); taken += 1) {
-      last = (await this.session.ask("leap 1")).at(-1);
-      if (last !== "stopped limit") break;
-      now = await this.session.ask(line);
-    }
-    now = await this.session.ask(line);
-    now.forEach((told) => this.out(told));
-    if (isUnbound(now)) return this.note(this.isInterrupted ? "ended: it is not bound" : `it is not bound: ${last}`);
-    return this.note(isUnbound(was) ? `bound by step ${this.session.kept.last}; sent: leap 1, ${plural(taken, "time")}` : "it is bound already");
   }
 
   async on_save({ words }) {
@@ -381,6 +373,7 @@ class Front {
     }
     await this.session.end();
     this.session = next;
+    this.blaming = new Blaming(next);
     return this.greet();
   }
 
@@ -392,7 +385,6 @@ class Front {
   }
 }
 
-/** Does a reply to `show` tell a variable that nothing has bound? */
-const isUnbound = ([line]) => / = _\d+_\d+$/.test(line);
+Object.assign(Front.prototype, Watching, Judging);
 
 export { Front, MARK };

@@ -8,11 +8,12 @@ import { Front, MARK } from "./front.mjs";
 import { Keyboard } from "./keyboard.mjs";
 import { nativeProgram } from "../front/session/program.mjs";
 import { readWords, isSession } from "../front/protocol/words.mjs";
+import { withQuery } from "../front/session/words_with_query.mjs";
 
 const HERE = path.dirname(fileURLToPath(import.meta.url));
 
-const words = process.argv.slice(2);
 const areTerminals = process.stdin.isTTY && process.stdout.isTTY && process.stderr.isTTY;
+const typed = process.argv.slice(2), words = areTerminals ? withQuery(typed) : typed;
 
 /** Runs the program alone. */
 function runAlone() {
@@ -80,6 +81,7 @@ async function main() {
   const front = new Front({ words, native: nativeProgram(), out: tell(process.stdout), errors: tell(process.stderr) });
   await front.begin();
   if (front.hasEnded) process.exit(front.status);
+  if (words !== typed) front.note(`the query is that of the program's comment: ${readWords(words).query}`);
   const keyboard = keyboardOf(front);
   leaveWhenEnded(front, keyboard);
   try {

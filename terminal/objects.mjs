@@ -1,4 +1,5 @@
 // Replies as objects, for programs that read JSON. Pure.
+import BlameLines from "../front/protocol/blame_lines.mjs";
 import Effects from "../front/protocol/effects.mjs";
 import Replies from "../front/protocol/replies.mjs";
 
@@ -59,12 +60,32 @@ const choice = ({ number, says, waitsFor }) => ({ clause: number, says, ...(wait
 
 const binder = ({ variable, number }) => ({ variable, step: number });
 
+/** A goal and how it stands. */
+const standing = ({ goal: name, status, waitsFor, refusal }) => ({ goal: name, status, ...(waitsFor.length > 0 && { waitsFor }), ...(refusal && { refusal }) });
+
+/** A goal that a call's step made: what is told of it stands under the word that tells it, of an equation or a sum under `text`. */
+const madeGoal = ({ goal: name, how, text }) => ({ goal: name, [how === "written" ? "text" : how]: text });
+
+const without = (fields) => Object.fromEntries(Object.entries(fields).filter(([, value]) => value !== null));
+
+/** What `part` and `blame` tell of a call, and the question or the verdict. What is not told is not there. */
+function judged(reply) {
+  const { given, asked, inTurns, gave, left, made, taken, standing: stands, ask, fault } = BlameLines.read(reply);
+  return {
+    ...without({ given }), ...(asked.length > 0 && { asked }), ...(inTurns && { inTurns }), ...without({ gave }), ...(left && { left: standing(left) }),
+    ...(made.length > 0 && { made: made.map(madeGoal) }), ...(taken && { taken }), ...(stands && { stands: standing(stands) }),
+    ...(ask && { ask: ask.goal, of: ask.of }), ...(fault && { fault: without(fault) }),
+  };
+}
+
 const REPLIES = {
   records: (reply, textOf) => ({ steps: Replies.readRecords(reply).map((record) => step(record, textOf)) }),
   since: (reply, textOf) => ({ steps: Replies.readRecords(reply).map((record) => step(record, textOf)) }),
   goal: ([line]) => { const found = Replies.readTakenGoal(line); return found === null ? { lines: [line] } : taken(found); },
   clauses: (reply) => ({ clauses: reply.map(Replies.readChoice).filter(Boolean).map(choice) }),
   explain: explanation,
+  part: judged,
+  blame: judged,
   causes: (reply) => ({ dependences: told(reply).map(dependence) }),
   goals: (reply) => ({ goals: Replies.readGoals(reply).map(goal) }),
   show: ([line]) => Replies.readValue(line),

@@ -2,6 +2,7 @@
 // how it went.
 import { Ended } from "../front/session/program.mjs";
 import { ScriptSession } from "../front/session/script_session.mjs";
+import { withQuery } from "../front/session/words_with_query.mjs";
 import { isWhole } from "../front/session/way_back.mjs";
 import { readWords, isSession } from "../front/protocol/words.mjs";
 import Replies from "../front/protocol/replies.mjs";
@@ -162,7 +163,7 @@ const write = (text, encoding) => new Promise((resolve) => { process.stdout.writ
 /** Plays the lines of standard input for the words of the command line, and ends with the status. */
 async function playStandardInput(teller) {
   process.stdout.on("error", () => process.exit(STATUS.device));
-  process.exitCode = await play(process.argv.slice(2), process.stdin, teller, (text) => process.stderr.write(text));
+  process.exitCode = await play(withQuery(process.argv.slice(2)), process.stdin, teller, (text) => process.stderr.write(text));
   process.stdin.destroy();
 }
 

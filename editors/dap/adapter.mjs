@@ -6,6 +6,7 @@
 import Beginning from "./beginning.mjs";
 import { Breakpoints } from "./breakpoints.mjs";
 import Changing from "./changing.mjs";
+import Judging from "./judging.mjs";
 import Looking from "./looking.mjs";
 import { Refused } from "./refused.mjs";
 import Running from "./running.mjs";
@@ -167,7 +168,7 @@ class Adapter {
     const goals = await this.look();
     this.inside.forget();
     const shown = goals.find(({ status }) => status === "failed") ?? goals.find(({ status }) => status === "ready") ?? goals[0];
-    const isThere = thread !== undefined && this.live.has(thread);
+    const isThere = thread !== undefined && (this.live.has(thread) || this.isJudged(thread));
     this.shown = isThere ? thread : shown === undefined ? 1 : this.processes.of(shown.name);
     this.event("stopped", { reason, description: text, text, threadId: this.shown, allThreadsStopped: true, ...(hit && { hitBreakpointIds: [hit.id] }) });
   }
@@ -187,6 +188,6 @@ const WITHOUT_SESSION = new Set(["initialize", "launch", "attach", "disconnect",
 const RUNS = new Set(["continue", "next", "stepIn", "stepOut", "stepBack", "reverseContinue", "goto", "restartFrame", "setVariable", "setExpression", "evaluate",
   "ghcdb/undo", "ghcdb/roll", "ghcdb/redo"]);
 
-Object.assign(Adapter.prototype, Beginning, Setting, Looking, Stepping, Changing, Running);
+for (const requests of [Beginning, Setting, Looking, Stepping, Changing, Running, Judging]) Object.defineProperties(Adapter.prototype, Object.getOwnPropertyDescriptors(requests));
 
 export { Adapter };

@@ -1,6 +1,7 @@
 // Requests with which a session begins and ends.
 import fs from "node:fs";
 import path from "node:path";
+import { Blaming } from "../../front/run/blaming.mjs";
 import Causes from "../../front/text/causes.mjs";
 import { Ended } from "../../front/session/program.mjs";
 import { whyNotRead, whyRefused } from "../../front/session/refused.mjs";
@@ -70,7 +71,7 @@ export default {
       throw error instanceof Ended ? refused(this.tellRefusal(error, session, places)) : error;
     }
     await this.session?.end();
-    Object.assign(this, { given, session, places, slice: Number(given.slice ?? 1000), processes: new Processes(session), inside: new Inside(session) });
+    Object.assign(this, { given, session, places, slice: Number(given.slice ?? 1000), processes: new Processes(session), inside: new Inside(session), blaming: new Blaming(session) });
     Object.assign(this, { live: new Set(), hasToldEnd: false, frameTexts: new Map(), textsNow: undefined, textsBefore: undefined, notedAt: undefined });
     this.breakpoints.spied = new Set();
     const notes = Causes.notesOn(program, path.basename(file)).slice(0, MOST_NOTES);

@@ -6,23 +6,24 @@ import { goalsMade } from "./told.mjs";
 import { refused } from "./refused.mjs";
 import Replies from "../../front/protocol/replies.mjs";
 
+const TELLS_MORE = new Set(["explain", "part"]); // lines of which the reply alone tells no goals, or no names
+
 const NO_VALUE = ": a value is one term, as 3, red or [1,2]; nothing is computed";
 
 export default {
-  /** A line of the console as it was typed; where it changed the session, the editor hears of a stop. */
-  async typed(line, word) {
+  /** A line of the console as it was typed; where it changed the session, the editor hears of a stop. `explain X all` asks for `explain X`. */
+  async typed(given, word) {
+    const isWhole = word === "explain" && / all$/.test(given), line = isWhole ? given.replace(/ +all$/, "") : given;
     const before = this.session.kept.changes, reply = await this.session.ask(line);
     if (reply[0] === "F25 command" && !NAMES.includes(word)) throw refused(suggestionFor(line));
-    return this.answered(line, word, reply, before);
+    return this.answered({ name: word, words: line.split(/ +/).slice(1), line, isWhole }, reply, before);
   },
 
   /** A reply of the console with what is to be added; `before` is the number of changes before the line. */
-  async answered(line, word, reply, before) {
-    if (!Replies.isRefused(reply)) {
-      if (this.session.kept.changes !== before) this.later(() => this.stoppedAnew(line));
-      return reply;
-    }
-    return [...reply, ...await notesAfter(this.session, { name: word, words: line.split(/ +/).slice(1), line }, reply)];
+  async answered(meaning, reply, before) {
+    if (Replies.isRefused(reply) || TELLS_MORE.has(meaning.name)) return [...reply, ...await notesAfter(this.session, meaning, reply)];
+    if (this.session.kept.changes !== before) this.later(() => this.stoppedAnew(meaning.line));
+    return reply;
   },
 
   /** An unbound variable is bound by goals asked for: a step like any other, which can be taken back. */
@@ -68,8 +69,8 @@ export default {
   },
 
   /** A stop to which no request for a step has led: the editor hears first that the process that it shows went on. */
-  stoppedAnew(text) {
+  stoppedAnew(text, thread) {
     this.event("continued", { threadId: this.shown, allThreadsContinued: true });
-    return this.stopped("step", text);
+    return this.stopped("step", text, { thread });
   },
 };

@@ -4,7 +4,7 @@ import * as Own from "../../front/run/own.mjs";
 import Stuck from "../../front/run/stuck.mjs";
 import { NAMES, commandOf, helpLines } from "../../front/protocol/commands.mjs";
 import { completionsOf } from "../../front/protocol/complete.mjs";
-import { plural, whyNoClause } from "../../front/run/telling.mjs";
+import { plural, whyNoClause } from "../../front/run/reasons.mjs";
 import { QUERY, STEPS, SHELF } from "./places.mjs";
 import { refused } from "./refused.mjs";
 
@@ -19,21 +19,27 @@ export default {
       const id = this.processes.of(goal.name);
       if (!threads.has(id) && threads.size < MOST_THREADS) threads.set(id, { id, name: `${goal.name} ${goal.text.slice(0, 60)}   ${statusOf(goal)}` });
     }
-    const all = [...threads.values()].sort((one, other) => one.id - other.id);
+    const all = [...[...threads.values()].sort((one, other) => one.id - other.id), ...this.judgedThreads()];
     return { threads: all.length > 0 ? all : [{ id: 1, name: await this.whyNoGoal() }] };
   },
 
   async on_stackTrace({ threadId, startFrame = 0, levels }) {
-    const goal = await this.goalOf(threadId), { run } = this.session;
-    if (goal === undefined) {
+    const isJudged = this.isJudged(threadId), goal = isJudged ? undefined : await this.goalOf(threadId);
+    if (goal === undefined && !isJudged) {
       const id = this.inside.reference("done"), name = await this.whyNoGoal();
       return { stackFrames: [{ id, name, ...this.places.spotOf(undefined) }], totalFrames: 1 };
     }
-    const steps = [];
-    for (let step = run.makerOf(goal.name); step !== undefined; step = step.goal === null ? undefined : run.makerOf(step.goal)) steps.push(step);
-    const shown = [goal, ...steps].slice(startFrame, startFrame + (levels || MOST_FRAMES));
-    for (const one of shown) if (one !== goal && one.goal !== null && this.frameText(one.goal) === undefined) this.frameTexts.set(one.goal, await this.session.goalTaken(one));
-    return { stackFrames: shown.map((one) => (one === goal ? this.frameOfGoal(goal) : this.frameOfStep(one))), totalFrames: steps.length + 1 };
+    const first = isJudged ? await this.judgedFrame() : this.frameOfGoal(goal), steps = this.stepsTo(isJudged ? this.judgedGoal : goal.name);
+    const last = startFrame + (levels || MOST_FRAMES), shown = steps.slice(Math.max(startFrame - 1, 0), last - 1);
+    for (const { number, goal: taken } of shown) if (taken !== null && this.frameText(taken) === undefined) this.frameTexts.set(taken, await this.session.goalTaken({ number, goal: taken }));
+    return { stackFrames: [...(startFrame === 0 ? [first] : []), ...shown.map((step) => this.frameOfStep(step))], totalFrames: steps.length + 1 };
+  },
+
+  /** The steps that led to a goal, the last one first. */
+  stepsTo(goal) {
+    const { run } = this.session, steps = [];
+    for (let step = run.makerOf(goal); step !== undefined; step = step.goal === null ? undefined : run.makerOf(step.goal)) steps.push(step);
+    return steps;
   },
 
   /** Why a process has no goal, in words: it alone has ended, or all have. */
@@ -127,7 +133,8 @@ export default {
     if (commandOf(word) === "help") return helpLines(words);
     if (["stuck", "stat"].includes(name)) return Own[name](this.session, words);
     if (["holders", "list"].includes(name) && words.length < 2) return Own[name](this.session, words);
-    const version = words[0] === "1" ? "1" : "", file = words.slice(version.length).join(" ");
+    const judged = await this.judge(line), version = words[0] === "1" ? "1" : "", file = words.slice(version.length).join(" ");
+    if (judged !== undefined) return judged;
     if (name === "save" && file !== "") return this.session.saveInto(file, version);
     return this.typed(line, word);
   },

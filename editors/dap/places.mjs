@@ -1,13 +1,10 @@
 // Where things stand, for an editor: in the program's file, in the query's comment there, or in a text that is in no file. An editor may
 // count lines and columns from 0 or from 1.
 import path from "node:path";
+import { COMMENT, queryOf } from "../../front/text/query_comment.mjs";
 
 const QUERY = 1, STEPS = 2, SHELF = 3; // references of the texts that are in no file
 const NAMES = { [QUERY]: "query", [STEPS]: "kept steps", [SHELF]: "taken back" };
-const COMMENT = /^%[ \t]*Query:[ \t]*(.*?)[ \t]*$/m;
-
-/** The query that a program's comment names; undefined where there is none. */
-const queryOf = (program) => COMMENT.exec(program)?.[1];
 
 class Places {
   constructor(file, program, query, first) {
@@ -39,6 +36,12 @@ class Places {
 
   at(source, { line, letter, endLine, endLetter }) {
     return { source, line: this.shown(line), column: this.shown(letter), endLine: this.shown(endLine), endColumn: this.shown(endLetter) };
+  }
+
+  /** Where a clause stands, whole. */
+  placeOf({ line, letter, endLine }) {
+    const lines = this.program.split("\n").slice(line - 1, endLine);
+    return { line, letter, endLine, endLetter: lines.at(-1).length + 1 };
   }
 
   /** Where a goal was called: a place of Run's. */

@@ -1,7 +1,7 @@
 // Runs: forwards in slices, so that a pause is heard between two of them, and backwards to a breakpoint.
 import Stuck from "../../front/run/stuck.mjs";
 import { Ended } from "../../front/session/program.mjs";
-import { plural } from "../../front/run/telling.mjs";
+import { plural } from "../../front/run/reasons.mjs";
 import Replies from "../../front/protocol/replies.mjs";
 
 const MOST_TOLD = 200; // steps of a run that it tells in the editor's console

@@ -1,8 +1,10 @@
-;;; fghc-mode.el --- Flat GHC: colours, and ghcdb by dap-mode or dape  -*- lexical-binding: t -*-
+;;; fghc-mode.el --- Flat GHC: colours, indentation, what is wrong, and ghcdb by dap-mode or dape  -*- lexical-binding: t -*-
 
 ;;; Commentary:
-;; (load "REPOSITORY/editors/emacs/fghc-mode.el") in the init file.  Then visit a .ghc file whose comment has a line `% Query: ..':
+;; (load "REPOSITORY/editors/emacs/fghc-mode.el") in the init file; of Debian's package, (require 'fghc-mode).
+;; Then visit a .ghc file whose comment has a line `% Query: ..':
 ;; with dap-mode, M-x dap-debug, "Flat GHC"; with dape, M-x dape, ghcdb.
+;; What is wrong with it, its predicates, where one is defined: M-x eglot, or M-x lsp with lsp-mode.
 ;; Forwards: the commands of dap-mode or dape.  Back: fghc-step-back, fghc-reverse-continue (C-c C-b, C-c C-r).
 ;; The mode is called fghc, since ghc means Haskell to many.
 
@@ -10,9 +12,18 @@
 
 (defgroup fghc nil "Flat GHC." :group 'languages)
 
-(defcustom fghc-adapter
-  (list "node" (expand-file-name "../ghcdb-adapter" (file-name-directory (or load-file-name buffer-file-name))))
+(defun fghc--part (file word)
+  "What starts a part of ghcdb, as a list of words.
+It is FILE of the repository, else the ghcdb on the path with WORD."
+  (let ((beside (expand-file-name (concat "../" file) (file-name-directory (or load-file-name buffer-file-name)))))
+    (if (file-exists-p beside) (list "node" beside) (list "ghcdb" word))))
+
+(defcustom fghc-adapter (fghc--part "ghcdb-adapter" "--dap")
   "The debug adapter: its program and its words."
+  :type '(repeat string))
+
+(defcustom fghc-server (fghc--part "ghcdb-lsp" "--lsp")
+  "The language server: its program and its words."
   :type '(repeat string))
 
 (defvar fghc-mode-syntax-table
@@ -37,15 +48,59 @@
     (define-key map (kbd "C-c C-r") #'fghc-reverse-continue)
     map))
 
+(defcustom fghc-indent 4
+  "How far a clause that goes on in the next line is indented."
+  :type 'integer)
+
+(defun fghc--goes-on-p ()
+  "Does a clause that began above go on in this line?"
+  (save-excursion
+    (beginning-of-line)
+    (forward-comment (- (point)))
+    (not (or (bobp) (eq (char-before) ?.)))))
+
+(defun fghc-indent-line ()
+  "Indent the line, if a clause that began above goes on in it."
+  (let ((column (if (fghc--goes-on-p) fghc-indent 0)))
+    (if (<= (current-column) (current-indentation))
+        (indent-line-to column)
+      (save-excursion (indent-line-to column)))))
+
+(defun fghc--index ()
+  "The predicates, each with the place of its first clause, for imenu."
+  (let (found)
+    (goto-char (point-min))
+    (while (re-search-forward "^[a-z][A-Za-z0-9_]*" nil t)
+      (unless (assoc (match-string-no-properties 0) found)
+        (push (cons (match-string-no-properties 0) (match-beginning 0)) found)))
+    (nreverse found)))
+
 ;;;###autoload
 (define-derived-mode fghc-mode prog-mode "Flat GHC"
   "Major mode for programs of Flat GHC."
   (setq-local comment-start "% ")
   (setq-local comment-start-skip "%+ *")
+  (setq-local indent-line-function #'fghc-indent-line)
+  (setq-local imenu-create-index-function #'fghc--index)
   (setq-local font-lock-defaults '(fghc-font-lock-keywords)))
 
 ;;;###autoload
 (add-to-list 'auto-mode-alist '("\\.ghc\\'" . fghc-mode))
+
+;; The language server, by eglot or by lsp-mode.
+(defvar eglot-server-programs)
+(defvar lsp-language-id-configuration)
+(declare-function lsp-register-client "lsp-mode")
+(declare-function lsp-stdio-connection "lsp-mode")
+(declare-function make-lsp-client "lsp-mode")
+
+(with-eval-after-load 'eglot
+  (add-to-list 'eglot-server-programs (cons 'fghc-mode fghc-server)))
+
+(with-eval-after-load 'lsp-mode
+  (add-to-list 'lsp-language-id-configuration '(fghc-mode . "fghc"))
+  (lsp-register-client (make-lsp-client :new-connection (lsp-stdio-connection fghc-server)
+                                        :major-modes '(fghc-mode) :server-id 'ghcdb)))
 
 ;; dap-mode: its commands for stepping back are these two.  dap-mode 0.7 reads the next variable before dap-ui has made it.
 (defvar dap-exception-breakpoints nil)

@@ -72,6 +72,22 @@ test("the tutorial: from the result to the step that bound it, another clause, a
   assert.match(await client.type("shelf"), /^2 1\.1 by 2$/m);
 }));
 
+test("blame: two questions, the clause at fault, back to before its step", () => session(async (client) => {
+  const file = example("bill.ghc");
+  await client.begin(file);
+  await client.go("continue");
+  assert.match(await client.type("blame T"), /^sent: blame T\n.*\nask 0\.1 of 3\nquestion 1 of about 2: bill\(12,3,T\) gave T = 150\. Is that right\?\n/s);
+  assert.strictEqual((await client.stop()).text, "right or wrong? bill(12,3,T) gave T = 150");
+  assert.match(await client.type("n"), /question 2 of about 3: price\(12,P\) gave P = 120\./);
+  assert.strictEqual((await client.stop()).text, "right or wrong? price(12,P) gave P = 120");
+  assert.match(await client.type("n"), /fault 2 1\.1 by 2\n/);
+  await client.stop();
+  const [fault] = await client.frames();
+  assert.deepStrictEqual([fault.name, fault.line], ["at fault: price(12,P) gave P = 120", lineOf(file, "price(N,P) :- N > 0")]);
+  assert.strictEqual((await client.go("restartFrame", { frameId: fault.id })).text, "before step 2");
+  assert.strictEqual((await client.frames())[0].name, "price(12,_1_1)");
+}));
+
 test("steps and back, by each process", () => session(async (client) => {
   await client.begin(example("append.ghc"));
   await client.go("stepIn");

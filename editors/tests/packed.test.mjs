@@ -1,5 +1,4 @@
 // The extension for VS Code as it is packed, the colours of Vim, and the recorded sessions of Emacs and Neovim.
-import Module, { createRequire } from "node:module";
 import assert from "node:assert";
 import fs from "node:fs";
 import os from "node:os";
@@ -8,6 +7,7 @@ import test from "node:test";
 import { execFileSync, spawnSync } from "node:child_process";
 import { fileURLToPath } from "node:url";
 import { Client } from "./lib/client.mjs";
+import { activated } from "./lib/stand_in.mjs";
 import { packedFiles, vsixFiles } from "../vscode/packing.mjs";
 import { zip } from "../vscode/zip.mjs";
 
@@ -17,39 +17,20 @@ const ROOT = path.join(HERE, "..", "..");
 const room = () => fs.mkdtempSync(path.join(os.tmpdir(), "ghcdb-test-"));
 const isThere = (program) => spawnSync("sh", ["-c", `command -v ${program}`]).status === 0;
 
-/** What an extension registers, with a stand-in for the editor: how the adapter is started, how a configuration is completed, the commands. */
-function activated(file) {
-  class DebugAdapterExecutable {
-    constructor(program, words, options) {
-      Object.assign(this, { program, words, options });
-    }
-  }
-  const told = { commands: [] }, load = Module._load;
-  const vscode = {
-    DebugAdapterExecutable, window: { activeTextEditor: { document: { languageId: "fghc", fileName: "/a.ghc" } } }, commands: { registerCommand: (name) => told.commands.push(name) },
-    debug: {
-      registerDebugAdapterDescriptorFactory: (type, made) => Object.assign(told, { type, started: made.createDebugAdapterDescriptor({ configuration: {} }) }),
-      registerDebugConfigurationProvider: (type, made) => { told.completed = made.resolveDebugConfiguration(undefined, {}); },
-    },
-  };
-  Module._load = (name, ...rest) => (name === "vscode" ? vscode : load(name, ...rest));
-  try {
-    createRequire(import.meta.url)(file).activate({ subscriptions: [] });
-  } finally {
-    Module._load = load;
-  }
-  return told;
-}
-
-test.afterEach(Client.endAll);
-
-test("the packed extension starts its own adapter, and debugs with nothing but itself", { timeout: 60000 }, async () => {
+/** Writes the files of the packed extension into a folder. */
+function unpacked() {
   const folder = room();
   for (const [name, bytes] of packedFiles()) {
     fs.mkdirSync(path.dirname(path.join(folder, name)), { recursive: true });
     fs.writeFileSync(path.join(folder, name), bytes);
   }
-  const { started, completed } = activated(path.join(folder, "extension.js"));
+  return folder;
+}
+
+test.afterEach(Client.endAll);
+
+test("the packed extension starts its own adapter, and debugs with nothing but itself", { timeout: 60000 }, async () => {
+  const folder = unpacked(), { started, completed, end } = await activated(path.join(folder, "extension.js"));
   assert.strictEqual(started.program, process.execPath);
   assert.ok(started.words[0].startsWith(folder), "the adapter is not the packed one");
   const client = new Client({ adapter: started.words[0], env: { ...started.options.env, PATH: "", GHCDB: "" }, cwd: folder });
@@ -57,6 +38,22 @@ test("the packed extension starts its own adapter, and debugs with nothing but i
   assert.strictEqual(await client.type("T"), "150");
   assert.match((await client.go("stepBack")).text, /^undone/);
   await client.end();
+  end();
+});
+
+test("the packed extension tells what is wrong with a program, and what stands in it", { timeout: 60000 }, async () => {
+  const text = "p(X) :- true | q(X).\nr(X) :- p(X).\n", folder = unpacked(), { editor, end } = await activated(path.join(folder, "extension.js"), [text]);
+  const [document] = editor.documents, [wrong] = await editor.told(document.uri);
+  assert.deepStrictEqual([wrong.range, wrong.severity, wrong.code, wrong.source], [[0, 15, 0, 16], 0, "F5", "ghcdb"]);
+  const symbols = await editor.providers.DocumentSymbol.provideDocumentSymbols(document);
+  assert.deepStrictEqual(symbols.map(({ name, kind, children }) => [name, kind, children.map((child) => child.name)]), [["p/1", 11, ["p(X)"]], ["r/1", 11, ["r(X)"]]]);
+  const there = { line: 1, character: 8 }, { uri, range } = await editor.providers.Definition.provideDefinition(document, there);
+  assert.deepStrictEqual([String(uri), range], [String(document.uri), [0, 0, 0, 1]]);
+  const { contents } = await editor.providers.Hover.provideHover(document, there);
+  assert.strictEqual(contents.value, "```fghc\n% clause 1\np(X) :- true | q(X).\n```");
+  editor.type(document, `${text}q(_) :- true | true.\n`);
+  assert.deepStrictEqual(await editor.told(document.uri), []);
+  end();
 });
 
 // What VS Code's documentation of package.json asks for, of the parts that are here: each with a test of its value.
@@ -118,13 +115,14 @@ test("the archive is one that others read", { skip: !isThere("python3") }, () =>
   assert.deepStrictEqual(told.trim().split("\n"), ["None", ...files.keys()]);
 });
 
-test("the extension registers what its package tells", () => {
+test("the extension registers what its package tells", { timeout: 60000 }, async () => {
   const about = JSON.parse(fs.readFileSync(path.join(ROOT, "editors", "vscode", "package.json")));
-  const { type, completed, commands, started } = activated(path.join(ROOT, "editors", "vscode", "extension.js"));
+  const { type, completed, commands, started, end } = await activated(path.join(ROOT, "editors", "vscode", "extension.js"));
   assert.deepStrictEqual([type, completed.type, completed.program], ["ghcdb", "ghcdb", "/a.ghc"]);
   assert.deepStrictEqual(commands, about.contributes.commands.map(({ command }) => command));
   assert.ok(fs.existsSync(started.words[0]));
   assert.strictEqual(started.options.env.ELECTRON_RUN_AS_NODE, "1");
+  end();
 });
 
 test("the colours of VS Code are patterns that a line matches", () => {
@@ -177,4 +175,11 @@ test("Emacs compiles the mode without a word, and colours a program", { skip: !i
   const faces = '(with-temp-buffer (insert "price(N,P) :- N > 0 | P := N * 10. % a price") (fghc-mode) (font-lock-ensure) (dolist (at (list 1 7 12 23 41)) (princ (format "%s\\n" (get-text-property at (quote face))))))';
   const told = execFileSync("emacs", ["-Q", "--batch", "-l", file, "--eval", faces], { encoding: "utf8", stdio: ["ignore", "pipe", "ignore"] });
   assert.deepStrictEqual(told.trim().split("\n").map((face) => face.replace(/^font-lock-|-face$/g, "")), ["function-name", "variable-name", "keyword", "variable-name", "comment"]);
+});
+
+test("Emacs indents a clause that goes on, and lists each predicate once", { skip: !isThere("emacs") }, () => {
+  const program = "% p\np(X) :- true |\nq(X), % one.\n    r(X).\n  q(_).\np(1).\n";
+  const script = `(with-temp-buffer (insert ${JSON.stringify(program)}) (fghc-mode) (indent-region (point-min) (point-max)) (princ (buffer-string)) (princ (format "%S" (funcall imenu-create-index-function))))`;
+  const told = execFileSync("emacs", ["-Q", "--batch", "-l", path.join(ROOT, "editors/emacs/fghc-mode.el"), "--eval", script], { encoding: "utf8", stdio: ["ignore", "pipe", "ignore"] });
+  assert.strictEqual(told, '% p\np(X) :- true |\n    q(X), % one.\n    r(X).\nq(_).\np(1).\n(("p" . 5) ("q" . 47))');
 });

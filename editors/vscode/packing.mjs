@@ -1,4 +1,4 @@
-// Which files the packed extension has: its own, and inside it the adapter and all that this needs, in the places that they have here.
+// Which files the packed extension has: its own, and inside it the adapter, the language server and all that these need, in the places that they have here.
 import fs from "node:fs";
 import path from "node:path";
 import { fileURLToPath } from "node:url";
@@ -6,9 +6,9 @@ import { fileURLToPath } from "node:url";
 const HERE = path.dirname(fileURLToPath(import.meta.url));
 
 const ROOT = path.join(HERE, "..", "..");
-const OWN = ["package.json", "extension.js", "language-configuration.json", "syntaxes/fghc.tmLanguage.json"];
-const FOLDERS = ["editors/dap", "front/protocol", "front/text", "front/run", "front/session"]; // of these all that ends in .mjs
-const SINGLE = ["editors/ghcdb-adapter", "web/ghcdb.html"];
+const OWN = ["package.json", "extension.js", "language.js", "language-configuration.json", "syntaxes/fghc.tmLanguage.json"];
+const FOLDERS = ["editors/dap", "editors/lsp", "front/protocol", "front/text", "front/run", "front/session"]; // of these all that ends in .mjs
+const SINGLE = ["editors/ghcdb-adapter", "editors/ghcdb-lsp", "web/ghcdb.html"];
 
 const read = (file) => fs.readFileSync(file);
 const scriptsIn = (folder) => fs.readdirSync(path.join(ROOT, folder)).filter((name) => name.endsWith(".mjs")).map((name) => `${folder}/${name}`);
@@ -24,6 +24,7 @@ const TYPES = `<?xml version="1.0" encoding="utf-8"?>
 <Default Extension="json" ContentType="application/json"/><Default Extension="js" ContentType="application/javascript"/>
 <Default Extension="mjs" ContentType="application/javascript"/><Default Extension="html" ContentType="text/html"/><Default Extension="vsixmanifest" ContentType="text/xml"/>
 <Override PartName="/extension/inside/editors/ghcdb-adapter" ContentType="application/javascript"/>
+<Override PartName="/extension/inside/editors/ghcdb-lsp" ContentType="application/javascript"/>
 </Types>
 `;
 

@@ -73,6 +73,7 @@ const ELSEWHERE = {
   load: "a history is loaded at the start: ./ghcdb FILE --query GOALS --load HISTORY", open: "a program is named at the start: ./ghcdb FILE --query GOALS",
   edit: "edit the file elsewhere, then restart", set: "ask X = TERM binds a variable that is unbound", jump: "roll N goes back to before step N",
   until: "watch X runs until X is bound", cut: "there is no cut: step G C takes goal G by clause C", fail: "there is no fail: roll N takes a step back",
+  y: "y and n answer a question of blame: blame X asks whose clause made X wrong",
 };
 
 const GOAL = /^[A-Za-z_]\w*\s*(\(|:?=)/;

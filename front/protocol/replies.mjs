@@ -240,8 +240,8 @@ const Replies = (() => {
     return variable === undefined ? null : { variable, number: Number(number) };
   }
 
-  const WITH_STEP = [/^()(\d+)( (?:made|read|named)\b.*)$/, /^(\S+ by )(\d+)()$/, /^(REDU )(\d+)( .*)$/, /^(F17 step )(\d+)( .*)$/, /^()(\d+)( (?:\d+\.\d+|-) .*)$/];
-  const WITH_GOAL = [/^(_\d+_\d+ in )(\d+\.\d+)( .*)$/, /^()(\d+\.\d+)( (?:ready|waits|failed|stream) .*)$/, /^((?:CALL|RESU|SUSP|FAIL|stopped spied) )(\d+\.\d+)(.*)$/];
+  const WITH_STEP = [/^()(\d+)( (?:made|read|named)\b.*)$/, /^(\S+ by )(\d+)()$/, /^((?:REDU|fault) )(\d+)( .*)$/, /^(asked )(\d+)()$/, /^(F17 step )(\d+)( .*)$/, /^()(\d+)( (?:\d+\.\d+|-) .*)$/];
+  const WITH_GOAL = [/^(_\d+_\d+ in )(\d+\.\d+)( .*)$/, /^()(\d+\.\d+)( .*)$/, /^((?:CALL|RESU|SUSP|FAIL|stopped spied|ask|left|fault) )(\d+\.\d+)(.*)$/];
   const firstOf = (forms, line) => forms.map((form) => form.exec(line)).find(Boolean);
 
   /** A line in three: before the `step` or the `goal` that it names first, that name, and what follows; null where it names none. */

@@ -1,6 +1,6 @@
 // The commands that the terminal answers itself: each gives lines, computed from what the session tells. Nothing here changes a session.
 import Stuck from "./stuck.mjs";
-import { plural } from "./telling.mjs";
+import { plural } from "./reasons.mjs";
 
 /** Is a clause or goal of the predicate that a word names, as `price/2` or `price`? */
 const isOf = (predicate, word) => predicate === word || predicate?.split("/")[0] === word;
@@ -14,13 +14,16 @@ function list(session, [word]) {
 
 async function stuck(session) {
   const goals = await session.goals(), lines = Stuck.linesOf(goals, (variable) => session.run.labelOf(variable));
-  const failed = goals.filter(({ status }) => status === "failed").map(({ name, refusal }) => `${name} has failed: ${refusal}; explain ${name} tells more`);
+  const failed = goals.filter(({ status }) => status === "failed").map(({ name, refusal }) => `${name} has failed: ${refusal}; explain ${name} and blame ${name} tell more`);
   if (lines.length + failed.length > 0) return [...failed, ...lines];
   return [goals.length === 0 ? "all is done" : "no goal waits"];
 }
 
 /** The variables of the state that a word names: `_n_m`, or a name of the text. */
 const variablesOf = (session, word) => (/^_\d+_\d+$/.test(word) ? [word] : session.run.variablesNamed(word));
+
+/** The console knows a variable of a step as `_n_m` alone; here it may have the name that the text gives it. */
+const signOf = (session, word) => (session.variables.includes(word) ? word : variablesOf(session, word)[0] ?? word);
 
 async function holders(session, [word]) {
   const held = Stuck.holdersOf(await session.goals()), lines = [];
@@ -56,4 +59,4 @@ async function stat(session) {
   return [...lines, `${plural(steps.length, "step")}, longest chain of causes ${chain}: on average ${(steps.length / Math.max(1, chain)).toFixed(1)} at once`];
 }
 
-export { list, stuck, holders, records, variablesOf, stat };
+export { list, stuck, holders, records, signOf, stat };

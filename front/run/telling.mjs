@@ -1,8 +1,8 @@
 // What the terminal adds after a reply: why it was refused and what would help, what a stop means, and the names of variables.
 import Asking from "../protocol/asking.mjs";
+import BlameLines from "../protocol/blame_lines.mjs";
 import Causes from "../text/causes.mjs";
-import Choices from "./choices.mjs";
-import Printed from "../text/printed.mjs";
+import GoalTree from "./goal_tree.mjs";
 import Print from "../text/print.mjs";
 import Reader from "../text/reader.mjs";
 import Stuck from "./stuck.mjs";
@@ -10,52 +10,12 @@ import Nearest from "../text/nearest.mjs";
 import Refusals from "../protocol/refusals.mjs";
 import { causeInTerm } from "../text/causes_in_terms.mjs";
 import Replies from "../protocol/replies.mjs";
+import { afterPart } from "./blame_words.mjs";
+import { MOST, plural, some, labelOf, whyNoClause, whyNoValue, whyWaits, whyFailed, hasConsequences } from "./reasons.mjs";
 
 const { nearest, predicatesNamed } = Nearest;
 
-const MOST = 12; // lines of a kind that it tells
 const BEGINNING = 200; // letters that it tells of a value that is too long
-const MOST_LOOKED = 200_000; // kept steps: of a longer run not all that depends on a step is looked for
-
-const plural = (count, word) => `${count} ${word}${count === 1 ? "" : "s"}`;
-const some = (words) => (words.length > MOST ? [...words.slice(0, MOST), ".."] : words);
-
-const labelOf = (session) => (variable) => session.run.labelOf(variable);
-
-/** What each clause says to a call that has failed. */
-async function whyNoClause(session, goal, clause) {
-  const run = await session.look();
-  return Choices.choicesOf(run, goal)
-    .filter((choice) => choice.says === "no" && (clause === undefined || choice.clause.number === Number(clause)))
-    .map((choice) => `clause ${choice.clause.number}: ${choice.why}`);
-}
-
-/** The variable that was bound to the value of a term, at the end of its chain; undefined where the term is no variable, or unbound. */
-function boundVariable(run, term) {
-  let last;
-  const termOf = (bound) => (typeof bound !== "string" ? bound : { variable: Reader.isState(bound) ? bound : undefined });
-  const end = Printed.endOfChain(term, ({ variable }) => termOf(run.bound.get(variable)), ({ variable }) => { last = variable; });
-  return end.variable === undefined ? last : undefined;
-}
-
-/** Which steps had bound the two sides of what could not be made equal. */
-function boundBefore(run, goal) {
-  const variables = [goal.left, goal.right].map((term) => boundVariable(run, term)).filter((variable) => variable !== undefined);
-  return [...new Set(variables)].map((variable) => `${run.labelOf(variable)} was bound by step ${run.binders.get(variable)}; explain ${variable} tells why`);
-}
-
-/** What could not be made equal, or be computed. */
-async function whyNoValue(session, name) {
-  const run = await session.look(), goal = run.goalOf(name);
-  if (goal?.right === undefined) return [];
-  const [left, right] = [goal.left, goal.right].map((term) => Print.term(term, { store: run.shown, most: 60 }));
-  const why = goal.sort === "assignment" ? Choices.whyNoValue(goal.right, run) : undefined;
-  return why === undefined ? [`${left} and ${right}`, ...boundBefore(run, goal)] : [`${right}: ${why}`];
-}
-
-async function whyWaits(session, name) {
-  return Stuck.linesOfGoal(await session.goals(), name, labelOf(session));
-}
 
 async function noGoal(session, [name]) {
   const taker = session.kept.takers.get(name);
@@ -90,12 +50,6 @@ async function notRedone(session, [word]) {
   if (taker !== undefined) return [`step ${number} takes ${goal}, which step ${taker} has taken: take that back first`];
   if (maker > 0 && !session.kept.steps.has(maker)) return [`step ${number} takes ${goal}, which step ${maker} made: redo ${maker} first`];
   return [`it rested on steps that are not there: redo those before it first; shelf lists what was taken back`];
-}
-
-async function hasConsequences(session, [number]) {
-  if (session.kept.steps.size > MOST_LOOKED) return [`roll ${Number(number)} takes it back with all that depends on it`];
-  const all = (await session.look()).consequencesOf(Number(number));
-  return [`roll ${Number(number)} takes it back with all that depends on it: ${some(all).join(",")}${all.length > MOST ? ` (${all.length} steps)` : ""}`];
 }
 
 async function notLawful(session, words, reply) {
@@ -138,6 +92,23 @@ async function beginningOf(session, [word]) {
   return [`it begins so: ${Print.term({ variable }, { store: run.shown, most: BEGINNING })}`];
 }
 
+/** Which answer names no call on which the value or the goal rests; or why the goal asked about is not there. */
+async function notBlamed(session, [subject, ...words]) {
+  const answered = words.some((word) => BlameLines.readAnswer(word) !== null);
+  return /^\d+\.\d+$/.test(subject) && !answered ? noGoal(session, [subject]) : [`an answer names no call on which ${subject} rests: blame ${subject} asks anew`];
+}
+
+/** Which of the variables is unknown. */
+function unknownOf(session, words) {
+  const isKnown = (word) => session.variables.includes(word) || /^_\d+_\d+$/.test(word) || BlameLines.readAnswer(word) !== null;
+  return noVariable(session, [words.find((word) => !isKnown(word)) ?? words[0]]);
+}
+
+const notPart = () => ["no such call is there, and no kept step took one: goals and records list them"];
+
+// What helps with refusals of some commands, where it is not what helps with those of others.
+const OF_COMMANDS = { blame: { F7: notBlamed, F23: unknownOf }, part: { F7: notPart } };
+
 /** What helps with a refusal. */
 async function afterRefusal(session, meaning, reply) {
   const [number] = reply[0].split(" ");
@@ -147,13 +118,8 @@ async function afterRefusal(session, meaning, reply) {
   }
   const limit = Replies.limitIn(reply[0], meaning.line);
   if (limit !== undefined) return [limit, ...(meaning.name === "show" ? await beginningOf(session, meaning.words) : [])];
-  const helper = meaning.name === "redo" ? notRedone : HELPERS[number], told = await helper?.(session, meaning.words, reply);
+  const helper = meaning.name === "redo" ? notRedone : OF_COMMANDS[meaning.name]?.[number] ?? HELPERS[number], told = await helper?.(session, meaning.words, reply);
   return told === undefined || told.length === 0 ? [Refusals[number]] : told;
-}
-
-async function whyFailed(session, name, refusal) {
-  if (refusal === "F10") return whyNoClause(session, name);
-  return ["F11", "F13"].includes(refusal) ? whyNoValue(session, name) : [Refusals[refusal]];
 }
 
 const STOPS = {
@@ -231,12 +197,35 @@ function namesOfAll(session, reply) {
   return named.length === 0 ? [] : [some(named.map(labelOf(session))).join(", ")];
 }
 
-/** After an explanation: variables by the names of the text, the clauses on which it rests, and at which steps another could be taken. */
-function afterExplain(session, reply) {
+const SCREEN = 20, DEEPEST = 12; // lines of a tree that are shown at once; how far its lines are moved in at most
+const MANY = 200; // lines of a tree for which the goals are not asked for one by one
+
+/** The text of the goal that a step took, as it was written. */
+async function writtenText(session, step, isOfMany) {
+  const known = session.kept.texts.get(step.goal);
+  if (known !== undefined || !isOfMany) return known ?? session.goalTaken(step);
+  return (await session.look()).textOf(step.goal);
+}
+
+/** The steps of an explanation as a tree, with their goals as they stood then; a screen of it, where not all is asked for. */
+async function treeLines(session, { words: [subject], isWhole }, reply) {
+  const steps = GoalTree.stepsOf(reply), { rows, left } = GoalTree.treeOf(steps, isWhole ? Infinity : SCREEN), lines = [];
+  const values = new GoalTree.Values(steps), places = new Map(steps.map(({ number }, place) => [number, place]));
+  for (const row of rows) {
+    const { step, depth } = row, store = values.before(places.get(step.number));
+    const text = step.goal === null ? undefined : GoalTree.goalText(await writtenText(session, step, rows.length > MANY), store);
+    lines.push("  ".repeat(Math.min(depth, DEEPEST)) + GoalTree.wordsOf(row, text));
+  }
+  const hidden = left + rows.reduce((sum, { below }) => sum + below, 0);
+  return hidden > 0 ? [...lines, `${plural(hidden, "step")} more: explain ${subject} all shows them`] : lines;
+}
+
+/** After an explanation: variables by the names of the text, the clauses and the steps on which it rests, and where another clause could be taken. */
+async function afterExplain(session, meaning, reply) {
   const slice = Asking.sliceIn(reply), rests = Asking.clausesTold(slice, session.clauses.length);
   const lines = slice.others.map(([number, [first, ...more], goal]) =>
     `another clause than step ${number} took: roll ${number}, step ${goal} ${first}${more.length > 0 ? ` (or ${more.join(", ")})` : ""}`);
-  return [...namesOfFirst(session, reply), ...(rests === undefined ? [] : [rests]), ...some(lines)];
+  return [...namesOfFirst(session, reply), ...(rests === undefined ? [] : [rests]), ...await treeLines(session, meaning, reply), ...some(lines)];
 }
 
 /** After `keep`: what the last line counts. */
@@ -254,11 +243,12 @@ async function notesAfter(session, meaning, reply) {
   if (meaning.name === "show") return afterShow(session, reply);
   if (meaning.name === "goals") return afterGoals(session, reply);
   if (meaning.name === "who") return namesOfFirst(session, reply);
-  if (meaning.name === "explain") return afterExplain(session, reply);
+  if (meaning.name === "explain") return afterExplain(session, meaning, reply);
+  if (meaning.name === "part") return afterPart(session, meaning.words[0], reply);
   if (meaning.name === "keep") return afterKeep(reply);
   if (meaning.name === "goal") return afterGoal(session, meaning.words);
   if (meaning.name === "clauses") return [...await whyNoClause(session, meaning.words[0]), ...namesOfAll(session, reply)];
   return afterSettling(session, reply);
 }
 
-export { notesAfter, whyNoClause, plural };
+export { notesAfter };

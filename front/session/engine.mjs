@@ -3,6 +3,7 @@
 // `web/build` has prepared the module so that it can be left where it reads its input, and entered again there.
 import Heap from "./heap.mjs";
 import Host from "./host.mjs";
+import Inflate from "./inflate.mjs";
 
 const Engine = (() => {
   const LEAVING = 1, ENTERING = 2; // states of a module that can be left; 0 is running
@@ -124,9 +125,9 @@ const Engine = (() => {
       this.compiled = compiled;
     }
 
-    // The engine of a module's bytes, or of the module that the page carries.
+    // The engine of a module's bytes, packed or not, or of the module that the page carries.
     static async load(bytes) {
-      return new Engine(await WebAssembly.compile(bytes ?? Engine.bytesOfBase64(MODULE)));
+      return new Engine(await WebAssembly.compile(Inflate.unpack(bytes ?? Engine.bytesOfBase64(MODULE))));
     }
 
     static bytesOfBase64(text) {

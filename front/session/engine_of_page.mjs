@@ -1,12 +1,15 @@
-// The engine that stands in web/ghcdb.html, for Node: the module that the page carries, and what it says of it.
+// The engine that stands in web/ghcdb.html, for Node: the module that the page carries, and what it says of it. A release
+// has packaging/engine_of_release.mjs in its place, for there is no page beside it.
 import fs from "node:fs";
 import path from "node:path";
 import { fileURLToPath } from "node:url";
 import Engine from "./engine.mjs";
+import Inflate from "./inflate.mjs";
 
 const HERE = path.dirname(fileURLToPath(import.meta.url));
 
 const PAGE = path.join(HERE, "..", "..", "web", "ghcdb.html");
+const THREAD = path.join(HERE, "engine_thread.mjs"); // the script of the thread in which an engine runs
 
 // The text of a script that `web/build` put into a page.
 function scriptOf(page, name) {
@@ -20,7 +23,10 @@ function scriptOf(page, name) {
 const constantIn = (script) => JSON.parse(script.slice(script.indexOf("=") + 1, script.lastIndexOf(";")));
 
 /** The bytes of the module in the text of a page. */
-const moduleOf = (page) => Buffer.from(constantIn(scriptOf(page, "module.js")), "base64");
+const moduleOf = (page) => Inflate.unpack(Buffer.from(constantIn(scriptOf(page, "module.js")), "base64"));
+
+/** The bytes of the module that web/ghcdb.html carries. */
+const moduleOfPage = () => moduleOf(fs.readFileSync(PAGE, "latin1"));
 
 // The engine of a page, and with what it was made.
 async function engineOfPage(file = PAGE) {
@@ -28,4 +34,4 @@ async function engineOfPage(file = PAGE) {
   return { engine: await Engine.load(moduleOf(page)), madeWith: constantIn(scriptOf(page, "made_with.js")) };
 }
 
-export { engineOfPage, moduleOf, scriptOf, PAGE };
+export { engineOfPage, moduleOf, moduleOfPage, scriptOf, PAGE, THREAD };

@@ -7,7 +7,7 @@ import path from "node:path";
 import { Worker } from "node:worker_threads";
 import { fileURLToPath } from "node:url";
 import { spawn } from "node:child_process";
-import { moduleOf, PAGE } from "./engine_of_page.mjs";
+import { moduleOfPage, THREAD } from "./engine_of_page.mjs";
 
 const HERE = path.dirname(fileURLToPath(import.meta.url));
 
@@ -246,7 +246,7 @@ const ofPage = (() => {
   let made;
   return () => {
     if (made !== undefined) return made;
-    made = { compiled: new WebAssembly.Module(moduleOf(fs.readFileSync(PAGE, "latin1"))) };
+    made = { compiled: new WebAssembly.Module(moduleOfPage()) };
     return made;
   };
 })();
@@ -254,7 +254,7 @@ const ofPage = (() => {
 class EngineSession extends Talk {
   constructor(words, files) {
     super();
-    this.worker = new Worker(path.join(HERE, "engine_thread.mjs"), { workerData: { words, files, ...ofPage() } });
+    this.worker = new Worker(THREAD, { workerData: { words, files, ...ofPage() } });
     this.worker.on("message", (told) => this.hear(told));
     this.worker.on("error", (error) => this.close(new Ended(error.message, 70)));
     this.worker.on("exit", () => this.close(new Ended("the engine ended", 70)));

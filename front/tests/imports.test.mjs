@@ -6,14 +6,14 @@ import test from "node:test";
 import { fileURLToPath } from "node:url";
 
 const ROOT = fileURLToPath(new URL("../../", import.meta.url));
-const LAYERS = ["front/text", "front/protocol", "front/run", "front/session", "terminal", "editors", "web"]; // the last three stand side by side
-const VIEWS = LAYERS.slice(4);
+const LAYERS = ["front/text", "front/protocol", "front/run", "front/session", "terminal", "editors", "web", "packaging"]; // the three before the last stand side by side
+const VIEWS = LAYERS.slice(4, 7);
 
 const filesBelow = (folder) => fs.readdirSync(path.join(ROOT, folder), { withFileTypes: true }).flatMap((entry) => {
   const name = path.posix.join(folder, entry.name);
   return entry.isDirectory() ? filesBelow(name) : [name];
 });
-const files = ["front", ...VIEWS].flatMap(filesBelow).filter((name) => name.endsWith(".mjs"));
+const files = ["front", ...VIEWS, "packaging"].flatMap(filesBelow).filter((name) => name.endsWith(".mjs"));
 
 /** The modules that a module imports, but for those of Node. */
 function importsOf(file) {
@@ -50,7 +50,7 @@ test("no product imports a test", () => {
 });
 
 test("an arrow goes down, and no view knows another", () => {
-  const isLawful = (file, other) => layerOf(other) <= layerOf(file) && (!VIEWS.includes(LAYERS[layerOf(other)]) || layerOf(other) === layerOf(file));
+  const isLawful = (file, other) => layerOf(other) <= layerOf(file) && (!VIEWS.includes(LAYERS[layerOf(other)]) || layerOf(other) === layerOf(file) || file.startsWith("packaging/"));
   assert.deepStrictEqual(products.flatMap((file) => arrows.get(file).filter((other) => !isLawful(file, other)).map((other) => `${file} imports ${other}`)), []);
 });
 

@@ -23,7 +23,7 @@ function rowsAfter(text, heading) {
 }
 
 const SAMPLES = { G: "0.1", C: "1", N: "1", X: "T", "F/N": "bill/3", K: "1", TERM: "a", GOALS: "true", FILE: "run.history", COMMAND: "step" };
-const lineOf = (form) => form.replace(/ or \w$| \.\.$/, "").split(" ").map((word, place) => (place > 0 && SAMPLES[word]) || word).join(" ");
+const lineOf = (form) => form.replace(/ \.\.$/, "").replace(/ or \w$/, "").split(" ").map((word, place) => (place > 0 && SAMPLES[word]) || word).join(" ");
 
 const loaded = engineOfPage();
 

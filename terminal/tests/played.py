@@ -283,6 +283,25 @@ def test_long_run_is_shortened(home):
     terminal.end()
 
 
+def test_long_explanation_is_shortened(home):
+    terminal = start(home, str(ROOT / "examples/primes.ghc"), "--query", "primes(40,Ps)")
+    terminal.type("run")
+    steps = int(terminal.type("stat")[-1].split()[1])
+    shown = terminal.type("explain Ps")
+    told = [line for line in shown if not line.startswith(MARK)]
+    tree = [line for line in shown if re.match(r"%( {2})* step \d+: ", line)]
+    of = int(told[-1].split()[1])
+    wants(told[-1] == f"steps {of} of {steps}" and len(told) == 31, str(told))
+    wants(f"% .. {of - 29} steps more (explain Ps all shows all) .." in shown, str(shown))
+    wants(len(tree) == 20 and shown[-1] == f"% {of - 20} steps more: explain Ps all shows them", str(shown[-3:]))
+    wants(tree[0] == "% step 1: primes(40,_0_1) by 1" and re.search(r"\(and \d+ below\)$", tree[-1]), str(tree))
+    whole = terminal.type("explain Ps all")
+    told = [line for line in whole if not line.startswith(MARK)]
+    tree = [line for line in whole if re.match(r"%( {2})* step \d+: ", line)]
+    wants(len(told) == of + 2 and len(tree) == of and "below)" not in "".join(tree), str(whole[:3]))
+    terminal.end()
+
+
 def test_end_of_input_asks_once(home):
     terminal = start(home, str(ROOT / "examples/bill.ghc"), "--query", "bill(12,3,T)")
     terminal.type("leap")

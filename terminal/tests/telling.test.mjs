@@ -16,6 +16,8 @@ const RECORDS = [
   "4 1.2 by 2 reads - binds - makes 4.1", "5 4.1 is reads - binds _1_2=30 makes -", "6 1.3 is reads _1_1,_1_2 binds _0_1=150 makes -",
 ];
 const EXPLAINED = ["T = 150", RECORDS[0], `${RECORDS[1]} or 3`, ...RECORDS.slice(2), "steps 6 of 6"];
+const TREE = ["% step 1: bill(12,3,_0_1) by 1", "%   step 2: price(12,_1_1) by 2", "%     step 3: _1_1 := 12 * 10 is", "%   step 4: price(3,_1_2) by 2", "%     step 5: _1_2 := 3 * 10 is",
+  "%   step 6: _0_1 := 120 + 30 is"];
 const CAUSES = ["2 1 made", "3 2 made", "4 1 made", "5 4 made", "6 1 made", "6 3 read _1_1", "6 5 read _1_2 woke"];
 
 const begun = []; // each is ended after its test, so that one that failed leaves nothing that waits
@@ -43,11 +45,11 @@ async function begin() {
 test("the console answers, and the terminal adds what helps", async () => {
   const { front, type } = await begin();
   await type("leap");
-  assert.deepStrictEqual(await type("explain T"), [...EXPLAINED, "% rests on 2 of 3 clauses: 1, 2", "% another clause than step 2 took: roll 2, step 1.1 3"]);
+  assert.deepStrictEqual(await type("explain T"), [...EXPLAINED, "% rests on 2 of 3 clauses: 1, 2", ...TREE, "% another clause than step 2 took: roll 2, step 1.1 3"]);
   assert.deepStrictEqual((await type("explain P")).slice(0, 2), ["% sent: explain _1_1", "_1_1 = 120"]);
   assert.deepStrictEqual(await type("goal 2."), ["% sent: goal 2", "2 1.1 by 2 price(12,_1_1)", "% by clause 2: price(N,P) :- N > 0 | P := N * 10.", "% with N = 12, P = 120"]);
   assert.deepStrictEqual(await type("goal 99"), ["F16 not a kept step", "% records lists the kept steps"]);
-  assert.deepStrictEqual(await type("goal x"), ["F25 command", "% usage: goal N          tell which goal step N took, as written then; with its clause"]);
+  assert.match((await type("goal x")).join("\n"), /^F25 command\n% usage: goal N +tell which goal step N took, as written then; with its clause$/);
   assert.deepStrictEqual(await type("clauses 0.1"), ["F7 no goal", "% 0.1 was taken by step 1; goals lists those that are there"]);
   assert.deepStrictEqual(await type("causes"), CAUSES);
   assert.deepStrictEqual(await type("keep P"), ["% sent: keep _1_1", "undone 4,5,6", "kept 3", "% 3 steps left; shelf lists what was taken back, redo N puts a step there again"]);
@@ -96,6 +98,7 @@ test("the adapter asks for them, too, and a stop follows where steps went", asyn
   const client = new Client({ env: { GHCDB: "page" } });
   await client.begin(BILL, { stopOnEntry: false });
   assert.match(await client.type("explain T"), /^2 1\.1 by 2 .* or 3$/m);
+  assert.deepStrictEqual((await client.type("explain T all")).split("\n").slice(-7), [...TREE.map((line) => line.slice(2)), "another clause than step 2 took: roll 2, step 1.1 3"]);
   assert.match(await client.type("goal 2"), /price\(12,_1_1\)/);
   assert.match(await client.type("goal 99"), /^F16 not a kept step\nrecords lists/);
   assert.match(await client.type("keep _1_1"), /^undone 4,5,6\n(SUSP 1\.3 _1_2\n)?kept 3$/);

@@ -21,11 +21,12 @@ class Terminal:
         self.wait, self.prompt = wait, PROMPTS[kind]
         self.child, self.device = pty.fork()
         if self.child == 0:
+            # Before the program is there: one that hears of another size later shows its prompt twice.
+            fcntl.ioctl(0, termios.TIOCSWINSZ, struct.pack("HHHH", ROWS, COLUMNS, 0, 0))
             os.environ.update(environment, TERM=kind)
             if folder is not None:
                 os.chdir(folder)
             os.execvp(words[0], words)
-        fcntl.ioctl(self.device, termios.TIOCSWINSZ, struct.pack("HHHH", ROWS, COLUMNS, 0, 0))
         self.status = None
         self.start = self.read()
 

@@ -118,7 +118,7 @@ AGAIN = [
     ("nospy price", "=not spying price/2"),
     ("spy nothing", "=F25 command", "% usage: spy F/N"),
     ("ask price(0,T)", "REDU 8"),
-    ("stuck", "=% 8.1 has failed: F10; explain 8.1 tells more"),
+    ("stuck", "=% 8.1 has failed: F10; explain 8.1 and blame 8.1 tell more"),
 ]
 
 # Two goals that bind one variable, and a chain between them.
@@ -139,7 +139,47 @@ CLASH = [
     ("step 5.1", "=F11 clash", "=% f(1) and f(2)"),
 ]
 
+# Who is to blame for a wrong value: questions, answers, what was taken back, trust, the verdict.
+BLAMED = [
+    ("y", "=F25 command", "% y: no such command; y and n answer a question of blame"),
+    ("leap", "=stopped quiet"),
+    ("blame", "=F25 command", "% usage: blame "),
+    (
+        "blame T",
+        "=ask 0.1 of 3",
+        "=% question 1 of about 2: bill(12,3,T) gave T = 150. Is that right?",
+        "% step 1 took 0.1 by clause 1 (line 6): ",
+    ),
+    ("no", "=% sent: blame T -0.1", "=% question 2 of about 3: price(12,P) gave P = 120. Is that right?"),
+    ("trust", "=% no predicate is trusted"),
+    ("part 1.2", "=gave price(3,30)", "=% price(3,Q) gave Q = 30"),
+    ("y", "=% sent: blame T -0.1 +1.1", "=% question 3 of about 3: price(3,Q) gave Q = 30. Is that right?"),
+    ("u", "=% sent: blame T -0.1", "=ask 1.1 of 2"),
+    ("n", "=% sent: blame T -0.1 -1.1", "=fault 2 1.1 by 2", "=% another clause than step 2 took: roll 2, step 1.1 3"),
+    ("u", "=% sent: blame T -0.1"),
+    (
+        "trust price",
+        "=% right, for they are trusted: 1.1, 1.2",
+        "=% sent: blame T -0.1 +1.1 +1.2",
+        "=fault 1 0.1 by 1",
+        "though all that its goals gave is right",
+    ),
+    (
+        "blame P -7.7",
+        "=% sent: blame _1_1 -7.7",
+        "=F7 no goal",
+        "=% an answer names no call on which _1_1 rests: blame _1_1 asks anew",
+    ),
+    ("part 1.3", "=F8 no such clause for the goal", "% 1.3 is no call"),
+    ("part 7.7", "=F7 no goal", "% no such call is there"),
+    ("explain T", "=%   step 2: price(12,_1_1) by 2", "=%   step 6: _0_1 := 120 + 30 is"),
+    ("explain T all", "=% sent: explain T", "=%   step 6: _0_1 := 120 + 30 is"),
+    ("undo", "=% sent: undo 6"),
+    ("n", "=% sent: step 1.3"),
+]
+
 SESSIONS = {
+    "blamed": (*BILL, BLAMED),
     "clash": (*BILL, CLASH),
     "again": (*BILL, AGAIN),
     "without the manual": (*APPEND, WITHOUT_THE_MANUAL),

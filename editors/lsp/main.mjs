@@ -1,0 +1,14 @@
+// What editors/ghcdb-lsp does; how it is called stands there.
+import { Decoder, encode } from "../dap/wire.mjs";
+import { nativeProgram } from "../../front/session/program.mjs";
+import { Server } from "./server.mjs";
+
+const server = new Server({
+  native: nativeProgram(),
+  send: (message) => process.stdout.write(encode(message)),
+  leave: (status) => process.exit(status),
+});
+const decoder = new Decoder((message) => server.hear(message));
+process.stdout.on("error", () => process.exit(1)); // the editor has gone
+process.stdin.on("data", (piece) => decoder.take(piece));
+process.stdin.on("end", () => process.exit(1));

@@ -1,0 +1,154 @@
+// The language server: it answers an editor's messages, in the Language Server Protocol, about the programs that are open there.
+import { diagnosticsOf } from "./diagnosing.mjs";
+import { aboutOf, clausesIn, groupsOf, rangeOf } from "./outline.mjs";
+
+const NOT_BEGUN = -32002, INVALID = -32600, UNKNOWN = -32601, WRONG_WORDS = -32602, BROKEN = -32603; // of the protocol's errors
+const WHOLE_TEXTS = 1, FUNCTION = 12, CLAUSE = 6; // how texts are sent; kinds of symbols
+const PAUSE = 150; // milliseconds without a key, before a text is read
+const MOST_SHOWN = 20; // clauses, when one points at a predicate
+
+// An error that the editor hears of.
+class Told extends Error {
+  constructor(code, message) {
+    super(message);
+    this.code = code;
+  }
+}
+
+class Server {
+  /** `send` takes messages; `leave` ends the server with a status; `native` is the program to use, or undefined for the page's engine. */
+  constructor({ send, leave, native, pause = PAUSE }) {
+    Object.assign(this, { sendMessage: send, leave, native, pause });
+    this.programs = new Map(); // that are open, by their addresses
+    this.isBegun = this.isEnding = false;
+    this.reading = Promise.resolve(); // the last text that is read, or was
+  }
+
+  send(message) {
+    this.sendMessage({ jsonrpc: "2.0", ...message });
+  }
+
+  /** Takes a message. One that asks has a number, and is answered; others just tell. */
+  hear(message) {
+    const { id, method, params } = message ?? {};
+    if (typeof method !== "string") return;
+    if (id === undefined) {
+      this.tried(() => this[`told_${method}`]?.(params));
+      return;
+    }
+    const answer = this.tried(() => this.answer(method, params));
+    this.send({ id, ...answer });
+  }
+
+  /** What a call gives, or the error that it throws. */
+  tried(call) {
+    try {
+      return { result: call() ?? null };
+    } catch (error) {
+      return { error: { code: error.code ?? BROKEN, message: error.message } };
+    }
+  }
+
+  answer(method, params) {
+    if (!this.isBegun && method !== "initialize") throw new Told(NOT_BEGUN, "initialize comes first");
+    if (this.isEnding) throw new Told(INVALID, "after shutdown nothing is answered");
+    if (!(`asked_${method}` in this)) throw new Told(UNKNOWN, `${method} is not known`);
+    return this[`asked_${method}`](params);
+  }
+
+  programOf({ textDocument }) {
+    const program = this.programs.get(textDocument?.uri);
+    if (program === undefined) throw new Told(WRONG_WORDS, `${textDocument?.uri} is not open`);
+    return program;
+  }
+
+  // ---- beginning and end
+
+  asked_initialize({ capabilities = {} } = {}) {
+    this.isBegun = true;
+    this.format = capabilities.textDocument?.hover?.contentFormat?.includes("markdown") ? "markdown" : "plaintext";
+    const can = { textDocumentSync: { openClose: true, change: WHOLE_TEXTS }, documentSymbolProvider: true, definitionProvider: true, hoverProvider: true };
+    return { capabilities: can, serverInfo: { name: "ghcdb" } };
+  }
+
+  asked_shutdown() {
+    this.isEnding = true;
+  }
+
+  told_exit() {
+    this.leave(this.isEnding ? 0 : 1);
+  }
+
+  // ---- texts
+
+  "told_textDocument/didOpen"({ textDocument: { uri, text, version } }) {
+    this.take(uri, text, version);
+  }
+
+  "told_textDocument/didChange"({ textDocument: { uri, version }, contentChanges }) {
+    if (this.programs.has(uri) && contentChanges.length > 0) this.take(uri, contentChanges.at(-1).text, version);
+  }
+
+  "told_textDocument/didClose"({ textDocument: { uri } }) {
+    clearTimeout(this.programs.get(uri)?.timer);
+    this.programs.delete(uri);
+    this.tellDiagnostics(uri, []);
+  }
+
+  /** Takes a text, which is read when no key comes for a while. */
+  take(uri, text, version) {
+    clearTimeout(this.programs.get(uri)?.timer);
+    const program = { text, version, clauses: clausesIn(text) };
+    program.timer = setTimeout(() => this.readLater(uri, program), this.pause);
+    this.programs.set(uri, program);
+  }
+
+  /** Reads a text after those before it, if no other one has taken its place by then. */
+  readLater(uri, program) {
+    this.reading = this.reading.then(async () => {
+      if (this.programs.get(uri) !== program) return;
+      const diagnostics = await diagnosticsOf(program.text, this.native);
+      if (this.programs.get(uri) === program) this.tellDiagnostics(uri, diagnostics, program.version);
+    }).catch((error) => this.send({ method: "window/logMessage", params: { type: 1, message: `ghcdb: ${error.message}` } }));
+  }
+
+  tellDiagnostics(uri, diagnostics, version) {
+    this.send({ method: "textDocument/publishDiagnostics", params: { uri, diagnostics, ...(version !== undefined && { version }) } });
+  }
+
+  // ---- what is asked about a text
+
+  /** The predicates in their order, each with its clauses. */
+  "asked_textDocument/documentSymbol"(given) {
+    return groupsOf(this.programOf(given).clauses).map((group) => ({
+      name: group[0].predicate, detail: `${group.length} clause${group.length === 1 ? "" : "s"}`, kind: FUNCTION,
+      range: { start: group[0].range.start, end: group.at(-1).range.end }, selectionRange: group[0].nameRange,
+      children: group.map(({ head, range, nameRange }) => ({ name: head, kind: CLAUSE, range, selectionRange: nameRange })),
+    }));
+  }
+
+  /** The clauses of the predicate that a place is about, with what stands there; undefined where it is about none. */
+  clausesAt(given) {
+    const { clauses } = this.programOf(given), about = aboutOf(clauses, given.position);
+    if (about === undefined) return undefined;
+    return { about, clauses: clauses.filter(({ predicate }) => predicate === about.predicate) };
+  }
+
+  /** Where a predicate's first clause stands, or the first place of a variable in its clause. */
+  "asked_textDocument/definition"(given) {
+    const { about, clauses = [] } = this.clausesAt(given) ?? {}, { uri } = given.textDocument;
+    if (about?.first !== undefined) return { uri, range: rangeOf(about.first) };
+    return clauses.length === 0 ? null : { uri, range: clauses[0].nameRange };
+  }
+
+  /** The clauses of a predicate, with their numbers. */
+  "asked_textDocument/hover"(given) {
+    const { about, clauses = [] } = this.clausesAt(given) ?? {}, left = clauses.length - MOST_SHOWN;
+    if (clauses.length === 0) return null;
+    const lines = [...clauses.slice(0, MOST_SHOWN).map(({ number, text }) => `% clause ${number}\n${text}`), ...(left > 0 ? [`% and ${left} more`] : [])];
+    const value = this.format === "markdown" ? `\`\`\`fghc\n${lines.join("\n")}\n\`\`\`` : lines.join("\n");
+    return { contents: { kind: this.format, value }, range: rangeOf(about.token) };
+  }
+}
+
+export { Server };

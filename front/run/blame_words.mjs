@@ -1,0 +1,162 @@
+// What a question or a verdict of `blame` means, in words for those who know the program and not yet the console.
+import BlameLines from "../protocol/blame_lines.mjs";
+import Asking from "../protocol/asking.mjs";
+import Print from "../text/print.mjs";
+import Printed from "../text/printed.mjs";
+import Reader from "../text/reader.mjs";
+import { plural, some, whyFailed, whyWaits, hasConsequences } from "./reasons.mjs";
+
+const LONGEST = 20_000; // letters of a text that is read
+const WIDEST = 200, WIDEST_VALUE = 80, WIDEST_CLAUSE = 120; // letters of a call, of a value and of a clause that are shown
+
+const WHY_FAILED = { F10: "no clause takes it (F10)", F11: "its two sides are different things (F11)", F12: "a value would hold itself (F12)", F13: "it has no value (F13)" };
+const CUT = Print.CUT;
+
+const cut = (text, most) => (text.length > most ? `${text.slice(0, most - 1)}${CUT}` : text);
+
+/** The names of variables in texts: those of the program's text, where no other variable there has the same; as a store, to print by. */
+function namesIn(run, texts) {
+  const names = new Map(), users = new Map();
+  for (const variable of texts.flatMap((text) => Printed.variablesIn(text))) {
+    const name = run.nameOf(variable);
+    if (name === undefined) continue;
+    names.set(variable, name);
+    users.set(name, (users.get(name) ?? new Set()).add(variable));
+  }
+  const nameOf = ({ variable }) => (users.get(names.get(variable))?.size === 1 ? names.get(variable) : undefined);
+  return { endOf: (term) => (nameOf(term) === undefined ? term : { variable: nameOf(term) }) };
+}
+
+/** The term that a text is; undefined where it is too long or too deep to be read. */
+function termOf(text) {
+  if (text.length > LONGEST) return undefined;
+  try {
+    return Reader.readTerm(text);
+  } catch (error) {
+    if (error instanceof RangeError || error instanceof SyntaxError) return undefined;
+    throw error;
+  }
+}
+
+/** For each variable of a call that got a value the variable and the value, by the call's text before and after. */
+function gains(before, after) {
+  const found = new Map(), left = [[before, after]];
+  while (left.length > 0) {
+    const [one, other] = left.pop();
+    if (one.variable !== undefined && one.variable !== other.variable && !found.has(one.variable)) found.set(one.variable, { variable: one, value: other });
+    if (one.arguments?.length > 0) left.push(...one.arguments.map((argument, place) => [argument, other.arguments[place]]).reverse());
+  }
+  return [...found.values()];
+}
+
+/** A call, and what it gave, in words with the names of variables: `call` and `gave`, the latter nothing where it is not told. */
+function callIn(run, { given, gave }) {
+  const texts = [given, gave].filter((text) => text !== null), terms = texts.map(termOf), [before, after] = terms;
+  if (terms.includes(undefined)) return { call: cut(given, WIDEST), gave: gave === null ? "" : cut(gave, WIDEST) };
+  const store = namesIn(run, texts), call = Print.term(before, { store, most: WIDEST });
+  if (gave === null) return { call, gave: "" };
+  const told = gains(before, after).map(({ variable, value }) => `${Print.term(variable, { store })} = ${Print.term(value, { store, most: WIDEST_VALUE })}`);
+  return { call, gave: told.length === 0 ? "nothing" : some(told).join(", ") };
+}
+
+/** How a goal stands, in words. */
+function standingWords(session, { status, waitsFor, refusal }) {
+  if (status === "failed") return `has failed: ${WHY_FAILED[refusal] ?? refusal}`;
+  return status === "waits" ? `waits for ${waitsFor.map((variable) => session.run.labelOf(variable)).join(", ")}` : "was not stepped yet";
+}
+
+/** What a call did: what it gave, and to which goal it led. */
+function callWords(session, told, goal) {
+  if (told.given === null) return goal; // memory was refused for its line
+  const { call, gave } = callIn(session.run, told), { left } = told;
+  if (left === null) return gave === "" ? call : `${call} gave ${gave}`;
+  if (left.goal === goal) return `${call} ${standingWords(session, left)}`;
+  return `${call} gave ${gave}, and led to goal ${left.goal}, which ${standingWords(session, left)}`;
+}
+
+/** What stands beside given and gave, and has to be judged with them. */
+function warnings({ asked, inTurns }) {
+  const asks = asked.length === 0 ? [] : [`${asked.length === 1 ? "step" : "steps"} ${some(asked).join(", ")} asked for goals that reach into it: judge what it gave together with these`];
+  return inTurns ? [...asks, "some of what it was given came only after something that it gave: judge the order too, as causes tells it"] : asks;
+}
+
+/** A clause with its place in the program's text. */
+function clauseWords({ clauses }, number) {
+  const { line, text } = clauses[number - 1];
+  return `clause ${number} (line ${line}): ${cut(text.replace(/\s*\n\s*/g, " "), WIDEST_CLAUSE)}`;
+}
+
+/** By which step and clause a goal was taken, where one took it. */
+function takenWords(session, goal) {
+  const step = session.kept.steps.get(session.kept.takers.get(goal));
+  return step?.clause ? [`step ${step.number} took ${goal} by ${clauseWords(session, step.clause)}`] : [];
+}
+
+/** About how many questions are left while so many calls are in question: each leaves about half of them. */
+const questionsLeft = (of) => Math.ceil(Math.log2(of + 1));
+
+/** What can be answered. */
+const hint = (predicate) => `y: right, n: wrong, u: one answer back, trust ${predicate}: always right`;
+
+/** A question in words. `answers` counts those that stand on the line. */
+function questionWords(session, told, answers) {
+  const { goal, of } = told.ask, count = answers + questionsLeft(of);
+  const question = `question ${answers + 1} of about ${count}: ${callWords(session, told, goal)}. Is that right?`;
+  return [question, ...warnings(told), ...takenWords(session, goal), ...(answers === 0 && told.given !== null ? [hint(Printed.predicateOf(told.given))] : [])];
+}
+
+/** The other clauses by which the step at fault could have gone, or else how many other steps could, as `explain` of the same thing tells it. */
+async function otherClauses(session, subject, number) {
+  const { others } = Asking.sliceIn(await session.ask(`explain ${subject}`)), other = others.find(([step]) => step === number);
+  if (other === undefined) return others.length === 0 ? [] : [`or a choice is: explain ${subject} tells ${plural(others.length, "step")} that could have gone by another clause`];
+  const [, [first, ...more], goal] = other;
+  return [`another clause than step ${number} took: roll ${number}, step ${goal} ${first}${more.length > 0 ? ` (or ${more.join(", ")})` : ""}`];
+}
+
+const foundBy = (answers) => (answers === 0 ? "found without an answer" : `found by ${plural(answers, "answer")}`);
+
+/** The clause of a step is at fault: with it what a call gave is wrong, though all is right that its goals gave. */
+async function clauseAtFault(session, told, subject, answers) {
+  const { step, goal, clause } = told.fault, isMade = told.made.some(({ how }) => how === "gave");
+  const inner = isMade ? ", though all that its goals gave is right" : "";
+  return [`${foundBy(answers)}: ${callWords(session, told, goal)}, which is wrong${inner}`, ...warnings(told),
+    `so the fault is in ${clauseWords(session, clause)}`, ...await otherClauses(session, subject, step), ...await hasConsequences(session, [step])];
+}
+
+/** No clause answers a goal as it should be. */
+async function callAtFault(session, told, answers) {
+  const { left, given, fault: { goal } } = told, { call } = given === null ? { call: "its call" } : callIn(session.run, told);
+  const why = left?.status === "failed" ? await whyFailed(session, goal, left.refusal) : left?.status === "waits" ? await whyWaits(session, goal) : [];
+  const how = left === null ? "" : `, and it ${standingWords(session, left)}`;
+  const should = left?.status === "waits" ? `${goal}, ${call}, should not have to wait` : `a clause should answer ${goal}, ${call}`;
+  return [`${foundBy(answers)}: ${should}${how}`, ...some(why)];
+}
+
+/** No clause is at fault. */
+async function noClauseAtFault(session, told, subject, answers) {
+  const [value] = await session.ask(`show ${subject}`);
+  if (/ = _\d+_\d+$/.test(value)) return [`${subject} is unbound: no step gave it a value. stuck tells who waits for whom, blame G asks about a goal G that waits`];
+  if (!told.made.some(({ how }) => how === "gave")) return [`no call gave anything to ${subject}: what bound it stands in the query`];
+  return [`${foundBy(answers)}: all that the query's goals gave is right. So the query asks for something else, or ${subject} is right`];
+}
+
+/** What a verdict means. `subject` is what was asked about. */
+async function verdictWords(session, told, subject, answers) {
+  if (told.fault.step !== null) return clauseAtFault(session, told, subject, answers);
+  return told.fault.goal !== null ? callAtFault(session, told, answers) : noClauseAtFault(session, told, subject, answers);
+}
+
+/** What a reply to `blame` means: the question, or the verdict. */
+async function afterBlame(session, line, reply) {
+  const told = BlameLines.read(reply), answers = new Set(BlameLines.answersOn(line).map(({ goal }) => goal)).size, [, subject] = line.trim().split(/ +/);
+  if (told.ask !== null) return questionWords(session, told, answers);
+  return told.fault === null ? [] : verdictWords(session, told, subject, answers);
+}
+
+/** After `part`: the names of the variables, and the clause that took the call. */
+function afterPart(session, goal, reply) {
+  const told = BlameLines.read(reply), made = told.taken === null ? [] : takenWords(session, goal);
+  return [callWords(session, told.gave === null && told.left === null ? { ...told, left: told.standing } : told, goal), ...warnings(told), ...made];
+}
+
+export { afterBlame, afterPart, callWords };

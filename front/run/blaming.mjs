@@ -1,0 +1,98 @@
+// The talk about who is to blame: which question is open, what an answer to it says, and which predicates are trusted.
+import BlameLines from "../protocol/blame_lines.mjs";
+import Printed from "../text/printed.mjs";
+import Replies from "../protocol/replies.mjs";
+
+const ANSWERS = new Map(Object.entries({ y: true, yes: true, right: true, n: false, no: false, wrong: false }));
+const BACK = "u";
+
+class Blaming {
+  constructor(session) {
+    this.session = session;
+    this.trusted = new Set(); // predicates, as `part/4`
+    this.byTrust = new Set(); // goals that were taken for right, for their predicate is trusted
+    this.line = undefined; // of `blame`, that was answered last
+    this.goal = undefined; // about which it asks; none where it has found who is to blame
+  }
+
+  /** Does what was told last still hold? A line that changes the session ends the talk. */
+  get isOpen() {
+    return this.line !== undefined && this.changes === this.session.kept.changes;
+  }
+
+  /** Notes what a line of `blame` was answered by. */
+  note(line, reply) {
+    if (Replies.isRefused(reply)) return;
+    const told = BlameLines.read(reply);
+    this.line = line;
+    this.changes = this.session.kept.changes;
+    this.goal = told.ask?.goal;
+    this.predicate = told.given === null ? undefined : Printed.predicateOf(told.given);
+  }
+
+  /**
+   * Is a word an answer, or does it take one back? A variable of the query is none, as `Y` may be. At the end, too, it is no command: nobody
+   * who answers once too often takes a step.
+   */
+  isAnswer(word) {
+    const small = word.toLowerCase();
+    return this.isOpen && !this.session.variables.includes(word) && (small === BACK || ANSWERS.has(small));
+  }
+
+  /** The line with the answer that a word gives; undefined where nothing is asked, or there is none to take back. */
+  lineWith(word) {
+    if (word.toLowerCase() === BACK) return this.lineBefore();
+    if (this.goal === undefined) return undefined;
+    this.byTrust.delete(this.goal);
+    return BlameLines.answered(this.line, this.goal, ANSWERS.get(word.toLowerCase()));
+  }
+
+  /** Why there is no such line. */
+  whyNoLine(word) {
+    return word.toLowerCase() === BACK ? "no answer was given yet; undo takes back a step" : "nothing is asked any more; u takes the last answer back, step takes a step";
+  }
+
+  /** The line without the last answer that was given by hand, and without those that trust gave after it; undefined where none was. */
+  lineBefore() {
+    const answers = BlameLines.answersOn(this.line), last = answers.map(({ goal }) => this.byTrust.has(goal)).lastIndexOf(false);
+    if (last < 0) return undefined;
+    return answers.slice(last).reduce((line) => BlameLines.unanswered(line), this.line);
+  }
+
+  /** Is the question that is open about a predicate that is trusted? */
+  get isTrusted() {
+    return this.isOpen && this.goal !== undefined && this.trusted.has(this.predicate);
+  }
+
+  /**
+   * Lets calls of the predicate of a word be taken for right, or no longer; it may be named without the number of its arguments. Gives lines
+   * that tell so; without a word they tell which are trusted.
+   */
+  trustLines(word) {
+    const { trusted, session: { predicates } } = this, named = predicates.filter((other) => other === word || other.split("/")[0] === word);
+    if (word === undefined) return [trusted.size === 0 ? "no predicate is trusted" : `trusted: ${[...trusted].join(", ")}`];
+    if (named.length === 0) return [`no clause of ${word}; the program's predicates: ${predicates.join(", ")}`];
+    for (const predicate of named) if (!trusted.delete(predicate)) trusted.add(predicate);
+    return named.map((predicate) => (trusted.has(predicate) ? `${predicate} is trusted: blame takes its calls for right` : `${predicate} is trusted no longer`));
+  }
+
+  /**
+   * Asks a line of `blame`, and answers itself what is asked about calls that are trusted, until `isEnded` says so. Gives the line that was
+   * asked last, its reply, and notes on what was taken for right.
+   */
+  async ask(given, isEnded = () => false) {
+    const goals = [];
+    let line = given, reply = await this.session.ask(line);
+    this.note(line, reply);
+    while (BlameLines.isQuestion(reply) && this.trusted.has(this.predicate) && !isEnded()) {
+      goals.push(this.goal);
+      this.byTrust.add(this.goal);
+      line = BlameLines.answered(line, this.goal, true);
+      reply = await this.session.ask(line);
+      this.note(line, reply);
+    }
+    return { line, reply, notes: goals.length === 0 ? [] : [`right, for they are trusted: ${goals.join(", ")}`] };
+  }
+}
+
+export { Blaming };
