@@ -36,7 +36,7 @@ const Canvas = (() => {
     canvas.view = drawn.view;
     if (Shown.chosen && !isThere(Shown.chosen)) Shown.chosen = null;
     if (isScrolled) stayInSight();
-    if (Shown.chosen || Shown.slice || canvas.way.size > 0 || Overview.hits.length > 0) showChosen();
+    if (Shown.chosen || Shown.slice || Shown.asked || canvas.way.size > 0 || Overview.hits.length > 0) showChosen();
   }
 
   const isGoalThere = (name) => Overview.run().goals.some((goal) => goal.name === name);
@@ -78,6 +78,19 @@ const Canvas = (() => {
     }
     for (const goal of svg.querySelectorAll(".goal")) goal.classList.toggle("chosen", Boolean(chosen) && goal.dataset.goal === chosen.goal);
     markEdges(causes, effects);
+    markAsked(svg, graph);
+  }
+
+  /** Lights the part of the call that is asked about, and dims what was told right. */
+  function markAsked(svg, graph) {
+    const { asked } = Shown, has = (flags, number) => asked !== null && flags[graph.indexOf(number)] === 1;
+    svg.classList.toggle("asking", asked !== null);
+    for (const mark of marks()) {
+      const number = Number(mark.dataset.step), isRight = has(asked?.isRight, number);
+      mark.classList.toggle("right", isRight);
+      mark.classList.toggle("asked", !isRight && has(asked?.isIn, number));
+    }
+    for (const goal of svg.querySelectorAll(".goal")) goal.classList.toggle("asked", asked !== null && goal.dataset.goal === asked.goal);
   }
 
   /** Rings the steps that a roll would take back. */
@@ -103,11 +116,19 @@ const Canvas = (() => {
     Overview.draw();
   }
 
+  /** Lights the part of a call, also in the strip. */
+  function showAsked(asked) {
+    Shown.asked = asked;
+    showChosen();
+    Overview.draw();
+  }
+
   /** Forgets what was lit beside a chosen step. */
   function forget() {
     canvas.way = new Set();
     canvas.others = new Set();
     Shown.slice = null;
+    Shown.asked = null;
   }
 
   /** The clause by which a chosen step went. */
@@ -225,7 +246,7 @@ const Canvas = (() => {
     return true;
   }
 
-  return Object.assign(canvas, { draw, choose, forget, markWay, showSlice, elementOf, showThere, isOwnScroll, scrollTo, ring, stayInSight, onKey, addTitle });
+  return Object.assign(canvas, { draw, choose, forget, markWay, showSlice, showAsked, elementOf, showThere, isOwnScroll, scrollTo, ring, stayInSight, onKey, addTitle });
 })();
 
 export default Canvas;

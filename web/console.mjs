@@ -1,25 +1,12 @@
 // What web/console does; how it is called stands there.
 import fs from "node:fs";
-import path from "node:path";
-import { fileURLToPath } from "node:url";
 import Heap from "../front/session/heap.mjs";
 import Host from "../front/session/host.mjs";
+import { moduleOfPage } from "../front/session/engine_of_page.mjs";
 
-const HERE = path.dirname(fileURLToPath(import.meta.url));
-
-const PAGE = path.join(HERE, "ghcdb.html");
 const BROKEN = 70;
 const BAD_DESCRIPTOR = 9, CANNOT_SEEK = 29, INPUT_OUTPUT = 5; // errors by their numbers on Linux
 const MOST_AT_ONCE = 0x7ffff000; // bytes that the system reads or writes by one call
-
-// The module that `web/build` put into the page.
-function moduleOfPage() {
-  const page = fs.readFileSync(PAGE, "latin1");
-  const before = 'const MODULE = "', start = page.indexOf(before);
-  if (start < 0) throw new Error(`${PAGE} carries no program`);
-  const from = start + before.length;
-  return new WebAssembly.Module(Buffer.from(page.slice(from, page.indexOf('"', from)), "base64"));
-}
 
 // The words of the command line as bytes: Node gives texts, in which bytes that are no UTF-8 are lost.
 function wordsGiven() {
@@ -81,7 +68,7 @@ class SystemHost extends Host {
 
 // Runs the program on words, and gives its exit status.
 function run(words) {
-  const compiled = moduleOfPage();
+  const compiled = new WebAssembly.Module(moduleOfPage());
   const host = new SystemHost([Buffer.from("ghcdb"), ...words], process.env.GHCDB_CLOSED ?? "");
   const asked = WebAssembly.Module.imports(compiled).map(({ name }) => name);
   const { exports } = new WebAssembly.Instance(compiled, { host: host.imports(asked) });

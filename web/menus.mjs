@@ -1,4 +1,5 @@
 // The small windows that open at a step, a goal, a variable, a step that was taken back, or to ask for goals: what can be done there.
+import Asking from "../front/protocol/asking.mjs";
 import Replies from "../front/protocol/replies.mjs";
 import Stuck from "../front/run/stuck.mjs";
 import Terms from "../front/run/terms.mjs";
@@ -163,6 +164,11 @@ const Menus = (() => {
     return [title(`Goal ${name}`, `was ${status} then`), code(text), words];
   }
 
+  /** Begins the questions that lead to the clause by which a value, or how a goal stands, is wrong. */
+  const blameButton = (name) => lineButton("Find the wrong clause", `blame ${name}`);
+
+  const isBound = (name) => Talk.run.graph.store.has(Asking.queryVariables(Talk.given.query).get(name) ?? name);
+
   /** The menu of a goal that is there. */
   function ofGoal(name) {
     const goal = Overview.run().goals.find((other) => other.name === name), { until, earlier } = Overview;
@@ -177,13 +183,13 @@ const Menus = (() => {
     const holders = Stuck.edgesOf(Talk.run.goals, [goal]);
     if (holders.length > 0) parts.push(make("p", null, ...holders.slice(0, MOST_HOLDERS).flatMap((edge, index) => [index > 0 ? ", " : "", goToGoal(edge.to), ` has ${edge.variable}`]), holders.length > MOST_HOLDERS ? `, and ${holders.length - MOST_HOLDERS} more.` : "."));
     const isExplained = goal.status !== "ready";
-    const rests = isExplained ? [lineButton("Explain", `explain ${name}`), make("button", { "data-keep": name, title: "Takes back all steps on which this goal does not rest; asks first" }, "Keep that alone …")] : [];
+    const rests = isExplained ? [lineButton("Explain", `explain ${name}`), blameButton(name), make("button", { "data-keep": name, title: "Takes back all steps on which this goal does not rest; asks first" }, "Keep that alone …")] : [];
     if (isCall || isExplained) parts.push(buttons(...rests, isCall ? spyButton(goal) : null));
     return parts;
   }
 
   /** The menu of a variable in the store. */
-  const ofVariable = (name) => [title(name, "a variable"), buttons(lineButton("Show", `show ${name}`), lineButton("Who bound it?", `who ${name}`)),
+  const ofVariable = (name) => [title(name, "a variable"), buttons(lineButton("Show", `show ${name}`), lineButton("Who bound it?", `who ${name}`), isBound(name) ? blameButton(name) : null),
     buttons(lineButton("What it rests on", `explain ${name}`),
       make("button", { "data-keep": name, title: "Takes back all steps on which this value does not rest; asks first" }, "Keep that alone …"))];
 
@@ -272,7 +278,7 @@ const Menus = (() => {
     all[(at + (event.shiftKey ? all.length - 1 : 1)) % all.length].focus();
   }
 
-  return { open, openWith, close, onTab };
+  return { open, openWith, close, onTab, goneWith };
 })();
 
 export default Menus;

@@ -185,14 +185,15 @@ const Overview = (() => {
   }
 
   /** Puts all dots into the strip, and yields from time to time. */
-  function* drawDots(dots, ratio, { chosen, causes, effects }) {
+  function* drawDots(dots, ratio, { chosen, causes, effects, isRight }) {
     const { graph, lanes } = run(), theme = Picture.THEMES[Shown.theme], places = placesIn(dots.wide, dots.high, ratio, Math.max(1, lanes.lanes.length)), steps = count();
-    const { leaf, byClause } = paints(theme, causes === null ? 0.9 : 0.25), lit = pixelOf(theme.read, theme.ground, 1), after = pixelOf(theme.woke, theme.ground, 1);
+    const { leaf, byClause } = paints(theme, causes === null ? 0.9 : isRight === null ? 0.25 : 0.5), [lit, after, faint] = [[theme.read, 1], [theme.woke, 1], [theme.leaf, 0.15]].map(([colour, part]) => pixelOf(colour, theme.ground, part));
     dots.pixels.fill(pixelOf(theme.ground, theme.ground, 1));
     for (let index = 0; index < steps; index++) {
       if (index % DOTS === DOTS - 1) yield index;
       const x = places.x(index), y = places.y(lanes.ofStep[index].index), isReduction = graph.kinds.at(index) === 0;
-      if (causes !== null && causes.isIn[index] === 1) dots.put(x, y, places.dot + 1, places.tall + 1, lit, LEVELS.lit);
+      if (isRight !== null && isRight[index] === 1) dots.put(x, y, places.dot, places.tall, faint, LEVELS.leaf);
+      else if (causes !== null && causes.isIn[index] === 1) dots.put(x, y, places.dot + 1, places.tall + 1, lit, LEVELS.lit);
       else if (effects !== null && effects.isIn[index] === 1) dots.put(x, y, places.dot + 1, places.tall + 1, after, LEVELS.lit);
       else dots.put(x, y, places.dot, places.tall, isReduction ? byClause[graph.clauses.at(index)] || leaf : leaf, isReduction ? LEVELS.reduction : LEVELS.leaf);
     }
@@ -231,11 +232,11 @@ const Overview = (() => {
   function litNow() {
     const number = Shown.chosen && Shown.chosen.step, index = number ? run().graph.indexOf(number) : -1;
     if (index < 0 || index >= count()) {
-      const { slice } = Shown;
-      return { chosen: null, causes: slice, effects: null, words: slice === null ? "drag or click: goes there" : `${slice.count} steps are lit (blue)` };
+      const { slice, asked } = Shown, lit = slice ?? asked, isRight = slice === null && asked !== null ? asked.isRight : null;
+      return { chosen: null, causes: lit, effects: null, isRight, words: lit === null ? "drag or click: goes there" : `${lit.count} steps are lit (blue)` };
     }
     const { causes, effects } = reachOf(number);
-    return { chosen: index, causes, effects, words: `step ${number}: ${causes.count - 1} causes (blue), ${effects.count - 1} consequences (orange)` };
+    return { chosen: index, causes, effects, isRight: null, words: `step ${number}: ${causes.count - 1} causes (blue), ${effects.count - 1} consequences (orange)` };
   }
 
   const layer = document.createElement("canvas");

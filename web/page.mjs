@@ -7,6 +7,7 @@ import Terms from "../front/run/terms.mjs";
 import Causes from "../front/text/causes.mjs";
 import Answers from "./answers.mjs";
 import Beside from "./beside.mjs";
+import Blaming from "./blaming.mjs";
 import Canvas from "./canvas.mjs";
 import Deeds from "./deeds.mjs";
 import Elements from "./elements.mjs";
@@ -34,7 +35,8 @@ const Page = (() => {
   const HELP = [
     ["Picture", "A line is a process, and time goes right. `●` reduces a goal by a clause, `◆` binds a variable, `■` computes, a flag is an input. A grey line leads from a step to a goal that it made, a blue arrow to a step that read what it bound; an orange dashed one says that this woke a goal that waited. A green ring is a goal that is ready, a dashed one waits, and its dotted arc points at a goal that has its variable. A hexagon is an ask, which no goal was there for; a line of dashes and dots leads to it from a step that made a variable that it names."],
     ["Click", "a step, a goal, a variable, or something that was taken back, and choose. Each click types a line at the console, where you see what it is called. `ask …`, beside the word Goals, adds goals while the program runs: write them as a query has them."],
-    ["Keys", "`s` steps the first goal that is ready, `r` runs, `u` takes back the last step, `a` asks for more goals, `t` tidies the order, `d` changes between recorded order and causal depth, `f` finds steps, `/` goes to the console, `Escape` closes, and `Ctrl` `Enter` in the program starts it. In the picture `←` `→` go from step to step, `↑` `↓` to a cause or an effect, `Enter` opens what can be done."],
+    ["Keys", "`s` steps the first goal that is ready, `r` runs, `u` takes back the last step, `a` asks for more goals, `t` tidies the order, `d` changes between recorded order and causal depth, `f` finds steps, `y` and `n` answer a question, `b` takes the last answer back, `/` goes to the console, `Escape` closes, and `Ctrl` `Enter` in the program starts it. In the picture `←` `→` go from step to step, `↑` `↓` to a cause or an effect, `Enter` opens what can be done."],
+    ["Why?", "Click a value that is wrong, or a goal that has failed or waits, then `Find the wrong clause`. You are asked about a few calls: was what each gave right, for what it was given? Then the clause that is wrong is marked, and its step can be taken back."],
     ["Kept", "This browser keeps the last five sessions of your own programs, and what you typed since Start: after a reload the page offers them. `Link` puts program, query and lines into the address. Nothing leaves this browser by itself."],
     ["Texts", "`Save` keeps program, query and all lines in a text; `Open` plays it again. It opens histories (as `save` writes them) and programs, too. All that is described in docs/LANGUAGE.md and docs/FORMATS.md."],
   ];
@@ -148,7 +150,7 @@ const Page = (() => {
 
   /** What shows a change, in its order. */
   const parts = () => [
-    Overview.follow, Beside.follow, redraw, showNewSteps, Looking.follow, ...Panels.PARTS, Guide.onChange, tellCause,
+    Overview.follow, Beside.follow, redraw, showNewSteps, Looking.follow, ...Panels.PARTS, Blaming.show, Guide.onChange, tellCause,
     Keeping.keep,
   ];
 
@@ -241,6 +243,7 @@ const Page = (() => {
     play: () => Looking.play(), "show-all-steps": () => Looking.showNow(),
     wrap: () => Program.setWrap(!Program.isWrapped()), again: () => Talk.again(), "close-answer": () => Answers.hide(),
     "go-without": () => Keeping.goWithout(),
+    "blame-light": () => Blaming.lightAgain(), "blame-close": () => Blaming.close(), "blame-alone": () => Blaming.tryAlone(), "blame-return": () => Blaming.goBack(),
     forget: () => Keeping.forget(), "make-link": () => Keeping.makeLink(), "copy-link": () => Keeping.copyLink(),
   };
 
@@ -323,6 +326,7 @@ const Page = (() => {
 
   const KEYS = {
     s: () => find("step").click(), r: () => find("leap").click(), u: () => find("undo-last").click(), t: () => find("tidy").click(),
+    y: () => Blaming.press("right"), n: () => Blaming.press("wrong"), b: () => Blaming.press("back"),
     f: () => { showTab("run"); find("search").focus(); },
     a: () => { showTab("run"); find("ask-more").click(); }, d: () => setOrder(Shown.by === "record" ? "depth" : "record"), "/": () => { showTab("console"); find("line").focus(); }, "?": showHelp,
   };

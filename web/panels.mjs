@@ -121,7 +121,7 @@ const Panels = (() => {
   function tellFailure(goal) {
     const { words, binders } = Explain.failureOf(Talk.run, goal);
     const bound = binders.flatMap(({ variable, term, step }) => ["Step ", goTo(step), " bound ", make("code", null, `${variable} = ${Terms.cut(term, 60)}`), ". "]);
-    return [`Goal ${goal.name} has failed: `, ...withCode(words), ". ", ...bound, "Take back a step that it read, and it may be ready again."];
+    return [`Goal ${goal.name} has failed: `, ...withCode(words), ". ", ...bound, "Take back a step that it read, and it may be ready again. ", lineButton("Find the wrong clause", `blame ${goal.name}`, { class: "small" })];
   }
 
   /** Where no goal is ready: who waits for what, and who could help. */

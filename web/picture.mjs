@@ -54,6 +54,11 @@ const Picture = (() => {
 .run .chosen .halo{stroke:${theme.ink};stroke-width:3}
 .run .way .halo{stroke:${theme.held};stroke-width:3;stroke-dasharray:3 2}
 .run.looking .way{opacity:1}
+.run.asking .mark{opacity:.5}
+.run.asking .edge,.run.asking .fork{opacity:.35}
+.run.asking .right{opacity:.13}
+.run.asking .asked,.run.asking .chosen{opacity:1}
+.run .asked .halo{stroke:${theme.read};stroke-width:2.5}
 .run .alone .halo{stroke:${theme.named};stroke-width:2.5;stroke-dasharray:4 2}
 .run .or .halo{stroke:${theme.woke};stroke-width:3;stroke-dasharray:1.5 3}
 .run .going .halo{stroke:${theme.failed};stroke-width:3.5}

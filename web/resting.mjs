@@ -5,6 +5,8 @@ import Answers from "./answers.mjs";
 import Canvas from "./canvas.mjs";
 import Deeds from "./deeds.mjs";
 import Elements from "./elements.mjs";
+import GoalRows from "./goal_rows.mjs";
+import Shown from "./shown.mjs";
 import Talk from "./talk.mjs";
 
 const Resting = (() => {
@@ -12,14 +14,15 @@ const Resting = (() => {
   const MOST_LINKS = 12;
   const plural = (count, word) => `${count} ${word}${count === 1 ? "" : "s"}`;
 
-  /** Lights the steps of a reply to `explain`, and tells what stands in front of them, on which clauses it rests and where another one could be chosen. */
+  /** Lights the steps of a reply to `explain`, and tells what stands in front of them, on which clauses it rests, where another one could be chosen, and their goals as a tree. */
   function tell(name, slice) {
     const { head, numbers, others, last } = slice, rests = Asking.clausesTold(slice, Talk.run.clauses.length);
     Canvas.showSlice(numbers, others.map(([step]) => step));
     const choices = others.slice(0, MOST_LINKS).flatMap(([step, clauses], index) => [index > 0 ? "; " : "", "step ", goTo(step), " by ",
       ...clauses.flatMap((clause, at) => [at > 0 ? ", " : "", make("button", { class: "link", "data-try": `${step} ${clause}`, title: `keeps this run beside; roll ${step}, then the goal by clause ${clause}` }, String(clause))])]);
     Answers.put(false, make("code", null, `explain ${name}`), " ", ...head.slice(0, MOST_LINKS).flatMap((line, index) => [index > 0 ? ", " : "", ...Elements.linkedLine(Terms.cut(line, 160))]), `, ${last}. `, rests === undefined ? "" : `It ${rests}. `,
-      ...(choices.length > 0 ? ["Another clause could be chosen (ringed): ", ...choices, others.length > MOST_LINKS ? ` and ${others.length - MOST_LINKS} more.` : "."] : []));
+      ...(choices.length > 0 ? ["Another clause could be chosen (ringed): ", ...choices, others.length > MOST_LINKS ? ` and ${others.length - MOST_LINKS} more. ` : ". "] : []),
+      ...(numbers.length > 0 ? [Elements.lineButton("Find the wrong clause", `blame ${name}`, { class: "small" }), GoalRows.of({ numbers, isIn: Shown.slice.isIn }, withGoalText)] : []));
   }
 
   /** Rings all that would go if a value or a goal were to stand alone, and asks once more. */

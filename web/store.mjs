@@ -11,7 +11,7 @@ import Overview from "./overview.mjs";
 import Talk from "./talk.mjs";
 
 const Store = (() => {
-  const { find, make, goTo, fillRows } = Elements;
+  const { find, make, lineButton, goTo, fillRows } = Elements;
   const MOST_ROWS = 100, MOST_LOOKED_AT = 2000, MOST_PARTS = 40, MOST_DEEP = 6, LONGEST_ATOM = 60;
   const { isVariable, argumentsOf } = Explain;
 
@@ -71,6 +71,22 @@ const Store = (() => {
       part(variable, [], Terms.cut(term, 160)), make("span", { class: "dim" }, "  by ", goTo(by)));
   }
 
+  /** Where a part of a value stands, for a question about it: the variable nearest above it, where that is not the value's own. */
+  function placeOf(root, path) {
+    let place = "", part = endOf(root);
+    for (const at of path) {
+      const term = argumentsOf(part)[at];
+      if (isVariable(term)) place = ` ${term}`;
+      part = endOf(term);
+    }
+    return place;
+  }
+
+  const nameOf = (root) => ([...Asking.queryVariables(Talk.given.query)].find(([, variable]) => variable === root) ?? [root])[0];
+
+  /** Begins the questions that lead to the clause by which a part of a value is wrong. */
+  const blameButton = (root, path) => lineButton("Find the wrong clause", `blame ${nameOf(root)}${placeOf(root, path)}`, { class: "small" });
+
   const unmark = () => { for (const one of find("store").querySelectorAll(".part.told")) one.classList.remove("told"); };
 
   function show() {
@@ -99,7 +115,7 @@ const Store = (() => {
     Canvas.markWay(way);
     const shown = way.slice(-8), before = way.length > shown.length ? `${way.length - shown.length} steps, and ` : "";
     Answers.put(false, words, isVariable(term) ? " is where step " : " was given by step ", goTo(by), isVariable(term) ? " left it open" : "",
-      ...(shown.length > 0 ? [`. On the way to it: ${before}step `, ...shown.flatMap((step, index) => [index > 0 ? ", " : "", goTo(step)])] : []), ". Its causes are lit.");
+      ...(shown.length > 0 ? [`. On the way to it: ${before}step `, ...shown.flatMap((step, index) => [index > 0 ? ", " : "", goTo(step)])] : []), ". Its causes are lit. ", blameButton(root, path));
   }
 
   return { show, explain };

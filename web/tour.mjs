@@ -25,21 +25,15 @@ const Tour = (() => {
       click("step 1.3", "Both prices are there, and the sum has become ready. Click 1.3, then `Step`."),
       click("show T", "In the store, click `T`, then `Show`."),
     ] },
-    { name: "Which step was it?", session: "first", stations: [
-      click("who T", "T is 150, and should be 126. Who bound it? Click `T` again, then `Who bound it?`"),
-      click("why 6", "Step 6 did. In the picture, click step 6: its causes light up. Then `Why?`"),
-      click("show _1_1", "Step 6 read two variables. In the store, click `_1_1`, then `Show`."),
-      click("show _1_2", "Twelve pieces for 120? And the other one: click `_1_2`, then `Show`."),
-      click("why 3", "The second price is right: 3 times 10. The first one is wrong: 12 pieces cost 96. Step 3 bound it. Click step 3, then `Why?`"),
-      click("records", "Step 3 only computed what step 2 had asked for. Click `records`, beside the word Step, to see what each step did."),
+    { name: "Which clause was it?", session: "first", stations: [
+      click("blame T", "T is 150, and should be 126. Which clause is to blame? In the store, click `T`, then `Find the wrong clause`: you are asked about a call, what it was given and what it gave."),
+      click("blame T -0.1", "Is 150 right for 12 and 3 pieces? No: click `Wrong`. In the console you see how that is typed: `-0.1` says that what goal 0.1 gave is wrong."),
+      click("blame T -0.1 -1.1", "Twelve pieces for 120? They cost 96: click `Wrong`."),
     ] },
     { name: "Take it back", session: "first", stations: [
-      type("undo 2", "Step 2 took 1.1 by clause 2, the clause for few pieces, though clause 3 says yes too. That was the wrong step. Type `undo 2` in the console."),
-      type("undo 3", "Refused: step 3 depends on it. All consequences have to go first. Type `undo 3`."),
-      click("undo 6", "Step 6 used the wrong price, so it goes first. Click step 6, then `Undo`."),
-      click("undo 3", "Nothing depends on step 3 any more. Click step 3, then `Undo`."),
-      click("undo 2", "And now step 2: click it, then `Undo`."),
-      click("records", "The steps 4 and 5 came later than step 2, and they stay: they do not depend on it. Click `records`."),
+      type("undo 2", "Found: step 2 took 1.1 by clause 2, the clause for few pieces, though clause 3 says yes too. Take it back: type `undo 2`."),
+      click("roll 2", "Refused: step 3 depends on it. Click step 2, then `Roll back`: what will be taken back is ringed before anything is done. Then take it back."),
+      click("records", "The steps 4 and 5 came later than step 2, and they stay: they do not depend on it. Click `records`, beside the word Step."),
       click("goals", "What is there to do now? Click `goals`, beside that word."),
     ] },
     { name: "Another clause", session: "first", stations: [
@@ -47,17 +41,12 @@ const Tour = (() => {
       click("step 7.1", "Click 7.1, then `Step`."),
       click("step 1.3", "Click 1.3, then `Step`."),
       click("show T", "In the store, click `T`, then `Show`."),
-      click("why 9", "126, as it should be. Click step 9, then `Why?`: step 5 was used as it stood."),
-      click("shelf", "What was taken back is not lost. Click `shelf`, beside Taken back: each of these could be redone."),
+      click("shelf", "126, as it should be; step 5 was used as it stood. What was taken back is not lost: click `shelf`, beside Taken back. Each of these could be redone."),
     ] },
-    { name: "The value is wrong: explain it", session: "again", stations: [
-      type("explain _1_1", "The first run stands here once more. One line tells on which steps a value rests: type `explain _1_1`. Behind step 2 stands `or 3`: another clause could have been chosen there."),
-      click("roll 2", "Click step 2, then `Roll back`: what will be taken back is ringed before anything is done. Then take it back."),
-      type("explain 1.3", "Step 2 is gone with all that depended on it, and nothing else. Why does the sum wait? Type `explain 1.3`."),
-      click("step 1.1 3", "The goal 1.1 holds what it waits for. Click 1.1, and choose clause 3."),
-      click("step 7.1", "Click 7.1, then `Step`."),
-      click("step 1.3", "Click 1.3, then `Step`."),
-      click("show T", "In the store, click `T`, then `Show`."),
+    { name: "Where does a value come from?", session: "again", stations: [
+      click("who T", "The first run stands here once more. Who bound T? In the store, click `T`, then `Who bound it?`"),
+      click("why 6", "Step 6 did. In the picture, click step 6: its causes light up. Then `Why?`"),
+      type("explain _1_1", "It read two prices. One line tells on which steps a value rests: type `explain _1_1`. Behind step 2 stands `or 3`: another clause could have been chosen there."),
     ] },
     { name: "Try another continuation", session: "asked", stations: [
       click("roll 2", "The first run once more. What would the bill be if twelve pieces cost 7 each? No clause says so. Take step 2 back with what came of it: click it, then `Roll back`."),
@@ -90,11 +79,11 @@ const Tour = (() => {
 
   /** What one clicks so that a line can be clicked: a part of the picture or of the store, as a selector. */
   function opensAt(line) {
-    const [word, name] = line.split(" ");
+    const [word, name, ...answers] = line.split(" ");
     if (word === "ask") return "#ask-more";
     if (word === "step") return `#canvas [data-goal="${name}"]`;
     if (["undo", "roll", "why"].includes(word)) return `#canvas [data-step="${name}"]`;
-    return word === "show" || word === "who" ? `[data-variable="${name}"]` : `[data-line="${line}"]`;
+    return ["show", "who", "blame"].includes(word) && answers.length === 0 ? `[data-variable="${name}"]` : `[data-line="${line}"]`;
   }
 
   return { QUERY, SESSIONS, STATIONS, END, linesBefore, beginsSession, opensAt };

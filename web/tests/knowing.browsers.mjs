@@ -2,6 +2,7 @@
 // a value or a goal is kept alone by one line; and the page asks the console for no more than it needs.
 import assert from "node:assert/strict";
 import { inBrowsers, open, pageWith } from "./lib/in_browsers.mjs";
+import { begin } from "./lib/using.mjs";
 
 const text = (id) => `document.getElementById(${JSON.stringify(id)}).textContent`;
 const numbers = (selector, name = "step") => `[...document.querySelectorAll(${JSON.stringify(selector)})].map((one) => Number(one.dataset.${name}))`;
@@ -30,6 +31,27 @@ inBrowsers("what a value rests on is lit, the other choice is ringed, and a clic
   await page.click('#answer [data-try="2 3"]');
   assert.deepEqual((await page.value(lines)).slice(-2), ["roll 2", "step 1.1 3"]);
   assert.deepEqual(await page.value(numbers("#beside .mark", "kept")), [1, 2, 3, 4, 5, 6]);
+});
+
+inBrowsers("an explanation has its goals as a tree, with names and the values of then, a screen of them and the others on a click", async (page) => {
+  const rows = '[...document.querySelectorAll("#answer .goal-tree li")].map((one) => one.textContent)';
+  await open(page, "#example=bill&query=bill(12,3,T)&lines=leap;explain _1_1", [1440, 900]);
+  assert.deepEqual(await page.value(rows), ["step 1: bill(12,3,T) by 1", "step 2: price(12,P₁) by 2", "step 3: P₁ := 12 * 10 is"]);
+  await open(page, "#example=quicksort&query=quicksort([5,2,8,1,9,3],R)&lines=leap;explain R", [1440, 900]);
+  assert.equal((await page.value(rows)).length, 12);
+  assert.deepEqual((await page.value(rows)).slice(3, 6), ["step 4: Small₂ = [2|Small1₃] eq", "step 5: part([8,1,9,3],5,Small1₃,Great₂) by 6 and 10 below", "step 16: sort([2,1,3],R,[5|Mid₂]) by 3"]);
+  assert.match(await page.value(text("answer")), /12 of 55 steps\. Show all×$/);
+  await page.click("#explain-all");
+  assert.equal((await page.value(rows)).length, 55);
+  await page.click('#answer .goal-tree [data-goto="16"]');
+  assert.deepEqual(await page.value("Canvas.chosen"), { step: 16 });
+  await page.value(begin("up(N,L) :- N > 0 | L = [N|L1], M := N - 1, up(M,L1).\nup(0,L) :- true | L = [].\n", "up(1500,L)"));
+  await page.value('Talk.send("leap", "explain L").then(() => true)');
+  await page.idle();
+  assert.deepEqual((await page.value(rows)).slice(0, 4).map((row) => row.replace(/^step \d+: /, "")), ["up(1500,L) by 1", "L = [1500|L1₁] eq", "M₁ := 1500 - 1 is", "up(M₁,L1₁) by 1"]);
+  assert.match(await page.value(text("answer")), /12 of 4,502 steps\. Show 1,000×$/);
+  await page.click("#explain-all");
+  assert.equal((await page.value(rows)).length, 1000);
 });
 
 inBrowsers("before a value is kept alone all that would go is ringed, and one line takes it back", async (page) => {

@@ -159,3 +159,10 @@ test("the texts of goals that are worked out are those that the console tells", 
   });
   assert.ok(compared > 300, `${compared} texts compared`);
 });
+
+test("of the lines of part and blame each names the step or the goal that a click goes to", () => {
+  const named = (line) => { const found = Replies.namedIn(line); return found && [found.before, found.step ?? found.goal, found.after]; };
+  assert.deepEqual(["ask 2.2 of 28", "left 4.2 failed F10", "asked 3", "24.1 gave part([],1,[],[])", "7.1 _3_1 := 2 * 3", "16 2.2 by 2", "4.2 waits _1_1"].map(named),
+    [["ask ", "2.2", " of 28"], ["left ", "4.2", " failed F10"], ["asked ", 3, ""], ["", "24.1", " gave part([],1,[],[])"], ["", "7.1", " _3_1 := 2 * 3"], ["", 16, " 2.2 by 2"], ["", "4.2", " waits _1_1"]]);
+  assert.deepEqual(["fault 24 16.2 by 2", "fault 4.2", "fault 0", "given qs([],_0_1,[])", "gave qs([],[],[])", "in turns"].map(named), [["fault ", 24, " 16.2 by 2"], ["fault ", "4.2", ""], null, null, null, null]);
+});

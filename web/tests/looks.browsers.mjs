@@ -9,6 +9,7 @@ const RUNS = [
   "#example=bill&query=bill(12,3,T)&lines=leap 3", "#example=quicksort&query=quicksort([3,1,2],R)&lines=leap", "#example=deadlock&lines=leap",
   "#example=buffer&query=produce(1,6,[A,B|E]), consume([A,B|E],E,Out)&lines=leap 20", "#example=merge&query=instream(X), instream(Y), merge(X,Y,Z)&lines=in 1 a;in 2 b;leap;in 1 f(a,[b])",
   "#example=append&query=append([1],[2],R)&lines=step 0.1;ask _1_1 = [7];step 2.1;step 1.2", "#example=primes&query=primes(80,Ps)&lines=leap 300", "#example=primes&query=primes(30,Ps)&lines=leap 50",
+  "#example=quicksort&query=quicksort([3,1,2],R)&lines=leap;explain R", "#example=quicksort&query=quicksort([3,1,2],R)&lines=leap;blame R",
 ];
 
 /** The texts of the picture that stand beyond its edge, and the pairs of them that stand over each other. */
@@ -50,7 +51,7 @@ const CONTRAST = `(() => {
 /** The parts of the page that reach beyond the window's width, and labels of buttons that are cut. */
 const PARTS = `(() => {
   const wrong = [];
-  for (const element of document.querySelectorAll("header *, .tools *, #answer *, #note *, #panels h2 *")) {
+  for (const element of document.querySelectorAll("header *, .tools *, #answer *, #blame *, #note *, #panels h2 *")) {
     const box = element.getBoundingClientRect();
     if (box.width === 0 || element.closest("option, select, [hidden]")) continue;
     if (box.right > innerWidth + 1) wrong.push("beyond the window: " + (element.id || element.textContent));

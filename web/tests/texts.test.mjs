@@ -92,9 +92,9 @@ test("the lines before a station are those of its own session", () => {
   assert.ok(Tour.beginsSession(again) && !Tour.beginsSession(again + 1));
 });
 
-test("the page is one file below 2.5 MB that names no other one, and its policy lets nothing out", () => {
+test("the page is one file below 1.5 MB that names no other one, and its policy lets nothing out", () => {
   const page = fs.readFileSync(path.join(ROOT, "web/ghcdb.html"), "utf8");
-  assert.ok(Buffer.byteLength(page) < 2.5e6, `${Buffer.byteLength(page)} bytes`);
+  assert.ok(Buffer.byteLength(page) < 1.5e6, `${Buffer.byteLength(page)} bytes`);
   assert.match(page, /<meta http-equiv="Content-Security-Policy" content="default-src 'none'; [^"]*"/);
   assert.doesNotMatch(page, /<(script|link|img|iframe)[^>]* (src|href)=/);
   const scripts = [...page.matchAll(/<script data-file="([^"]+)">\n([^]*?)<\/script>/g)].filter(([, name]) => name !== "examples.js").map(([, , text]) => text).join("");

@@ -101,7 +101,7 @@ inBrowsers("a part of a value is explained by a click, who and why light up, a v
   await open(page, "#example=quicksort&query=quicksort([5,2,8,1,9,3],R)&lines=leap", WIDE);
   assert.equal(await page.value('document.querySelector("#store .row").textContent'), "R = [1,2,3,5,8,9]");
   await page.click('#store [data-root="_0_1"][data-path="1.1.1.1.0"]');
-  assert.equal(await page.value(text("answer")), "8 was given by step 47. On the way to it: step 29, 31, 37, 39. Its causes are lit.×");
+  assert.equal(await page.value(text("answer")), "8 was given by step 47. On the way to it: step 29, 31, 37, 39. Its causes are lit. Find the wrong clause×");
   assert.deepEqual(await page.value(numbers("#canvas .chosen")), [47]);
   assert.deepEqual(await page.value(numbers("#canvas .way")), [29, 31, 37, 39]);
   await page.value('Talk.send("who R")');
