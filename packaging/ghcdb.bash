@@ -46,9 +46,11 @@ _ghcdb() {
     --load | --schedule) _ghcdb_files -f -- "$current" ;;
     --workers) mapfile -t COMPREPLY < <(compgen -W 'auto 1 2 4 8 16 32 64' -- "$current") ;;
     --query) [ -n "$current" ] || _ghcdb_query ;;
+    --example) mapfile -t COMPREPLY < <(compgen -W "$(ghcdb --example 2> /dev/null < /dev/null)" -- "$current") ;;
     *)
       if [[ $current == -* ]]; then
         words='--query --load --schedule --workers --check --json --help --version'
+        [[ $1 == */* ]] || words+=' --dap --lsp --picture --example'
         mapfile -t COMPREPLY < <(compgen -W "$words" -- "$current")
       else
         _ghcdb_files -f -X '!*.ghc' -- "$current"
