@@ -8,6 +8,8 @@ import sys
 import tempfile
 
 sys.dont_write_bytecode = True
+sys.path.insert(0, os.path.dirname(os.path.realpath(__file__)))
+from kit import keeping_kit, kit_folder, left_module
 
 
 def load_rt():
@@ -32,6 +34,22 @@ def need_kept(rt):
         sys.exit(
             "this kit's rt keeps nothing of what it passed: ./ghcdb --prove proves all crates in this checkout, for web/build too"
         )
+
+
+def leave_module(rt, root, room):
+    """Has rt ci leave the module of the program that it proved in this checkout, as it hands it to clang. Not every
+    kit's has a function of that name. What `room` holds has to stay meanwhile."""
+    if not hasattr(rt.Crate, "compile_by"):
+        return
+    left, compile_by = left_module(root), rt.Crate.compile_by
+    left.parent.mkdir(exist_ok=True)
+    toolchain = keeping_kit(kit_folder(), room, left) / "toolchain"
+
+    def leaving(crate, backend, words, to):
+        words = [str(toolchain) if before == "--toolchain" else it for before, it in zip(["", *words], words)]
+        return compile_by(crate, backend, words, to)
+
+    rt.Crate.compile_by = leaving
 
 
 def is_built_here(root):
