@@ -1,9 +1,9 @@
 -- How variables are gathered in a list.
-use Rattle.ghc_term.proofs.Words.{◌≡◌, ℕ, ◌+◌, ◌<◌, ◌↔◌, List, [], ◌∷◌, ◌++◌, length, get_or, take, take_more, take_all, map, map-append, append-nil, append_assoc, refl, sym, ap, ◌∙◌, subst, inl, inr, ◌⊎◌, Bool, true, false, IsTrue, Result, Ok, Err, IfOk, VarName, Tree, variable, integer, node, Trees, none, more, trees, Occurs, OccursIn, In, Bor, var_inj}
+use Rattle.ghc_term.proofs.Words.{◌≡◌, ℕ, ◌+◌, ◌<◌, ◌↔◌, List, [], ◌∷◌, ◌++◌, length, get_or, take, take_more, map, map-append, append-nil, append_assoc, refl, sym, ap, ◌∙◌, subst, inl, inr, ◌⊎◌, Bool, true, false, IsTrue, Result, Ok, Err, IfOk, VarName, Tree, variable, integer, node, Trees, none, more, trees, Occurs, OccursIn, In, Bor, var_inj}
 use Rattle.ghc_term.specs.inner.Walking.{StandsIn}
 use Rattle.ghc_term.specs.Variables.{variables, variables_of_all}
 use Rattle.ghc_term.specs.inner.KeptList.{numbered, IsTold, IsListOf, GoesOn, Gathers}
-use Rattle.ghc_term.proofs.ListsLemmas.{in_left, in_right, in_either, in_last, in_more, next_in}
+use Rattle.ghc_term.proofs.ListsLemmas.{in_left, in_right, in_either, in_last, in_more}
 use Rattle.ghc_term.proofs.Searching.{stands_left, stands_right, stands_last, occurs_among, among_occurs}
 
 -- the variables of a tree, as a list, are those that stand in it

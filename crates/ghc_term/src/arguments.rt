@@ -19,9 +19,8 @@ impl Arguments {
         ensures items { items_of result ≡ first ∷ second ∷ [] }
         ensures closed { KnowsClosed result }
     {
-        let terms = [first, second];
-        let is_closed = are_closed(&terms);
-        Arguments::Two(is_closed, terms)
+        let is_closed = first.is_closed() && second.is_closed();
+        Arguments::Two(is_closed, [first, second])
     }
 
     // The arguments of the list.
@@ -52,7 +51,9 @@ impl Arguments {
     #[inline(always)]
     pub(crate) fn branches(&self) -> bool {
         match self {
-            Arguments::Two(is_closed, terms) => !*is_closed && do_branch(terms),
+            Arguments::Two(is_closed, terms) => {
+                !*is_closed && terms[0].is_open_structure() && terms[1].is_open_structure()
+            }
             Arguments::Others(is_closed, list) => !*is_closed && do_branch(list.as_slice()),
         }
     }

@@ -1,4 +1,4 @@
-use Rattle.ghc_term.proofs.Words.{map, refl, subst, take_all, Occurs}
+use Rattle.ghc_term.proofs.Words.{map, refl, subst, Occurs}
 use Rattle.ghc_term.specs.inner.Walking.{StandsIn}
 use Rattle.ghc_term.specs.inner.KeptList.{Gathers}
 use Rattle.ghc_term.proofs.Gathered.{next_stood, none_added}

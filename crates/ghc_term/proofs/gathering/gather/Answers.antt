@@ -1,7 +1,7 @@
-use Rattle.ghc_term.proofs.Words.{◌≡◌, ◌<◌, ◌↔◌, [], ◌∷◌, map, refl, sym, ap, ◌∙◌, subst, Bor, Tree, VarName, variable, Occurs, In}
+use Rattle.ghc_term.proofs.Words.{◌≡◌, ◌↔◌, [], map, sym, subst, Bor, Tree, VarName, Occurs}
 use Rattle.std.specs.FinMap as finite
-use Rattle.ghc_term.proofs.Searching.{sizes, popped, falls_away, unfold_falls, nothing_open}
-use Rattle.ghc_term.proofs.Gathered.{Gathering, begun, added, passed, unfolds, finished, as_told}
+use Rattle.ghc_term.proofs.Searching.{popped, falls_away, unfold_falls, nothing_open}
+use Rattle.ghc_term.proofs.Gathered.{Gathering, added, passed, unfolds, finished, as_told}
 use Rattle.ghc_term.proofs.gathering.gather.Goals as goal
 
 pub loop-term-smaller-then-is_closed : goal.loop-term-smaller-then-is_closed

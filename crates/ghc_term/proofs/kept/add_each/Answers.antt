@@ -1,4 +1,4 @@
-use Rattle.ghc_term.proofs.Words.{subst, take_all, In}
+use Rattle.ghc_term.proofs.Words.{subst, In}
 use Rattle.ghc_term.specs.inner.KeptList.{Gathers}
 use Rattle.ghc_term.proofs.Gathered.{next_gathered}
 use Rattle.std.proofs.lemmas.List.{take_all as whole}

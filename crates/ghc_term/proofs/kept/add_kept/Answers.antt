@@ -1,4 +1,4 @@
-use Rattle.ghc_term.proofs.Words.{IfSome, ap, subst}
+use Rattle.ghc_term.proofs.Words.{IfSome, subst}
 use Rattle.ghc_term.specs.inner.KeptList.{IsListOf}
 use Rattle.ghc_term.proofs.Gathered.{found_kept, none_kept}
 use Rattle.ghc_term.proofs.kept.add_kept.Goals.{in-Some, in-None}

@@ -1,4 +1,4 @@
-use Rattle.ghc_term.proofs.Words.{◌≡◌, true, false, refl, sym, ap, ◌∙◌, value_in}
+use Rattle.ghc_term.proofs.Words.{◌≡◌, true, false, refl, sym, ap, ◌∙◌}
 use Rattle.ghc_term.proofs.Entries.{same, same_is}
 use Rattle.ghc_term.proofs.Searches.{same_itself}
 use Rattle.ghc_term.proofs.Total.{same_name}

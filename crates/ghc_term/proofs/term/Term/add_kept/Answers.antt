@@ -1,5 +1,5 @@
-use Rattle.ghc_term.proofs.Words.{◌≡◌, ◌↔◌, sym, ap, ◌∙◌, subst, IfOk-weaker, IsTrue, VarName, Occurs, tree_of, items_of, trees, IsWellMade}
-use Rattle.ghc_term.specs.inner.KeptList.{IsTold, Gathers}
+use Rattle.ghc_term.proofs.Words.{◌≡◌, ◌↔◌, sym, ap, ◌∙◌, subst, IfOk-weaker, VarName, Occurs, tree_of, items_of, trees, IsWellMade}
+use Rattle.ghc_term.specs.inner.KeptList.{IsTold}
 use Rattle.ghc_term.specs.declared.term.Shape.TheVariants.{Branch}
 use Rattle.ghc_term.proofs.Gathered.{told_occurs, as_told}
 use Rattle.ghc_term.proofs.term.Term.add_kept.Goals as goal

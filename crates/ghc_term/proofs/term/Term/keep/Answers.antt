@@ -1,4 +1,4 @@
-use Rattle.ghc_term.proofs.Words.{◌≡◌, ◌↔◌, sym, ap, ◌∙◌, subst, VarName, Occurs, tree_of, items_of, trees, IsWellMade}
+use Rattle.ghc_term.proofs.Words.{◌≡◌, ◌↔◌, sym, ap, ◌∙◌, subst, Occurs, tree_of, items_of, trees, IsWellMade}
 use Rattle.ghc_term.specs.inner.KeptList.{IsTold}
 use Rattle.ghc_term.specs.declared.term.Shape.TheVariants.{Branch}
 use Rattle.ghc_term.proofs.Gathered.{told_occurs}
