@@ -77,7 +77,8 @@ fn push_all(xs: &[VarName], waiting: &mut Vec<VarName>) -> Result<(), AllocError
     Ok(())
 }
 
-// The variable, its parents, theirs, and so on: a look-up for each. The parents of a variable are taken out as it is gone through.
+// The variable, its parents, theirs, and so on: two look-ups for each that is listed. What is listed under a variable is taken out as
+// it is gone through, so that none is gone through twice.
 fn ancestors_of(
     alloc: Global,
     parents: BTreeMap<VarName, Vec<VarName>>,
@@ -98,8 +99,8 @@ fn ancestors_of(
     Ok(ancestors)
 }
 
-// A set that has of these variables those that reach y, where what stands in the value of one is one of them. It goes once through the
-// value of each, with some look-ups for each variable there.
+// Of these variables the set has just those that reach y, where what stands in the value of one is one of them. It goes once through
+// the value of each, with some look-ups for each variable there.
 pub(crate) fn reaching(
     alloc: Global,
     store: &Store,

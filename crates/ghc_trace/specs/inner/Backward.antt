@@ -7,7 +7,7 @@ use Rattle.ghc_term.specs.Bindings.{name_cmp}
 use Rattle.ghc_term.specs.Lists.{In}
 use Rattle.ghc_term.specs.Tree.{Tree, Occurs}
 
--- The variables found so far, in whose values each one stands.
+-- Under each variable a list: of those found so far in whose values it stands.
 abbrev pub Parents : Type 0
 Parents = BTreeMap VarName (Vec VarName)
 
