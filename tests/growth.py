@@ -46,6 +46,11 @@ WRITTEN = """d(0,X,_,Z) :- true | Z = X.
 d(N,X,Y,Z) :- N > 0 | M := N - 1, d(M,{},{},Z).
 """
 
+# listed(N,X,Y) makes a list of N cells behind X, each by a step of its own, with Y as its last element.
+LISTED = """listed(0,X,Y) :- true | X = [Y].
+listed(N,X,Y) :- N > 0 | M := N - 1, X = [a|Z], listed(M,Z,Y).
+"""
+
 
 class Session(NamedTuple):
     """A session of some size, and the last line that it has to print, or None where that does not matter."""
@@ -99,6 +104,13 @@ def doubled(size):
     return Session(DOUBLED, f"d({size},X), d({size},Y)", ["leap", "ask X = Y", "leap"], last="stopped quiet")
 
 
+def blamed_place(size):
+    """Which call is to blame for the last element of a list of so many cells. The calls that made it stand one below the
+    other, three steps apart, and the one half way down is asked about."""
+    asked = f"ask {3 * size // 2 - 2}.3 of {size + 1}"
+    return Session(LISTED, f"listed({size},X,Y)", ["leap", "blame X Y"], last=asked)
+
+
 def history_of_written(size):
     """The history of all steps of WRITTEN, doubled so many times: a call, an assignment, and so on, and the unification of Z at last."""
     goals = ["0.1"] + [f"{step}.2" for step in range(1, 2 * size, 2)]
@@ -148,6 +160,7 @@ GROWTHS = [
     Growth("walks along closed lists by two workers", walks, 20_000),
     Growth("undos of all steps of a run", undone, 10_000),
     Growth("two terms doubled through variables made equal", doubled, 4_000),
+    Growth("blame of the last place of a list", blamed_place, 5_000),
     Growth("an open term doubled as written", written("f(X,X)", "Y"), 250),
     Growth("an open term doubled as written, its parts apart", written("f(g(X),h(X))", "Y"), 250),
     Growth("two open terms doubled as written, each with the other", written("f(X,Y)", "g(Y,X)"), 250),

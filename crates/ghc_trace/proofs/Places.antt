@@ -4,9 +4,8 @@ use Rattle.ghc_records.proofs.SlotLemmas.{held_stands}
 use Rattle.ghc_depend.specs.inner.Sources.{IsPlaceOfOne}
 use Rattle.std.specs.FinSet as set
 use Rattle.ghc_term.specs.Sets.{IsSetOf, Variables}
-use Rattle.ghc_term.specs.Bindings.{Reaches, here, through}
+use Rattle.ghc_term.specs.Bindings.{Reaches}
 use Rattle.ghc_term.specs.Tree.{variable}
-use Rattle.ghc_term.proofs.Chains.{reaches_on}
 use Rattle.ghc_records.specs.Uses.{Binds, MakesVariable}
 use Rattle.ghc_depend.specs.Parts.{GavePlace, IsOnWay}
 use Rattle.ghc_trace.specs.Causes.{AreBindersOf}
@@ -33,11 +32,6 @@ module _ (P : VarName → Type 0) (xs ys : List VarName) (x : VarName) (h : AreT
     λ i. let q = (h v).0 i in (in_left xs (x ∷ []) v q.0, q.1),
     λ q. elim (in_more xs x v q.0) [ inl j ↦ (h v).1 (j, q.1) | inr same ↦ absurd (not (subst P same q.1)) ],
   )
-
--- what a variable reaches that is reached, is reached
-pub via : (S : VarName → Option Tree) (t : Tree) (v y : VarName) → Reaches S t v → Reaches S (variable v) y → Reaches S t y
-via S t v y r (here same) = subst (λ z. Reaches S t z) (sym same) r
-via S t v y r (through {y = w} same e q) = reaches_on (subst (λ z. Reaches S t z) (sym same) r) e q
 
 -- these steps made one of these variables, beside those that were there
 abbrev pub AddsMakers : List Record → List VarName → List ℕ → List ℕ → Type 0

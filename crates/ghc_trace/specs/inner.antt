@@ -1,4 +1,5 @@
 -- What calls, invariants and lemmas cite, and no theorem: the other files can be read without these.
+pub mod Backward
 pub mod BlameCode
 pub mod BlameLinesCode
 pub mod DisturbedCode

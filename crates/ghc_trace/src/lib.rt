@@ -2,6 +2,7 @@
 //! bound the variables of a chain, which goals descend from a goal, and which predicates are spied.
 #![tactic(auto)]
 
+mod backward;
 mod blame_lines;
 mod blaming;
 mod call_given;

@@ -1,5 +1,5 @@
 // The slice of a place: the kept steps that gave a variable its term, and its place within the term of another one.
-ghost use Rattle.std.specs.Prelude.{◌⊎◌, ◌↔◌, IfNone, IfOk, IfSome, IsTrue, OnOk};
+ghost use Rattle.std.specs.Prelude.{◌⊎◌, ◌↔◌, IfNone, IfOk, IfSome, OnOk};
 ghost use Rattle.ghc_term.specs.declared.var_name.VarName.{VarName as var_name};
 ghost use Rattle.ghc_term.specs.Bindings.{Reaches};
 ghost use Rattle.ghc_term.specs.Lists.{In};
@@ -10,7 +10,9 @@ ghost use Rattle.ghc_records.specs.Record.{Record as record_spec};
 ghost use Rattle.ghc_records.specs.Uses.{MakesVariable};
 ghost use Rattle.ghc_depend.specs.Parts.{GavePlace};
 ghost use Rattle.ghc_trace.specs.Causes.{IsToldPlaceSliceOf};
+ghost use Rattle.ghc_trace.specs.inner.Backward.{HasAllBelow};
 
+use crate::backward::reaching;
 use crate::given::{binders_of, reached_by};
 use crate::slices::slice;
 use ghc_core::Core;
@@ -19,20 +21,8 @@ use ghc_records::Records;
 use ghc_term::{Store, Term, VarName, Variables};
 use std::alloc::{AllocError, Global};
 
-// Whether the variable reaches y, or y reaches it, which below are all that y reaches: a search from the variable.
-fn is_on_way(store: &Store, below: &Variables, v: VarName, y: VarName) -> Result<bool, AllocError>
-    requires { IsSetOf below.now (Reaches (value_at store.now.held) (variable y)) }
-    ensures { IfOk result (λ yes. IsTrue yes ↔ (Reaches (value_at store.now.held) (variable v) y ⊎ Reaches (value_at store.now.held) (variable y) v)) }
-{
-    if below.contains(v) {
-        return Ok(true);
-    }
-    let from = Term::variable(v);
-    let leads = store.reaches(&from, y)?;
-    Ok(leads)
-}
-
-// Of these variables those that reach y, or that y reaches, which below are all that y reaches: a search from each of them.
+// Of these variables those that reach y, or that y reaches, which below are all that y reaches: some look-ups for each variable that
+// stands in the value of one.
 fn on_way_to(
     alloc: Global,
     store: &Store,
@@ -40,13 +30,14 @@ fn on_way_to(
     below: &Variables,
     y: VarName,
 ) -> Result<Vec<VarName>, AllocError>
-    requires { IsSetOf below.now (Reaches (value_at store.now.held) (variable y)) }
+    requires all { HasAllBelow (value_at store.now.held) among.now }
+    requires below { IsSetOf below.now (Reaches (value_at store.now.held) (variable y)) }
     ensures { IfOk result (λ way. (v : var_name) → In v way.items ↔ (In v among.now × (Reaches (value_at store.now.held) (variable v) y ⊎ Reaches (value_at store.now.held) (variable y) v))) }
 {
+    let above = reaching(alloc, store, among, y)?;
     let mut way = Vec::new(alloc);
     for v in among {
-        let leads = is_on_way(store, below, *v, y)?;
-        if leads {
+        if above.contains(*v) || below.contains(*v) {
             way.push(*v)?;
         }
     }
@@ -89,7 +80,7 @@ fn given_to_place(
 
 /// The numbers of the steps of the slice of the place of y in the term of x, in recorded order, or nothing where x does not reach y.
 /// These are the kept steps that bound a variable on a way from x to y or one that y reaches, or made x or y, and all on which they
-/// depend. It costs a search for y from each variable of the term of x, and what `slice` costs.
+/// depend. It goes once through the term of x, with some look-ups for each variable there, and costs what `slice` costs.
 pub(crate) fn slice_of_place(
     alloc: Global,
     core: &Core,

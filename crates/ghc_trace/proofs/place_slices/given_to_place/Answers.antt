@@ -3,11 +3,19 @@ use Rattle.ghc_term.specs.Bindings.{Reaches}
 use Rattle.ghc_term.specs.Sets.{IsSetOf}
 use Rattle.ghc_term.specs.Tree.{variable}
 use Rattle.ghc_trace.specs.Causes.{AreBindersOf}
+use Rattle.ghc_trace.specs.inner.Backward.{HasAllBelow}
+use Rattle.ghc_trace.proofs.Ancestors.{has_all_below}
 use Rattle.ghc_trace.proofs.Places.{AddsMakers, AreThoseOf, IsEitherWay, binders_on_way, gave_place}
 use Rattle.ghc_trace.proofs.place_slices.given_to_place.Goals as goal
 
-pub on_way_to-requires : goal.on_way_to-requires
-on_way_to-requires c =
+pub on_way_to-requires-clause-all : goal.on_way_to-requires-clause-all
+on_way_to-requires-clause-all c =
+    let t = c.args.core.now.world.state in
+    let members = c.members.result.now in
+    subst (λ (s : StoreValue). HasAllBelow (value_at s) members) (sym c.store-2.ensures) (has_all_below (value_at t.store) (variable c.args.x) members c.args.reached.now c.members.ensures.all c.requires)
+
+pub on_way_to-requires-clause-below : goal.on_way_to-requires-clause-below
+on_way_to-requires-clause-below c =
     let below = c.in_ok-below.below in
     let y = c.args.y in
     subst (λ (s : StoreValue). IsSetOf below (Reaches (value_at s) (variable y))) (c.store.ensures ∙ sym c.store-2.ensures)
