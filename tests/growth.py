@@ -50,6 +50,12 @@ d(N,X,Y,Z) :- N > 0 | M := N - 1, d(M,{},{},Z).
 LISTED = """listed(0,X,Y) :- true | X = [Y].
 listed(N,X,Y) :- N > 0 | M := N - 1, X = [a|Z], listed(M,Z,Y).
 """
+# A small call, and a count beside it.
+BESIDE = """start(N) :- true | p(_), count(N).
+p(X) :- true | X = a.
+count(0) :- true | true.
+count(N) :- N > 0 | M := N - 1, count(M).
+"""
 
 
 class Session(NamedTuple):
@@ -146,6 +152,11 @@ def loaded_written(first, second):
     return session
 
 
+def parts_beside_many(size):
+    """`part` of a small call so many times, beside twice as many other steps."""
+    return Session(BESIDE, f"start({size})", ["leap"] + ["part 1.1"] * size, last="2 1.1 by 2")
+
+
 class Growth(NamedTuple):
     what: str
     session: Callable[[int], Session]
@@ -157,6 +168,7 @@ GROWTHS = [
     Growth("a history whose numbers were searched for the hash of numbers", searched(hash_of_numbers), 40_000),
     Growth("a history whose numbers were searched for the hash of the kit", searched(hash_of_kit), 40_000),
     Growth("runs of one step beside many goals that wait", beside_many, 8_000),
+    Growth("parts of a small call beside many other steps", parts_beside_many, 8_000),
     Growth("walks along closed lists by two workers", walks, 20_000),
     Growth("undos of all steps of a run", undone, 10_000),
     Growth("two terms doubled through variables made equal", doubled, 4_000),

@@ -19,6 +19,7 @@ pub mod PartGiving
 pub mod PartMade
 pub mod PartFinding
 pub mod PartFollowing
+pub mod PartUsers
 pub mod SliceStore
 pub mod BlameMade
 pub mod BlameTold

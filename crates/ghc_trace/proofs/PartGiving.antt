@@ -1,10 +1,10 @@
 -- What is found by the numbers of a part is what the words say of the part.
-use Rattle.ghc_trace.proofs.Words.{◌≡◌, ℕ, List, [], ◌++◌, codes, refl, sym, ap, ◌∙◌, subst, inl, inr, ◌↔◌, Bool, true, false, IsTrue, Option, VarName, GoalName, Goal, call, unify, assign, stream, Tree, Some, is_some, In, in_left, in_right, in_either, ◌∷◌, StoreValue, value_at, AreDistinct, Program, Query, State, Record, numbers, Replays, record_once, StepBinds, World}
+use Rattle.ghc_trace.proofs.Words.{◌≡◌, ℕ, List, [], ◌++◌, codes, refl, sym, ap, ◌∙◌, subst, inl, inr, ◌↔◌, Bool, true, false, IsTrue, Option, None, VarName, GoalName, Goal, call, unify, assign, stream, Tree, Some, is_some, In, in_left, in_right, in_either, ◌∷◌, StoreValue, value_at, AreDistinct, Program, Query, State, Record, numbers, Replays, record_once, StepBinds, World}
 use Rattle.std.specs.FinMap as finite
 use Rattle.ghc_depend.proofs.Comparing.{bound_value}
 use Rattle.ghc_depend.proofs.Finding.{ends}
 use Rattle.ghc_depend.proofs.Placing.{bound_once, results_of}
-use Rattle.ghc_depend.proofs.Results.{bound_by}
+use Rattle.ghc_depend.proofs.Results.{bound_by, untaken}
 use Rattle.ghc_depend.specs.Depend.{Follows, directly, further}
 use Rattle.ghc_term.proofs.Gathered.{in_variables, of_variables}
 use Rattle.ghc_term.proofs.Reaching.{reaches_in}
@@ -18,7 +18,7 @@ use Rattle.ghc_trace.specs.Holding.{GoalReaches, goal_terms}
 use Rattle.ghc_trace.specs.PartLines.{IsShown, TellsGiven, TellsTurns, asked_lines}
 use Rattle.ghc_depend.specs.Parts.{GoesInTurns, HasWhatWasGiven, IsOfPart, IsReachedInto, IsWithinGoal}
 use Rattle.ghc_trace.specs.Parts.{ArePartNumbers}
-use Rattle.ghc_trace.specs.inner.PartsCode.{AreKeptAs, ArePickedNumbers, AreWithCauses, BindsAlone, IsGivenIn, IsWorldOf, NamesInside, OneFollows, turns_text}
+use Rattle.ghc_trace.specs.inner.PartsCode.{ArePickedNumbers, AreWithCauses, BindsAlone, IsGivenIn, IsTakenOrThere, IsTakerIn, IsWorldOf, NamesInside, OneFollows, turns_text}
 use Rattle.ghc_trace.proofs.Giving.{picks_as}
 
 -- a variable has one binder
@@ -191,11 +191,8 @@ module _ (kept rs : List Record) (once : AreDistinct (numbers kept)) (within : (
 
 -- what is known of the part of a goal by its numbers, and of what the goal was given, in a world of some of the kept steps
 module _ (v : World) (kept : List Record) (steps : List ℕ) (store : StoreValue) (of : IsWorldOf kept steps store v) (once : AreDistinct (numbers kept)) (g : GoalName) (b : Goal) (ns : List ℕ) (xs : List VarName)
-    (numbered : (P : Program) (query : Query) (rs : List Record) (t : State) → AreKeptAs kept rs steps → Replays P query rs t → ArePartNumbers rs g ns)
+    (part_here : ArePartNumbers v.kept g ns)
     (given : (x : VarName) → In x xs ↔ (GoalReaches (value_at store) b x × IsGivenIn kept ns (value_at store) x)) (known : StoreValue) (alone : BindsAlone xs (value_at store) (value_at known)) where
-  part_here : ArePartNumbers v.kept g ns
-  part_here = numbered v.opening.program v.opening.query v.kept v.state of.steps of.replay
-
   given_here : (x : VarName) → In x xs ↔ (GoalReaches (value_at v.state.store) b x × IsGivenIn kept ns (value_at v.state.store) x)
   given_here = subst (λ (s : StoreValue). (x : VarName) → In x xs ↔ (GoalReaches (value_at s) b x × IsGivenIn kept ns (value_at s) x)) (sym of.left) given
 
@@ -212,29 +209,32 @@ module _ (v : World) (kept : List Record) (steps : List ℕ) (store : StoreValue
   by_test false h = inr (λ t. let clash : false ≡ true = h.1 (turns_here.1 t) in cc, refl)
 
   -- what the call was given is told
-  pub told_given : (shown asks : List ℕ) (went : Bool) → IsShown known b shown → ArePickedNumbers (NamesInside kept ns) v.kept asks → (IsTrue went ↔ OneFollows kept ns xs)
+  pub told_given : (shown asks : List ℕ) (went : Bool) → IsShown known b shown → ArePickedNumbers (IsReachedInto v.kept g) v.kept asks → (IsTrue went ↔ OneFollows kept ns xs)
       → TellsGiven v g b (codes "given " ++ (shown ++ (codes "\n" ++ (asked_lines asks ++ turns_text went))))
-  told_given shown asks went shows reach follows =
-      let found = asks_reach kept v.kept once of.steps.within g ns part_here asks reach in
-      record {
-        store = known;
-        was_given = known_here;
-        shown = shown;
-        shows = shows;
-        asks = found.0;
-        reaching = found.1;
-        turns = turns_text went;
-        in_turns = by_test went follows;
-        written = ap (λ l. codes "given " ++ (shown ++ (codes "\n" ++ (asked_lines l ++ turns_text went)))) (sym found.2);
-      }
+  told_given shown asks went shows reach follows = record {
+    store = known;
+    was_given = known_here;
+    shown = shown;
+    shows = shows;
+    asks = reach.0;
+    reaching = reach.1;
+    turns = turns_text went;
+    in_turns = by_test went follows;
+    written = ap (λ l. codes "given " ++ (shown ++ (codes "\n" ++ (asked_lines l ++ turns_text went)))) (sym reach.2);
+  }
 
 -- the world of all kept steps
-pub world_of_all : (w : World) (kept : List Record) (store : StoreValue) (items listed : List ℕ) → kept ≡ w.kept → store ≡ w.state.store
-    → Replays w.opening.program w.opening.query w.kept w.state → items ≡ numbers kept → listed ≡ items → IsWorldOf kept listed store w
-world_of_all w kept store items listed same left replay numbered is = record {
+pub world_of_all : (w : World) (kept : List Record) (store : StoreValue) → kept ≡ w.kept → store ≡ w.state.store → Replays w.opening.program w.opening.query w.kept w.state → IsWorldOf kept (numbers kept) store w
+world_of_all w kept store same left replay = record {
   replay = replay;
   bound_once = subst (λ (l : List Record). (x : VarName) (n m : ℕ) → StepBinds l n x → StepBinds l m x → n ≡ m) (sym same) (binder_once w.opening.program w.opening.query w.kept w.state replay);
-  steps = record { within = λ r i. subst (In r) (sym same) i; numbered = ap numbers (sym same) ∙ sym (is ∙ numbered) };
+  steps = record { within = λ r i. subst (In r) (sym same) i; numbered = ap numbers (sym same) };
   causes = subst (λ (l : List Record). AreWithCauses l w.kept) (sym same) (λ a b. (λ d. ((ends w.kept b a d).1, d), λ p. p.1));
   left = sym left;
 }
+
+-- the step that took the goal is the record's; where none is given, none took it
+pub taker_in : (w : World) (g : GoalName) (b : Goal) (kept : List Record) → kept ≡ w.kept → Replays w.opening.program w.opening.query w.kept w.state → (o : Option Record) → IsTakenOrThere w g b o → IsTakerIn kept g o
+taker_in w g b kept same replay (Some r) h = (subst (In r) (sym same) h.0, h.1)
+taker_in w g b kept same replay None there =
+    λ r i. untaken w.opening.query w.kept w.state (results_of w.opening.program w.opening.query w.kept w.state replay) g b there r (subst (In r) same i)

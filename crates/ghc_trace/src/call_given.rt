@@ -133,8 +133,8 @@ fn is_made_inside(records: &Records, part: &BTreeSet<u32>, number: u32, x: VarNa
     place_of_maker(records, x).is_some()
 }
 
-// Whether the step names a variable that a step of the part made: two look-ups for each variable that it names.
-fn reaches_in(records: &Records, part: &BTreeSet<u32>, step: &Record) -> bool
+/// Whether the step names a variable that a step of the part made: two look-ups for each variable that it names.
+pub(crate) fn reaches_in(records: &Records, part: &BTreeSet<u32>, step: &Record) -> bool
     ensures { IsTrue result ↔ NamesInside records.now.held part.now.keys step.now }
 {
     for x in step.act().variables() {

@@ -15,6 +15,7 @@ mod given;
 mod given_goal;
 mod goal_laws;
 mod goal_lines;
+mod goal_parts;
 mod holding;
 mod judgements;
 mod laws;

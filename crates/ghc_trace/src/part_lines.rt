@@ -1,7 +1,8 @@
 // The lines that tell what a call was given, and what it gave. Where one is refused, what `write_..` writes may be a part of its text.
-ghost use Rattle.std.specs.Prelude.{◌≡◌, ◌++◌, ◌⊎◌, ◌<◌, ◌+◌, ℕ, List, Some, IfErr, IfNone, IfSome, OnErr, OnOk, codes, length, slice_get, string_bytes};
+ghost use Rattle.std.specs.Prelude.{◌≡◌, ◌++◌, ◌⊎◌, ◌<◌, ◌+◌, ℕ, List, Some, IfErr, IfNone, IfSome, OnErr, OnOk, codes, length, option_copied, slice_get, string_bytes};
 ghost use Rattle.std.specs.FinMap as finite;
 ghost use Rattle.std.specs.Io.{StartsWith};
+ghost use Rattle.ghc_term.specs.declared.goal_name.GoalName.{GoalName as goal_name};
 ghost use Rattle.ghc_term.specs.Goal.{Goal as goal_spec, call};
 ghost use Rattle.ghc_term.specs.Lists.{In};
 ghost use Rattle.ghc_term.specs.Store.{StoreValue};
@@ -13,12 +14,12 @@ ghost use Rattle.ghc_trace.specs.GoalLines.{IsTooLong};
 ghost use Rattle.ghc_trace.specs.Laws.{IsSettled};
 ghost use Rattle.ghc_trace.specs.PartLines.{AreMadeLines, HasTooLongText, IsShown, TellsCall, TellsGave, TellsGiven, TellsMade, TellsStatus, asked_lines};
 ghost use Rattle.ghc_trace.specs.Parts.{IsStoreGiven};
-ghost use Rattle.ghc_trace.specs.inner.PartsCode.{IsWorldOf, fate_word, turns_text};
+ghost use Rattle.ghc_trace.specs.inner.PartsCode.{IsPartOf, IsTakenOrThere, IsWorldOf, fate_word, turns_text};
 ghost use Rattle.ghc_term.specs.GoalText.{goal_text};
 
-use crate::call_given::{asks_into, follows_part, given_variables, store_of};
+use crate::call_given::{follows_part, given_variables, store_of};
 use crate::goal_lines::write_status;
-use crate::parts::{all_numbers, part_of};
+use crate::goal_parts::{Part, part_among, whole_part};
 use ghc_core::Core;
 use ghc_records::{Record, Records, push_goal_name, push_step};
 use ghc_term::{
@@ -71,6 +72,35 @@ fn write_turns(in_turns: bool, out: &mut String) -> Result<(), AllocError>
     out.push_str("in turns\n")
 }
 
+// Writes what the goal was given, where this is its part.
+fn write_given_to(
+    alloc: Global,
+    records: &Records,
+    part: &Part,
+    store: &Store,
+    goal: &Goal,
+    out: &mut String,
+) -> Result<(), Fault>
+    ensures text { OnOk result ((v : World) (ns : List ℕ) (g : goal_name) → IsWorldOf records.now.held ns store.now.held v → IsPartOf v.kept g part.now.steps.keys part.now.asks.items
+        → (text : List ℕ) × TellsGiven v g goal.now text × (string_bytes out.new ≡ string_bytes out.old ++ text)) }
+    ensures begun { StartsWith (string_bytes out.new) (string_bytes out.old) }
+    ensures refused { IfErr result (λ fault. (fault ≡ Fault.Memory) ⊎ (fault ≡ Fault.Limit Limit.Print)) }
+    ensures too_long { result ≡ Err (Fault.Limit Limit.Print) → (v : World) (ns : List ℕ) (g : goal_name) → IsWorldOf records.now.held ns store.now.held v → IsPartOf v.kept g part.now.steps.keys part.now.asks.items
+        → (given : StoreValue) × IsStoreGiven v.kept v.state g goal.now given × IsTooLong given goal.now }
+{
+    let _count = records.len();
+    let given = given_variables(alloc, records, store, &part.steps, goal)?;
+    let known = store_of(alloc, store, given.as_slice())?;
+    let in_turns = follows_part(alloc, records, &part.steps, given.as_slice())?;
+    match write_goal(alloc, "given ", goal, &known, out) {
+        Ok(()) => {}
+        Err(fault) => return Err(fault),
+    }
+    write_asks(part.asks.as_slice(), out)?;
+    write_turns(in_turns, out)?;
+    Ok(())
+}
+
 // Writes what the goal of this name was given where just the steps of these numbers are kept, which left the store.
 pub(crate) fn write_given(
     alloc: Global,
@@ -87,29 +117,20 @@ pub(crate) fn write_given(
     ensures refused { IfErr result (λ fault. (fault ≡ Fault.Memory) ⊎ (fault ≡ Fault.Limit Limit.Print)) }
     ensures too_long { result ≡ Err (Fault.Limit Limit.Print) → (v : World) → IsWorldOf records.now.held steps.now store.now.held v → (given : StoreValue) × IsStoreGiven v.kept v.state name goal.now given × IsTooLong given goal.now }
 {
-    let _count = records.len();
-    let part = part_of(alloc, records, steps, name)?;
-    let given = given_variables(alloc, records, store, &part, goal)?;
-    let known = store_of(alloc, store, given.as_slice())?;
-    let asks = asks_into(alloc, records, steps, &part)?;
-    let in_turns = follows_part(alloc, records, &part, given.as_slice())?;
-    match write_goal(alloc, "given ", goal, &known, out) {
-        Ok(()) => {}
-        Err(fault) => return Err(fault),
-    }
-    write_asks(asks.as_slice(), out)?;
-    write_turns(in_turns, out)?;
-    Ok(())
+    let part = part_among(alloc, records, steps, name)?;
+    write_given_to(alloc, records, &part, store, goal, out)
 }
 
-// Writes what the goal of this name was given by kept steps.
+// Writes what the goal of this name was given by kept steps, where this one took it, if one did.
 fn write_given_by_all(
     alloc: Global,
     core: &Core,
     name: GoalName,
     goal: &Goal,
+    taker: Option<&Record>,
     out: &mut String,
 ) -> Result<(), Fault>
+    requires { IsTakenOrThere core.now.world name goal.now (option_copied taker) }
     ensures text { OnOk result ((text : List ℕ) × TellsGiven core.now.world name goal.now text × (string_bytes out.new ≡ string_bytes out.old ++ text)) }
     ensures begun { StartsWith (string_bytes out.new) (string_bytes out.old) }
     ensures refused { IfErr result (λ fault. (fault ≡ Fault.Memory) ⊎ (fault ≡ Fault.Limit Limit.Print)) }
@@ -117,17 +138,8 @@ fn write_given_by_all(
 {
     core.stands();
     let records = core.records();
-    let _count = records.len();
-    let steps = all_numbers(alloc, records)?;
-    write_given(
-        alloc,
-        records,
-        steps.as_slice(),
-        core.store(),
-        name,
-        goal,
-        out,
-    )
+    let part = whole_part(alloc, records, taker, name)?;
+    write_given_to(alloc, records, &part, core.store(), goal, out)
 }
 
 // Writes how the call of this name went on that was made, and the call with its variables replaced.
@@ -264,14 +276,13 @@ fn write_call(
     out: &mut String,
 ) -> Result<(), Fault>
     requires settled { IsSettled core.now.world core.now.notes }
-    requires taken { IfSome taker (λ r. In r.now core.now.world.kept × (r.now.goal ≡ Some name) × (r.now.consumed ≡ Some goal.now)) }
-    requires there { IfNone taker (finite.get core.now.world.state.goals name ≡ Some goal.now) }
+    requires taken { IsTakenOrThere core.now.world name goal.now (option_copied taker) }
     ensures text { OnOk result ((text : List ℕ) × TellsCall core.now.world name goal.now text × (string_bytes out.new ≡ string_bytes out.old ++ text)) }
     ensures begun { StartsWith (string_bytes out.new) (string_bytes out.old) }
     ensures refused { IfErr result (λ fault. (fault ≡ Fault.Memory) ⊎ (fault ≡ Fault.Limit Limit.Print)) }
     ensures too_long { result ≡ Err (Fault.Limit Limit.Print) → HasTooLongText core.now.world name goal.now }
 {
-    match write_given_by_all(alloc, core, name, goal, out) {
+    match write_given_by_all(alloc, core, name, goal, taker, out) {
         Ok(()) => {}
         Err(fault) => return Err(fault),
     }
@@ -283,7 +294,8 @@ fn write_call(
 
 /// Writes what the goal of this name was given at the end of `out`, and what it gave, where a kept step took it; or its status, where
 /// it is there. It fails where memory is refused, or else, by the limit `print`, where a text is longer than is printed. Then `out`
-/// stays as it was. It costs a few look-ups for each kept step, what `slice` costs for the steps that gave to it, and the texts.
+/// stays as it was. It costs a few look-ups for each step of the goal's part and each that depends directly on one (where the index of
+/// the record is not whole, for each kept step), what `slice` costs for the steps that gave to it, and the texts.
 pub fn push_call(
     alloc: Global,
     core: &Core,

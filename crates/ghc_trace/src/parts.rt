@@ -1,10 +1,10 @@
 // The part of a goal: the kept steps whose goals descend from it.
-ghost use Rattle.std.specs.Prelude.{◌≡◌, ◌≢◌, ◌↔◌, ℕ, List, Some, IfOk, IfNone, IfSome, IsTrue};
+ghost use Rattle.std.specs.Prelude.{◌≡◌, ◌≢◌, ◌↔◌, ◌<◌, ℕ, List, Some, IfOk, IfNone, IfSome, IsTrue, length, option_copied};
 ghost use Rattle.ghc_term.specs.Lists.{In};
 ghost use Rattle.ghc_flat.specs.Clause.{Program, Query};
 ghost use Rattle.ghc_records.specs.Record.{Record as record_spec, State, numbers};
 ghost use Rattle.ghc_records.specs.Replay.{Replays};
-ghost use Rattle.ghc_records.specs.inner.Slots.{StandsIn};
+ghost use Rattle.ghc_records.specs.UseIndex.{StepDependsOn};
 ghost use Rattle.ghc_depend.specs.Depend.{IsKeptAs};
 ghost use Rattle.ghc_trace.specs.Parts.{ArePartNumbers};
 ghost use Rattle.ghc_trace.specs.inner.PartsCode.{AreKeptAs, IsTakenUp};
@@ -14,8 +14,8 @@ use ghc_term::GoalName;
 use std::alloc::{AllocError, Global};
 use std::collections::BTreeSet;
 
-// Whether the step took this goal, or one that a step of the part made.
-fn is_of_part(part: &BTreeSet<u32>, step: &Record, goal: GoalName) -> bool
+/// Whether the step took this goal, or one that a step of the part made.
+pub(crate) fn is_of_part(part: &BTreeSet<u32>, step: &Record, goal: GoalName) -> bool
     ensures { IsTrue result ↔ IsTakenUp goal part.now.keys step.now }
 {
     let Some(taken) = step.goal() else {
@@ -65,34 +65,68 @@ pub(crate) fn all_numbers(alloc: Global, records: &Records) -> Result<Vec<u32>, 
     Ok(all)
 }
 
-// The step at this place, if it took the goal.
-fn taker_at(records: &Records, place: usize, goal: GoalName) -> Option<&Record>
-    ensures found { IfSome result (λ r. In r.now records.now.held × (r.now.goal ≡ Some goal)) }
-    ensures none { IfNone result ((r : record_spec) → StandsIn records.now.slots place r → r.goal ≢ Some goal) }
+// The step, if there is one and it took the goal.
+fn if_it_took(step: Option<&Record>, goal: GoalName) -> Option<&Record>
+    ensures { (r : record_spec) → (option_copied result ≡ Some r) ↔ ((option_copied step.entry ≡ Some r) × (r.goal ≡ Some goal)) }
 {
-    let _count = records.len();
-    let Some(step) = records.at(place) else {
+    let Some(found) = step else {
         return None;
     };
-    let Some(taken) = step.goal() else {
+    let Some(taken) = found.goal() else {
         return None;
     };
     if taken != goal {
         return None;
     }
-    Some(step)
+    Some(found)
 }
 
-/// The kept step that took the goal of this name, if one did: one step for each place.
-pub fn taker_of(records: &Records, goal: GoalName) -> Option<&Record>
+// The kept step that took the goal, if one did, by a search: one step for each place.
+fn taker_by_search(records: &Records, goal: GoalName) -> Option<&Record>
     ensures found { IfSome result (λ r. In r.now records.now.held × (r.now.goal ≡ Some goal)) }
     ensures none { IfNone result ((r : record_spec) → In r records.now.held → r.goal ≢ Some goal) }
 {
     let _count = records.len();
     for place in 0..records.places() {
-        if let Some(step) = taker_at(records, place, goal) {
+        if let Some(step) = if_it_took(records.at(place), goal) {
             return Some(step);
         }
     }
     None
+}
+
+// Of the kept steps of these numbers the one that took the goal, if one did: one look-up for each.
+fn taker_among<'a>(records: &'a Records, numbers: &[u32], goal: GoalName) -> Option<&'a Record>
+    ensures found { IfSome result (λ r. In r.now records.now.held × In r.now.number numbers.now × (r.now.goal ≡ Some goal)) }
+    ensures none { IfNone result ((r : record_spec) → In r records.now.held → In r.number numbers.now → r.goal ≢ Some goal) }
+{
+    let _count = records.len();
+    for number in numbers {
+        if let Some(step) = if_it_took(records.get(*number), goal) {
+            return Some(step);
+        }
+    }
+    None
+}
+
+// The kept step that took the goal and depends directly on the one that the goal names as its maker, if one does: one look-up for each
+// step that depends directly on that one. None also where the index is not whole.
+fn taker_by_users(records: &Records, goal: GoalName) -> Option<&Record>
+    ensures found { IfSome result (λ r. In r.now records.now.held × (r.now.goal ≡ Some goal)) }
+    ensures none { IfNone result ((r : record_spec) → StepDependsOn records.now.held r.number goal.step → In r records.now.held → r.goal ≡ Some goal → records.now.indexed < length records.now.slots) }
+{
+    let users = records.users_of(goal.step)?;
+    taker_among(records, users, goal)
+}
+
+/// The kept step that took the goal of this name, if one did. Where a kept step made the goal, one took it, and the index is whole, it
+/// costs one look-up for each step that depends directly on the maker; else one step for each place up to where it is found.
+pub fn taker_of(records: &Records, goal: GoalName) -> Option<&Record>
+    ensures found { IfSome result (λ r. In r.now records.now.held × (r.now.goal ≡ Some goal)) }
+    ensures none { IfNone result ((r : record_spec) → In r records.now.held → r.goal ≢ Some goal) }
+{
+    match taker_by_users(records, goal) {
+        Some(step) => Some(step),
+        None => taker_by_search(records, goal),
+    }
 }

@@ -7,8 +7,8 @@ use ghc_records::Records;
 use std::alloc::{AllocError, Global};
 use std::collections::BTreeSet;
 
-// Adds the places of the kept steps of these numbers: one look-up for each.
-fn add_numbered(
+/// Adds the places of the kept steps of these numbers: one look-up for each.
+pub(crate) fn add_numbered(
     places: &mut BTreeSet<usize>,
     records: &Records,
     ns: &[u32],

@@ -1,5 +1,8 @@
 -- How the part of a goal is gone through, and how it is found what its call was given.
-use Rattle.std.specs.Prelude.{◌≡◌, ◌≢◌, ◌⊎◌, ◌↔◌, ℕ, Bool, true, false, List, [], codes, Option, None, Some}
+use Rattle.std.specs.Prelude.{◌≡◌, ◌≢◌, ◌⊎◌, ◌↔◌, ℕ, Bool, true, false, List, [], ◌∷◌, ◌++◌, codes, Option, None, Some}
+use Rattle.std.specs.BTreeSet.{insert_key}
+use Rattle.std.specs.FinMap as finite
+use Rattle.std.specs.Ordering.{nat_cmp}
 use Rattle.ghc_term.specs.declared.var_name.VarName.{VarName}
 use Rattle.ghc_term.specs.declared.goal_name.GoalName.{GoalName}
 use Rattle.ghc_term.specs.Goal.{Goal}
@@ -7,11 +10,18 @@ use Rattle.ghc_term.specs.Store.{StoreValue}
 use Rattle.ghc_term.specs.Tree.{Tree}
 use Rattle.ghc_term.specs.Lists.{In}
 use Rattle.ghc_records.specs.Orders.{Picks}
-use Rattle.ghc_records.specs.Record.{Record, numbers}
+use Rattle.ghc_flat.specs.Clause.{Program, Query}
+use Rattle.ghc_flat.specs.Flat.{IsQuery}
+use Rattle.ghc_records.specs.Record.{Record, State, numbers}
+use Rattle.ghc_records.specs.Replay.{Replays}
+use Rattle.ghc_records.specs.inner.Slots.{SlotList}
 use Rattle.ghc_records.specs.UseIndex.{StepBinds}
 use Rattle.ghc_fire.specs.Asked.{variables_asked}
 use Rattle.ghc_depend.specs.Depend.{Binds, DependsOn, Follows, MakesVariable}
+use Rattle.ghc_depend.specs.Parts.{IsReachedInto}
+use Rattle.ghc_depend.specs.inner.Places.{HasPlacesOfUsers}
 use Rattle.ghc_core.specs.World.{IsReplay, World}
+use Rattle.ghc_trace.specs.Parts.{ArePartNumbers}
 
 -- These are the numbers of the records rs, which are kept.
 pub record AreKeptAs (kept rs : List Record) (ns : List ℕ) : Type 0 where
@@ -73,3 +83,32 @@ turns_text false = []
 -- Of the records rs, these are the numbers of those of which P holds, in their order.
 abbrev pub ArePickedNumbers : (Record → Type 0) → List Record → List ℕ → Type 0
 ArePickedNumbers P rs ns = (found : List Record) × Picks P rs found × (numbers found ≡ ns)
+
+-- The number n was put at the end if P holds, and else nothing.
+abbrev pub IsPutIf : Type 0 → ℕ → List ℕ → List ℕ → Type 0
+IsPutIf P n old new = (P × (new ≡ old ++ n ∷ [])) ⊎ ((¬ P) × (new ≡ old))
+
+-- If the step took the goal g, or one that a step of these numbers made, its number was put to these, and the places of the steps that depend directly on it to those that are ahead; else nothing was put.
+abbrev pub IsTaken : SlotList → GoalName → Record → List ℕ → List ℕ → List ℕ → List ℕ → Type 0
+IsTaken ss g r old new ahead next =
+    (IsTakenUp g old r × (new ≡ insert_key nat_cmp old r.number) × HasPlacesOfUsers ss r.number ahead next)
+    ⊎ ((¬ IsTakenUp g old r) × (new ≡ old) × (next ≡ ahead))
+
+-- The kept step took the goal g; where no step is given, none took it.
+abbrev pub IsTakerIn : List Record → GoalName → Option Record → Type 0
+IsTakerIn kept g (Some r) = In r kept × (r.goal ≡ Some g)
+IsTakerIn kept g None = (r : Record) → In r kept → r.goal ≢ Some g
+
+-- The kept step took the goal b, named g; where no step is given, the goal is there.
+abbrev pub IsTakenOrThere : World → GoalName → Goal → Option Record → Type 0
+IsTakenOrThere w g b (Some r) = In r w.kept × (r.goal ≡ Some g) × (r.consumed ≡ Some b)
+IsTakenOrThere w g b None = finite.get w.state.goals g ≡ Some b
+
+-- These are the numbers of the steps of the part of the goal g, and of the asks that reach into it.
+pub record IsPartOf (kept : List Record) (g : GoalName) (steps asks : List ℕ) : Type 0 where
+  pub numbered : ArePartNumbers kept g steps
+  pub reaching : ArePickedNumbers (IsReachedInto kept g) kept asks
+
+-- So it is wherever the kept steps replay from a query that was accepted.
+abbrev pub IsPartFound : List Record → GoalName → List ℕ → List ℕ → Type 0
+IsPartFound kept g steps asks = (P : Program) (query : Query) (t : State) → IsQuery P query → Replays P query kept t → IsPartOf kept g steps asks
