@@ -50,6 +50,7 @@ d(N,X,Y,Z) :- N > 0 | M := N - 1, d(M,{},{},Z).
 LISTED = """listed(0,X,Y) :- true | X = [Y].
 listed(N,X,Y) :- N > 0 | M := N - 1, X = [a|Z], listed(M,Z,Y).
 """
+
 # A small call, and a count beside it.
 BESIDE = """start(N) :- true | p(_), count(N).
 p(X) :- true | X = a.
