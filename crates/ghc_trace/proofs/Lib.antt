@@ -33,6 +33,7 @@ pub mod CallsBelow
 pub mod CallCounts
 pub mod CallWeights
 pub mod CallAnswers
+pub mod CallTops
 pub mod Places
 pub mod Descending
 pub mod Blamed

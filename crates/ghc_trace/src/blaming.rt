@@ -12,13 +12,14 @@ ghost use Rattle.ghc_trace.specs.Laws.{IsSettled};
 ghost use Rattle.ghc_trace.specs.inner.BlameCode.{IsAskedAbout, IsNameOfTop};
 ghost use Rattle.ghc_trace.specs.inner.BlameLinesCode.{IsAbout, IsAboutSlice, IsToldBehind};
 
+use crate::answered::are_about_calls;
 use crate::blame_lines::{Told, write_fault_of_call, write_fault_of_query, write_question};
 use crate::given::slice_of;
 use crate::given_goal::slice_of_goal;
 use crate::judgements::{Answer, Subject};
 use crate::next_question::next_question;
 use crate::place_slices::slice_of_place;
-use crate::questions::{are_about_calls, questions_of};
+use crate::questions::questions_of;
 use crate::slice_calls::{calls_of, is_call};
 use crate::slice_store::store_after;
 use ghc_core::Core;
