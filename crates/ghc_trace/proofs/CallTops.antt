@@ -13,8 +13,8 @@ use Rattle.ghc_trace.specs.declared.answered.ToldWrong.{ToldWrong}
 use Rattle.ghc_trace.specs.declared.judgements.Answer.{Answer}
 use Rattle.ghc_trace.specs.declared.judgements.Judgement.TheVariants.{Right, Wrong}
 use Rattle.ghc_trace.specs.declared.slice_calls.Call.{Call}
-use Rattle.ghc_trace.specs.declared.tops.WrongLast.{WrongLast}
-use Rattle.ghc_trace.specs.inner.BlameCode.{AreCallsOf, AreToldWrong, AreWrongLast, ComesAfter, HasNothing, IsLaterOf, IsNameOfTop, IsNotEarlier, IsNotedFor, IsToldWrong, IsWrongLast, NotesAnswer, NotesLater, StandAtTheirPlaces, StandBelow, StandsAtPlace}
+use Rattle.ghc_trace.specs.declared.tops.LastBelow.{LastBelow}
+use Rattle.ghc_trace.specs.inner.BlameCode.{AreCallsOf, AreToldWrong, AreLastBelow, ComesAfter, HasNothing, IsLaterOf, IsNameOfTop, IsNotEarlier, IsNotedFor, IsToldWrong, IsLastOf, NotesAnswer, NotesLater, StandAtTheirPlaces, StandBelow, StandsAtPlace}
 
 -- ---- the one that was told wrong last
 
@@ -24,11 +24,11 @@ wider calls told Q R on None h = tt
 wider calls told Q R on (Some w) (c, at, q, is) = (c, at, on c.name q, is)
 
 -- Of the same goals it is the same.
-pub last_as : (calls : List Call) (told : List Answer) (Q R : GoalName → Type 0) (o : Option ToldWrong) → ((g : GoalName) → Q g ↔ R g) → IsWrongLast calls told Q o → IsWrongLast calls told R o
+pub last_as : (calls : List Call) (told : List Answer) (Q R : GoalName → Type 0) (o : Option ToldWrong) → ((g : GoalName) → Q g ↔ R g) → IsLastOf calls told Q o → IsLastOf calls told R o
 last_as calls told Q R o same (here, after) = (wider calls told Q R (λ g q. (same g).0 q) o here, λ j a behind at wrong r. after j a behind at wrong ((same a.goal).1 r))
 
 -- Of no goals it is none.
-pub last_none : (calls : List Call) (told : List Answer) (Q : GoalName → Type 0) → ((g : GoalName) → ¬ Q g) → IsWrongLast calls told Q None
+pub last_none : (calls : List Call) (told : List Answer) (Q : GoalName → Type 0) → ((g : GoalName) → ¬ Q g) → IsLastOf calls told Q None
 last_none calls told Q none = (tt, λ j a behind at wrong q. none a.goal q)
 
 after_later : (a o : Option ToldWrong) (j : ℕ) → IsNotEarlier a o → ComesAfter o j → ComesAfter a j
@@ -37,8 +37,8 @@ after_later (Some w) None j over behind = absurd over
 after_later (Some w) (Some v) j over behind = omega (arith, over, behind)
 
 -- Of both properties' goals it is the later of the two.
-pub last_both : (calls : List Call) (told : List Answer) (Q R : GoalName → Type 0) (a b o : Option ToldWrong) → IsLaterOf a b o → IsWrongLast calls told Q a → IsWrongLast calls told R b
-    → IsWrongLast calls told (λ g. Q g ⊎ R g) o
+pub last_both : (calls : List Call) (told : List Answer) (Q R : GoalName → Type 0) (a b o : Option ToldWrong) → IsLaterOf a b o → IsLastOf calls told Q a → IsLastOf calls told R b
+    → IsLastOf calls told (λ g. Q g ⊎ R g) o
 last_both calls told Q R a b o (chosen, over_a, over_b) (here, after) (there, behind) = (
   elim chosen [
     | inl same ↦ subst (λ z. IfSome z (IsToldWrong calls told (λ g. Q g ⊎ R g))) (sym same) (wider calls told Q (λ g. Q g ⊎ R g) (λ g q. inl q) a here)
@@ -53,8 +53,8 @@ last_both calls told Q R a b o (chosen, over_a, over_b) (here, after) (there, be
 -- ---- what each answer tells
 
 -- An answer more that tells none of the goals wrong changes nothing.
-pub last_still : (calls : List Call) (told : List Answer) (a : Answer) (Q : GoalName → Type 0) (o : Option ToldWrong) → (a.judgement ≡ Wrong → ¬ Q a.goal) → IsWrongLast calls told Q o
-    → IsWrongLast calls (told ++ a ∷ []) Q o
+pub last_still : (calls : List Call) (told : List Answer) (a : Answer) (Q : GoalName → Type 0) (o : Option ToldWrong) → (a.judgement ≡ Wrong → ¬ Q a.goal) → IsLastOf calls told Q o
+    → IsLastOf calls (told ++ a ∷ []) Q o
 last_still calls told a Q o none (here, after) = (
   kept o here,
   λ j b behind at wrong q. elim (at_more told a b j at) [
@@ -69,7 +69,7 @@ last_still calls told a Q o none (here, after) = (
 
 -- One that tells a call wrong is the last that does.
 pub last_now : (calls : List Call) (told : List Answer) (a : Answer) (p : ℕ) (c : Call) → StandsAtPlace calls p c → a ≡ record { goal = c.name; judgement = Wrong }
-    → IsWrongLast calls (told ++ a ∷ []) (λ g. g ≡ c.name) (Some (record { call = p; answer = length told }))
+    → IsLastOf calls (told ++ a ∷ []) (λ g. g ≡ c.name) (Some (record { call = p; answer = length told }))
 last_now calls told a p c at is = (
   (c, at, refl, at_last told a ∙ ap Some is),
   λ j b behind there wrong same. elim (at_more told a b j there) [
@@ -88,7 +88,7 @@ nothing_there count i o there =
 
 -- Before the first answer none was told wrong.
 pub none_told : (calls : List Call) (count : ℕ) → AreToldWrong calls [] (replicate count None)
-none_told calls count i c o at there = subst (IsWrongLast calls [] (λ g. g ≡ c.name)) (sym (nothing_there count i o there)) (tt, λ j a behind at_j wrong same. let clash : None ≡ Some a = at_j in cc)
+none_told calls count i c o at there = subst (IsLastOf calls [] (λ g. g ≡ c.name)) (sym (nothing_there count i o there)) (tt, λ j a behind at_j wrong same. let clash : None ≡ Some a = at_j in cc)
 
 -- With one answer more, it is noted under the place of the call that this one tells wrong, if it tells one of them wrong.
 module _ (calls : List Call) (told : List Answer) (a : Answer) (wrong : List (Option ToldWrong)) (long : length wrong ≡ length calls) where
@@ -118,8 +118,8 @@ module _ (calls : List Call) (told : List Answer) (a : Answer) (wrong : List (Op
       | inl same ↦
           let one : d ≡ found.1.0 = same_value (subst (λ z. StandsAtPlace calls z d) same at_d) found.1.1 in
           let value : o ≡ now = same_value (subst (λ z. slice_get (slice_set wrong p now) z ≡ Some o) same there) stands_there in
-          subst (IsWrongLast calls (told ++ a ∷ []) (λ g. g ≡ d.name)) (sym value)
-          (subst (λ (z : Call). IsWrongLast calls (told ++ a ∷ []) (λ g. g ≡ z.name) now) (sym one) (last_now calls told a p found.1.0 found.1.1 is_word))
+          subst (IsLastOf calls (told ++ a ∷ []) (λ g. g ≡ d.name)) (sym value)
+          (subst (λ (z : Call). IsLastOf calls (told ++ a ∷ []) (λ g. g ≡ z.name) now) (sym one) (last_now calls told a p found.1.0 found.1.1 is_word))
       | inr other ↦
           let old : slice_get wrong i ≡ Some o = sym (set_other wrong p i now other) ∙ there in
           last_still calls told a (λ g. g ≡ d.name) o (λ _ same. other (once i p d found.1.0 at_d found.1.1 (sym same ∙ sym found.1.2))) (h i d o at_d old)
@@ -163,7 +163,7 @@ same_place (Some a) None = inr (λ e. let clash : None ≡ Some a = sym e in cc)
 same_place (Some a) (Some b) = elim (cases_eq a b) [ inl e ↦ inl (ap Some e) | inr other ↦ inr (λ e. let same : a ≡ b = cc in other same) ]
 
 -- Something, or nothing, is noted for each.
-noted_there : (last : WrongLast) (place : Option ℕ) → IfSome place (λ p. p < length last.calls.items) → (o : Option ToldWrong) × IsNotedFor last place o
+noted_there : (last : LastBelow) (place : Option ℕ) → IfSome place (λ p. p < length last.calls.items) → (o : Option ToldWrong) × IsNotedFor last place o
 noted_there last None low = (last.query, refl)
 noted_there last (Some p) low = (get_or last.calls.items p None, slice_get-get_or last.calls.items p None low)
 
@@ -172,11 +172,11 @@ within_more None j n low h = tt
 within_more (Some p) j n low h = omega (arith, low, h)
 
 -- At first nothing is noted.
-pub below_none : (count : ℕ) (last : WrongLast) → HasNothing count last → StandBelow count last
+pub below_none : (count : ℕ) (last : LastBelow) → HasNothing count last → StandBelow count last
 below_none count last h = record { long = h.0; below = λ place w noted. let clash : None ≡ Some w = sym (h.1 place (Some w) noted) in cc }
 
 -- Of what is told of a call and what is noted for it, the later stands there or below.
-pub later_within : (count j : ℕ) (last : WrongLast) (below own mine : Option ToldWrong) → j < count → StandBelow count last → IsNotedFor last (Some j) below → IfSome own (λ w. w.call ≡ j)
+pub later_within : (count j : ℕ) (last : LastBelow) (below own mine : Option ToldWrong) → j < count → StandBelow count last → IsNotedFor last (Some j) below → IfSome own (λ w. w.call ≡ j)
     → IsLaterOf below own mine → IfSome mine (λ w. (j ≤ w.call) × (w.call < count))
 later_within count j last below own mine low h noted at_j later = elim later.0 [
   | inl same ↦ subst (λ z. IfSome z (λ w. (j ≤ w.call) × (w.call < count))) (sym same) (of_below below noted)
@@ -192,7 +192,7 @@ later_within count j last below own mine low h noted at_j later = elim later.0 [
     of_own (Some w) is = (omega (arith, is), omega (arith, is, low))
 
 -- The later is noted for the maker.
-pub below_more : (count j : ℕ) (maker : Option ℕ) (old new : WrongLast) (mine : Option ToldWrong) → j < count → StandBelow count old → IfSome maker (λ p. p < j)
+pub below_more : (count j : ℕ) (maker : Option ℕ) (old new : LastBelow) (mine : Option ToldWrong) → j < count → StandBelow count old → IfSome maker (λ p. p < j)
     → IfSome mine (λ w. (j ≤ w.call) × (w.call < count)) → NotesLater maker mine old new → StandBelow count new
 below_more count j maker old new mine low h before within notes = record {
   long = notes.0 ∙ h.long;
@@ -218,8 +218,8 @@ IsBelowFrom rs t target told calls from maker x = (j : ℕ) × (d : Call) × (fr
     × (IsInQuestion rs t target told (Some d.name) x ⊎ (x ≡ d.name))
 
 -- The calls from this place on have handed to their makers which was told wrong last.
-abbrev pub AreHandedFrom : List Record → State → Option GoalName → List Answer → List Call → ℕ → WrongLast → Type 0
-AreHandedFrom rs t target told calls from last = (place : Option ℕ) (o : Option ToldWrong) → IsNotedFor last place o → IsWrongLast calls told (IsBelowFrom rs t target told calls from place) o
+abbrev pub AreHandedFrom : List Record → State → Option GoalName → List Answer → List Call → ℕ → LastBelow → Type 0
+AreHandedFrom rs t target told calls from last = (place : Option ℕ) (o : Option ToldWrong) → IsNotedFor last place o → IsLastOf calls told (IsBelowFrom rs t target told calls from place) o
 
 module _ (P : Program) (query : Query) (rs : List Record) (t : State) (replay : Replays P query rs t) (target : Option GoalName) (calls : List Call) (h : AreCallsOf rs t target calls) (told : List Answer) where
   -- What is in question below a top is so by a call that has this maker.
@@ -240,10 +240,14 @@ module _ (P : Program) (query : Query) (rs : List Record) (t : State) (replay : 
     -- What is in question below d is so above the call c that is made there.
     onward : (j : ℕ) (d : Call) → StandsAtPlace calls j d → (p : ℕ) (e : Call) → StandsAtPlace calls p e → IsInQuestion rs t target told (Some d.name) e.name ⊎ (e.name ≡ d.name)
         → (i : ℕ) (c : Call) → StandsAtPlace calls i c → c.maker ≡ Some p → ¬ IsTold told c.name Right → IsInQuestion rs t target told (Some d.name) c.name
-    onward j d at p e at_e either i c at_c made not = in_question_if P query rs t replay target calls h told (Some j) (Some d.name) (d, at, refl) i c at_c (inr (p, made, elim either [
-      | inl q ↦ inr (e, at_e, q)
-      | inr same ↦ inl (ap Some (h.once j p d e at at_e (sym same)))
-    ])) not
+    onward j d at p e at_e either i c at_c made not = in_question_if P query rs t replay target calls h told (Some j) (Some d.name) (d, at, refl) i c at_c (inr (
+      p,
+      made,
+      elim either [
+        | inl q ↦ inr (e, at_e, q)
+        | inr same ↦ inl (ap Some (h.once j p d e at at_e (sym same)))
+      ],
+    )) not
 
     from_top : (n i : ℕ) (c : Call) → i < n → StandsAtPlace calls i c → IsInQuestion rs t target told top c.name → IsBelowFrom rs t target told calls from place c.name
     from_top zero i c low at q = absurd (omega (arith, low))
@@ -269,14 +273,14 @@ module _ (P : Program) (query : Query) (rs : List Record) (t : State) (replay : 
     )
 
   -- At first none has handed anything.
-  pub handed_first : (last : WrongLast) → HasNothing (length calls) last → AreHandedFrom rs t target told calls (length calls) last
+  pub handed_first : (last : LastBelow) → HasNothing (length calls) last → AreHandedFrom rs t target told calls (length calls) last
   handed_first last nothing place o noted =
-      subst (IsWrongLast calls told (IsBelowFrom rs t target told calls (length calls) place)) (sym (nothing.1 place o noted)) (last_none calls told (IsBelowFrom rs t target told calls (length calls) place) (λ g (j, d, high, at, made, fine, either).
+      subst (IsLastOf calls told (IsBelowFrom rs t target told calls (length calls) place)) (sym (nothing.1 place o noted)) (last_none calls told (IsBelowFrom rs t target told calls (length calls) place) (λ g (j, d, high, at, made, fine, either).
       let low = slice_get_within calls j d at in
       omega (arith, high, low)))
 
   -- In the end what is noted is the last of all in question.
-  pub handed_all : (last : WrongLast) → AreHandedFrom rs t target told calls 0 last → AreWrongLast rs t target told calls last
+  pub handed_all : (last : LastBelow) → AreHandedFrom rs t target told calls 0 last → AreLastBelow rs t target told calls last
   handed_all last handed place top o named noted =
       last_as calls told (IsBelowFrom rs t target told calls 0 place) (IsInQuestion rs t target told top) o (whole place top named 0 (λ j d at made. omega arith)) (handed place o noted)
 
@@ -293,7 +297,7 @@ module _ (P : Program) (query : Query) (rs : List Record) (t : State) (replay : 
       ]),
     )
 
-    pub handed_still : (last : WrongLast) → IsTold told d.name Right → AreHandedFrom rs t target told calls (j + 1) last → AreHandedFrom rs t target told calls j last
+    pub handed_still : (last : LastBelow) → IsTold told d.name Right → AreHandedFrom rs t target told calls (j + 1) last → AreHandedFrom rs t target told calls j last
     handed_still last right handed place o noted =
         last_as calls told (IsBelowFrom rs t target told calls (j + 1) place) (IsBelowFrom rs t target told calls j place) o (as_before place (λ made. right)) (handed place o noted)
 
@@ -314,8 +318,8 @@ module _ (P : Program) (query : Query) (rs : List Record) (t : State) (replay : 
     )
 
     -- The call hands to its maker what was told wrong later: itself, or what is noted for it.
-    pub handed_more : (old new : WrongLast) (below own mine : Option ToldWrong) → IfSome d.maker (λ p. p < length old.calls.items) → ¬ IsTold told d.name Right
-        → AreHandedFrom rs t target told calls (j + 1) old → IsNotedFor old (Some j) below → IsWrongLast calls told (λ g. g ≡ d.name) own → IsLaterOf below own mine → NotesLater d.maker mine old new
+    pub handed_more : (old new : LastBelow) (below own mine : Option ToldWrong) → IfSome d.maker (λ p. p < length old.calls.items) → ¬ IsTold told d.name Right
+        → AreHandedFrom rs t target told calls (j + 1) old → IsNotedFor old (Some j) below → IsLastOf calls told (λ g. g ≡ d.name) own → IsLaterOf below own mine → NotesLater d.maker mine old new
         → AreHandedFrom rs t target told calls j new
     handed_more old new below own mine within not handed noted is_own later notes place o now = elim (same_place place d.maker) [
       | inl same ↦
@@ -326,7 +330,7 @@ module _ (P : Program) (query : Query) (rs : List Record) (t : State) (replay : 
           let of_maker = notes.1 v.0 o v.1 (subst (λ p. IsNotedFor new p o) same now) in
           let joined =
           last_both calls told (IsBelowFrom rs t target told calls (j + 1) d.maker) (λ x. IsInQuestion rs t target told (Some d.name) x ⊎ (x ≡ d.name)) v.0 mine o of_maker (handed d.maker v.0 v.1) of_mine in
-          subst (λ p. IsWrongLast calls told (IsBelowFrom rs t target told calls j p) o) (sym same)
+          subst (λ p. IsLastOf calls told (IsBelowFrom rs t target told calls j p) o) (sym same)
           (last_as calls told (λ x. IsBelowFrom rs t target told calls (j + 1) d.maker x ⊎ (IsInQuestion rs t target told (Some d.name) x ⊎ (x ≡ d.name))) (IsBelowFrom rs t target told calls j d.maker) o (with_call not) joined)
       | inr other ↦ last_as calls told (IsBelowFrom rs t target told calls (j + 1) place) (IsBelowFrom rs t target told calls j place) o (as_before place (λ made. absurd (other (sym made)))) (handed place o (notes.2 place o other now))
     ]
@@ -335,7 +339,7 @@ module _ (P : Program) (query : Query) (rs : List Record) (t : State) (replay : 
 
 -- The place is of a top that is reached, and this is the next one.
 abbrev pub IsOnTheWay : List Record → State → Option GoalName → List Answer → List Call → Option ℕ → Option ToldWrong → Type 0
-IsOnTheWay rs t target told calls place next = (top : Option GoalName) × IsNameOfTop calls place top × IsReached rs t target told top × IsWrongLast calls told (IsInQuestion rs t target told top) next
+IsOnTheWay rs t target told calls place next = (top : Option GoalName) × IsNameOfTop calls place top × IsReached rs t target told top × IsLastOf calls told (IsInQuestion rs t target told top) next
 
 -- how many calls are left, from the next one on
 abbrev pub left_from : ℕ → Option ToldWrong → ℕ
@@ -347,7 +351,7 @@ in_drop xs zero x i = let r = at_of_in xs x i in (r.0, omega arith, r.1)
 in_drop [] (suc n) x i = absurd i
 in_drop (y ∷ xs) (suc n) x i = let r = in_drop xs n x i in let high = r.1 in (suc r.0, omega (arith, high), r.2)
 
-module _ (rs : List Record) (t : State) (target : Option GoalName) (told : List Answer) (calls : List Call) (last : WrongLast) (are : AreWrongLast rs t target told calls last) where
+module _ (rs : List Record) (t : State) (target : Option GoalName) (told : List Answer) (calls : List Call) (last : LastBelow) (are : AreLastBelow rs t target told calls last) where
   -- It begins at the query.
   pub way_begins : IsOnTheWay rs t target told calls None last.query
   way_begins = (None, refl, from_query, are None None last.query refl refl)
@@ -355,9 +359,9 @@ module _ (rs : List Record) (t : State) (target : Option GoalName) (told : List 
   -- It goes on to the next.
   pub way_goes_on : (place : Option ℕ) (w : ToldWrong) (next : Option ToldWrong) → IsOnTheWay rs t target told calls place (Some w) → slice_get last.calls.items w.call ≡ Some next
       → IsOnTheWay rs t target told calls (Some w.call) next
-  way_goes_on place w next (top, named, reached, wrong_last) noted =
-      let (c, at, q, here) = wrong_last.0 in
-      let after = wrong_last.1 in
+  way_goes_on place w next (top, named, reached, last_below) noted =
+      let (c, at, q, here) = last_below.0 in
+      let after = last_below.1 in
       let i = w.answer in
       let word : Answer = record { goal = c.name; judgement = Wrong } in
       let value : word ≡ get_or told i word = sym (get_or_from_slice_get told i word word here) in
@@ -367,10 +371,10 @@ module _ (rs : List Record) (t : State) (target : Option GoalName) (told : List 
 
   -- It ends at the top.
   pub way_ends : (place : Option ℕ) → IsOnTheWay rs t target told calls place None → (top : Option GoalName) × IsNameOfTop calls place top × IsTop rs t target told top
-  way_ends place (top, named, reached, wrong_last) = (top, named, (reached, λ a i wrong. let at = at_of_in told a i in wrong_last.1 at.0 a tt at.1 wrong))
+  way_ends place (top, named, reached, last_below) = (top, named, (reached, λ a i wrong. let at = at_of_in told a i in last_below.1 at.0 a tt at.1 wrong))
 
 -- Each next one stands behind the one before.
-module _ (last : WrongLast) (h : StandBelow (length last.calls.items) last) where
+module _ (last : LastBelow) (h : StandBelow (length last.calls.items) last) where
   pub first_within : IfSome last.query (λ w. w.call < length last.calls.items)
   first_within = by_query last.query refl
     where

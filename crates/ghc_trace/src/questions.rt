@@ -74,7 +74,7 @@ pub(crate) struct Questions {
 }
 
 /// Which calls are in question by these answers: from the query on, below the call that was told wrong last of those in question. It
-/// goes over the calls twice, with some look-ups for each of them and for each answer.
+/// costs some look-ups for each call and for each answer.
 pub(crate) fn questions_of(
     alloc: Global,
     calls: &Calls,

@@ -7,7 +7,7 @@ ghost use Rattle.ghc_records.specs.Replay.{Replays};
 ghost use Rattle.ghc_trace.specs.declared.judgements.Answer.{Answer as answer_spec};
 ghost use Rattle.ghc_trace.specs.declared.slice_calls.Call.{Call as call_spec};
 ghost use Rattle.ghc_trace.specs.Blaming.{IsTop};
-ghost use Rattle.ghc_trace.specs.inner.BlameCode.{AreCallsOf, AreJudged, AreWrongLast, HasNothing, IsLaterOf, IsNameOfTop, NotesLater, StandBelow};
+ghost use Rattle.ghc_trace.specs.inner.BlameCode.{AreCallsOf, AreJudged, AreLastBelow, HasNothing, IsLaterOf, IsNameOfTop, NotesLater, StandBelow};
 
 use crate::answered::{ToldWrong, is_right, nothing_told, told_wrong_last};
 use crate::judgements::{Answer, Judgement};
@@ -18,7 +18,7 @@ use std::collections::BTreeMap;
 
 // Of the calls in question below the query, the one that was told wrong last; and so below each of the calls, by place.
 #[derive(Drop)]
-struct WrongLast {
+struct LastBelow {
     query: Option<ToldWrong>,
     calls: Vec<Option<ToldWrong>>,
 }
@@ -40,12 +40,12 @@ fn later(one: Option<ToldWrong>, other: Option<ToldWrong>) -> Option<ToldWrong>
     }
 }
 
-impl WrongLast {
+impl LastBelow {
     // Nothing yet, for the query and for each of so many calls.
-    fn new(alloc: Global, count: usize) -> Result<WrongLast, AllocError>
+    fn new(alloc: Global, count: usize) -> Result<LastBelow, AllocError>
         ensures { IfOk result (λ last. HasNothing count last) }
     {
-        Ok(WrongLast {
+        Ok(LastBelow {
             query: None,
             calls: nothing_told(alloc, count)?,
         })
@@ -65,8 +65,8 @@ impl WrongLast {
     // The top to which these lead: it goes from the query down, with one look for each call that it comes to.
     fn top(&self) -> Option<usize>
         requires { StandBelow (length self.now.calls.items) self.now }
-        ensures { (P : Program) (query : Query) (rs : List record_spec) (t : State) (target : Option goal_name) (told : List answer_spec) (calls : List call_spec) → Replays P query rs t
-            → AreCallsOf rs t target calls → AreWrongLast rs t target told calls self.now → (name : Option goal_name) × IsNameOfTop calls result name × IsTop rs t target told name }
+        ensures { (rs : List record_spec) (t : State) (target : Option goal_name) (told : List answer_spec) (calls : List call_spec) → AreLastBelow rs t target told calls self.now
+            → (name : Option goal_name) × IsNameOfTop calls result name × IsTop rs t target told name }
     {
         let mut top = None;
         let mut next = self.query;
@@ -80,18 +80,18 @@ impl WrongLast {
 
 // For the query and for each of the calls, which call was told wrong last of those in question below. From the last call on, each that is
 // not told right hands to its maker what was told wrong later: itself, or what is noted for it.
-fn wrong_last(
+fn last_below(
     alloc: Global,
     calls: &Calls,
     answers: &[Answer],
     judged: &BTreeMap<GoalName, Judgement>,
-) -> Result<WrongLast, AllocError>
+) -> Result<LastBelow, AllocError>
     ensures below { IfOk result (λ last. StandBelow (length calls.now.list.items) last) }
     ensures last { IfOk result (λ last. (P : Program) (query : Query) (rs : List record_spec) (t : State) (target : Option goal_name) → Replays P query rs t
-        → AreCallsOf rs t target calls.now.list.items → AreJudged answers.now judged.now → AreWrongLast rs t target answers.now calls.now.list.items last) }
+        → AreCallsOf rs t target calls.now.list.items → AreJudged answers.now judged.now → AreLastBelow rs t target answers.now calls.now.list.items last) }
 {
     let wrong = told_wrong_last(alloc, calls, answers)?;
-    let mut last = WrongLast::new(alloc, calls.list.len())?;
+    let mut last = LastBelow::new(alloc, calls.list.len())?;
     let mut place = calls.list.len();
     while place > 0 {
         place -= 1;
@@ -105,7 +105,7 @@ fn wrong_last(
 }
 
 /// The place of the call to which the answers lead, or nothing for the query: from the query on, of the calls in question below it the
-/// one that was told wrong last. It goes over the calls once, with some look-ups for each of them and for each answer.
+/// one that was told wrong last. It costs some look-ups for each call and for each answer.
 pub(crate) fn top_of(
     alloc: Global,
     calls: &Calls,
@@ -116,6 +116,6 @@ pub(crate) fn top_of(
         → AreCallsOf rs t target calls.now.list.items → AreJudged answers.now judged.now
         → (name : Option goal_name) × IsNameOfTop calls.now.list.items top name × IsTop rs t target answers.now name) }
 {
-    let last = wrong_last(alloc, calls, answers, judged)?;
+    let last = last_below(alloc, calls, answers, judged)?;
     Ok(last.top())
 }

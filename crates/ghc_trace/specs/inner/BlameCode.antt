@@ -16,7 +16,7 @@ use Rattle.ghc_trace.specs.declared.judgements.Answer.{Answer}
 use Rattle.ghc_trace.specs.declared.judgements.Judgement.{Judgement}
 use Rattle.ghc_trace.specs.declared.judgements.Judgement.TheVariants.{Right, Wrong}
 use Rattle.ghc_trace.specs.declared.slice_calls.Call.{Call}
-use Rattle.ghc_trace.specs.declared.tops.WrongLast.{WrongLast}
+use Rattle.ghc_trace.specs.declared.tops.LastBelow.{LastBelow}
 use Rattle.ghc_trace.specs.declared.next_question.Choice.{Choice}
 use Rattle.ghc_trace.specs.Blaming.{IsCall, IsCallOf, IsInQuestion, IsTold}
 
@@ -117,8 +117,8 @@ ComesAfter None j = Unit {0}
 ComesAfter (Some w) j = w.answer < j
 
 -- Of the goals with the property this is the call that was told wrong last; or none of them was told wrong, if there is none.
-abbrev pub IsWrongLast : List Call → List Answer → (GoalName → Type 0) → Option ToldWrong → Type 0
-IsWrongLast calls told named o = IfSome o (IsToldWrong calls told named) × ((j : ℕ) (a : Answer) → ComesAfter o j → slice_get told j ≡ Some a → a.judgement ≡ Wrong → ¬ named a.goal)
+abbrev pub IsLastOf : List Call → List Answer → (GoalName → Type 0) → Option ToldWrong → Type 0
+IsLastOf calls told named o = IfSome o (IsToldWrong calls told named) × ((j : ℕ) (a : Answer) → ComesAfter o j → slice_get told j ≡ Some a → a.judgement ≡ Wrong → ¬ named a.goal)
 
 -- Each stands at the place of its call.
 abbrev pub StandAtTheirPlaces : List (Option ToldWrong) → Type 0
@@ -131,7 +131,7 @@ NotesAnswer (Some p) j old new = new ≡ slice_set old p (Some (record { call = 
 
 -- For each call, by place, it is said whether it was told wrong, and by which answer last.
 abbrev pub AreToldWrong : List Call → List Answer → List (Option ToldWrong) → Type 0
-AreToldWrong calls told wrong = (i : ℕ) (c : Call) (o : Option ToldWrong) → StandsAtPlace calls i c → slice_get wrong i ≡ Some o → IsWrongLast calls told (λ g. g ≡ c.name) o
+AreToldWrong calls told wrong = (i : ℕ) (c : Call) (o : Option ToldWrong) → StandsAtPlace calls i c → slice_get wrong i ≡ Some o → IsLastOf calls told (λ g. g ≡ c.name) o
 
 -- The second was not told wrong before the first.
 abbrev pub IsNotEarlier : Option ToldWrong → Option ToldWrong → Type 0
@@ -144,29 +144,29 @@ abbrev pub IsLaterOf : Option ToldWrong → Option ToldWrong → Option ToldWron
 IsLaterOf one other o = ((o ≡ one) ⊎ (o ≡ other)) × IsNotEarlier one o × IsNotEarlier other o
 
 -- This is noted for the call at the place, or for the query, where no place is given.
-abbrev pub IsNotedFor : WrongLast → Option ℕ → Option ToldWrong → Type 0
+abbrev pub IsNotedFor : LastBelow → Option ℕ → Option ToldWrong → Type 0
 IsNotedFor last None o = last.query ≡ o
 IsNotedFor last (Some p) o = slice_get last.calls.items p ≡ Some o
 
 -- Nothing is noted, for the query and so many calls.
-abbrev pub HasNothing : ℕ → WrongLast → Type 0
+abbrev pub HasNothing : ℕ → LastBelow → Type 0
 HasNothing count last = (length last.calls.items ≡ count) × ((place : Option ℕ) (o : Option ToldWrong) → IsNotedFor last place o → o ≡ None)
 
 -- For the place the later of the two is noted now, and for others what was.
-abbrev pub NotesLater : Option ℕ → Option ToldWrong → WrongLast → WrongLast → Type 0
+abbrev pub NotesLater : Option ℕ → Option ToldWrong → LastBelow → LastBelow → Type 0
 NotesLater place wrong old new = (length new.calls.items ≡ length old.calls.items)
     × ((before now : Option ToldWrong) → IsNotedFor old place before → IsNotedFor new place now → IsLaterOf before wrong now)
     × ((other : Option ℕ) (now : Option ToldWrong) → other ≢ place → IsNotedFor new other now → IsNotedFor old other now)
 
 -- Each that is noted is one of so many calls, and stands behind the one for which it is noted.
-pub record StandBelow (count : ℕ) (last : WrongLast) : Type 0 where
+pub record StandBelow (count : ℕ) (last : LastBelow) : Type 0 where
   pub long : length last.calls.items ≡ count
   pub below : (place : Option ℕ) (w : ToldWrong) → IsNotedFor last place (Some w) → (w.call < count) × IfSome place (λ p. p < w.call)
 
 -- For the query and for each call, the call is noted that was told wrong last of those in question below.
-abbrev pub AreWrongLast : List Record → State → Option GoalName → List Answer → List Call → WrongLast → Type 0
-AreWrongLast rs t target told calls last = (place : Option ℕ) (top : Option GoalName) (o : Option ToldWrong) → IsNameOfTop calls place top → IsNotedFor last place o
-    → IsWrongLast calls told (IsInQuestion rs t target told top) o
+abbrev pub AreLastBelow : List Record → State → Option GoalName → List Answer → List Call → LastBelow → Type 0
+AreLastBelow rs t target told calls last = (place : Option ℕ) (top : Option GoalName) (o : Option ToldWrong) → IsNameOfTop calls place top → IsNotedFor last place o
+    → IsLastOf calls told (IsInQuestion rs t target told top) o
 
 -- one for a call in question, and nothing for another one
 abbrev pub one_of : Bool → ℕ

@@ -7,4 +7,4 @@ top-requires c = let below = c.in_ok-last.ensures.below in subst (λ n. StandBel
 
 pub returns : goal.returns
 returns c P query rs t target replay are judged =
-    c.top.ensures P query rs t target c.args.answers.now c.args.calls.now.list.items replay are (c.in_ok-last.ensures.last P query rs t target replay are judged)
+    c.top.ensures rs t target c.args.answers.now c.args.calls.now.list.items (c.in_ok-last.ensures.last P query rs t target replay are judged)

@@ -1,7 +1,7 @@
 use Rattle.ghc_trace.proofs.Words.{◌≤◌, List, length, Option, GoalName, Program, Query, State, Record, Replays}
 use Rattle.ghc_trace.specs.inner.BlameCode.{AreCallsOf, AreJudged, StandBelow}
 use Rattle.ghc_trace.proofs.CallTops.{AreHandedFrom}
-use Rattle.ghc_trace.proofs.tops.wrong_last.Given as goal
+use Rattle.ghc_trace.proofs.tops.last_below.Given as goal
 
 abbrev pub invariant-loop-place : goal.invariant-loop-place
 invariant-loop-place l = (l.place ≤ length l.calls.list.items) × StandBelow (length l.calls.list.items) l.last

@@ -3,7 +3,7 @@ use Rattle.std.proofs.lemmas.Option.{slice_get_read}
 use Rattle.std.specs.Prelude.{IfSome}
 use Rattle.ghc_trace.proofs.CallTops.{IsOnTheWay, fewer_left, first_within, left_from, next_within, way_begins, way_ends, way_goes_on}
 use Rattle.ghc_trace.specs.declared.answered.ToldWrong.{ToldWrong}
-use Rattle.ghc_trace.proofs.tops.WrongLast.top.Goals as goal
+use Rattle.ghc_trace.proofs.tops.LastBelow.top.Goals as goal
 
 pub loop-next-init : goal.loop-next-init
 loop-next-init c = (first_within c.args.self.now c.requires, λ rs t target told calls are. way_begins rs t target told calls c.args.self.now are)
@@ -31,5 +31,5 @@ loop-next-smaller c =
     subst (λ (o : Option ToldWrong). left_from (length last.calls.items) next < left_from (length last.calls.items) o) (sym c.in-Some.is) (fewer_left last c.requires w.call next low there)
 
 pub returns : goal.returns
-returns c P query rs t target told calls replay of_calls are =
+returns c rs t target told calls are =
     way_ends rs t target told calls c.args.self.now are c.loop-next.top (subst (IsOnTheWay rs t target told calls c.loop-next.top) c.in_default.is (c.loop-next.invariant.1 rs t target told calls are))

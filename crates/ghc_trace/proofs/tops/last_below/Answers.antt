@@ -6,7 +6,7 @@ use Rattle.ghc_trace.proofs.CallTops.{AreHandedFrom, below_more, below_none, han
 use Rattle.ghc_trace.specs.Blaming.{IsTold}
 use Rattle.ghc_trace.specs.declared.judgements.Judgement.TheVariants.{Right}
 use Rattle.ghc_trace.specs.inner.BlameCode.{HasNothing}
-use Rattle.ghc_trace.proofs.tops.wrong_last.Goals as goal
+use Rattle.ghc_trace.proofs.tops.last_below.Goals as goal
 
 pub loop-place-init : goal.loop-place-init
 loop-place-init c =
