@@ -13,7 +13,7 @@ ghost use Rattle.ghc_trace.specs.inner.BlameCode.{IsAskedAbout, IsNameOfTop};
 ghost use Rattle.ghc_trace.specs.inner.BlameLinesCode.{IsAbout, IsAboutSlice, IsToldBehind};
 
 use crate::answered::are_about_calls;
-use crate::blame_lines::{Told, write_fault_of_call, write_fault_of_query, write_question};
+use crate::blame_lines::{Told, write_question};
 use crate::given::slice_of;
 use crate::given_goal::slice_of_goal;
 use crate::judgements::{Answer, Subject};
@@ -22,6 +22,7 @@ use crate::place_slices::slice_of_place;
 use crate::questions::questions_of;
 use crate::slice_calls::{calls_of, is_call};
 use crate::slice_store::store_after;
+use crate::verdict_lines::{write_fault_of_call, write_fault_of_query};
 use ghc_core::Core;
 use ghc_term::{Fault, GoalName, Limit, VarName, end_of, or_cut_back};
 use std::alloc::{AllocError, Global};

@@ -37,6 +37,7 @@ mod status_text;
 mod step_ports;
 mod stuck;
 mod tops;
+mod verdict_lines;
 mod who_bound;
 
 pub use blaming::push_blame;
