@@ -79,6 +79,13 @@ def causes(size):
     )
 
 
+def blamed(size):
+    """A chain of so many variables whose calls were all told wrong, the innermost first: that one's step is at fault."""
+    calls = ["0.1"] + [f"{3 * made + 1}.3" for made in range(size)]
+    words = " ".join(f"-{call}" for call in reversed(calls))
+    return Session(CHAIN, f"al({size},X)", ["leap", f"blame X {words}"], last=f"fault {3 * size + 1} {calls[-1]} by 1")
+
+
 def searched(hashed):
     return lambda size: Session(LOOP, QUERY, ["show X"], searched_history(size, hashed), "F23 no variable")
 
@@ -166,6 +173,7 @@ class Growth(NamedTuple):
 
 GROWTHS = [
     Growth("why of a step with many causes", causes, 10_000),
+    Growth("blame with many calls told wrong, the innermost first", blamed, 2_500),
     Growth("a history whose numbers were searched for the hash of numbers", searched(hash_of_numbers), 40_000),
     Growth("a history whose numbers were searched for the hash of the kit", searched(hash_of_kit), 40_000),
     Growth("runs of one step beside many goals that wait", beside_many, 8_000),

@@ -1,25 +1,22 @@
--- What was told last, the top to which answers lead, and the best call to ask about.
-use Rattle.ghc_trace.proofs.Words.{◌≡◌, ℕ, zero, suc, ◌+◌, ◌-◌, ◌<◌, ◌≤◌, Bool, true, false, List, [], ◌∷◌, ◌++◌, length, get_or, take, drop, refl, sym, ap, ◌∙◌, subst, inl, inr, arith, ◌⊎◌, Option, Some, None, cond, eq_by_cmp, slice_get, slice_get_within, GoalName, goal_antisymmetric, goal_cmp, goal_total, In, Program, Query, State, Record, Replays, Descends, Ordering, Less, Equal, Greater, cases_eq, same_value}
+-- What was told last, and the best call to ask about.
+use Rattle.ghc_trace.proofs.Words.{◌≡◌, ℕ, ◌+◌, ◌-◌, ◌<◌, ◌≤◌, Bool, true, List, [], ◌∷◌, ◌++◌, length, get_or, refl, sym, ap, ◌∙◌, subst, inl, inr, arith, ◌⊎◌, Option, Some, None, cond, eq_by_cmp, slice_get, slice_get_within, GoalName, goal_antisymmetric, goal_cmp, goal_total, Program, Query, State, Record, Replays, Descends, Ordering, Less, Equal, Greater, cases_eq, same_value}
 use Rattle.std.specs.BTreeMap.{BTreeMap, Updates, get, is_at}
 use Rattle.std.specs.Map.{lookup}
 use Rattle.std.specs.Ordering.{ordering_reverse}
 use Rattle.std.specs.Prelude.{IfSome}
-use Rattle.std.proofs.lemmas.Option.{get_or_from_slice_get, slice_get-get_or}
+use Rattle.std.proofs.lemmas.Option.{slice_get-get_or}
 use Rattle.ghc_term.proofs.GoalNames.{apart}
-use Rattle.ghc_term.proofs.ListsLemmas.{splits_at}
 use Rattle.ghc_records.proofs.States.{tied}
 use Rattle.ghc_depend.proofs.Finding.{goal_or_not}
 use Rattle.ghc_trace.proofs.Blamed.{told_before, told_now, told_once, told_still}
 use Rattle.ghc_trace.proofs.CallCounts.{so_many_as, so_many_once, so_many_open}
 use Rattle.ghc_trace.proofs.CallWeights.{at_doubted, doubted_at}
-use Rattle.ghc_trace.proofs.CallsBelow.{not_itself, still_so}
-use Rattle.ghc_trace.specs.Blaming.{AreSoMany, IsAsked, IsInQuestion, IsLastWrong, IsReached, IsTold, IsTop, IsWeight, by_wrong, from_query, off_half}
+use Rattle.ghc_trace.specs.Blaming.{AreSoMany, IsAsked, IsInQuestion, IsTold, IsWeight, off_half}
 use Rattle.ghc_trace.specs.declared.judgements.Answer.{Answer}
 use Rattle.ghc_trace.specs.declared.judgements.Judgement.{Judgement}
-use Rattle.ghc_trace.specs.declared.judgements.Judgement.TheVariants.{Wrong}
 use Rattle.ghc_trace.specs.declared.next_question.Choice.{Choice}
 use Rattle.ghc_trace.specs.declared.slice_calls.Call.{Call}
-use Rattle.ghc_trace.specs.inner.BlameCode.{AreCallsOf, AreInQuestion, AreJudged, IsNameOfTop, IsNoOpenPlace, IsNoWorse, IsOpenAt, IsOpenPlace, StandsAtPlace, count_open}
+use Rattle.ghc_trace.specs.inner.BlameCode.{AreCallsOf, AreInQuestion, AreJudged, IsNoWorse, IsOpenAt, StandsAtPlace, count_open}
 
 -- Before the first answer nothing was told.
 pub judged_none : (m : BTreeMap GoalName Judgement) → m.entries ≡ [] → AreJudged [] m
@@ -50,76 +47,6 @@ judged_more told a m n h up g j =
             (λ is. value ∙ (h g j).1 (told_still told a.goal a.judgement g j off is)),
           )
     ]
-
--- The answers reach the top, and none from this place on tells a call in question below it wrong.
-abbrev pub IsTopSoFar : List Record → State → Option GoalName → List Answer → ℕ → Option GoalName → Type 0
-IsTopSoFar rs t target told left top = IsReached rs t target told top
-    × ((j : ℕ) (a : Answer) → left ≤ j → slice_get told j ≡ Some a → a.judgement ≡ Wrong → ¬ IsInQuestion rs t target told top a.goal)
-
-at_of_in : {X : Type 0} (xs : List X) (x : X) → In x xs → (i : ℕ) × (slice_get xs i ≡ Some x)
-at_of_in [] x i = absurd i
-at_of_in (y ∷ xs) x (inl e) = (0, ap Some (sym e))
-at_of_in (y ∷ xs) x (inr i) = let r = at_of_in xs x i in (suc r.0, r.1)
-
-in_drop : {X : Type 0} (xs : List X) (n : ℕ) (x : X) → In x (drop n xs) → (i : ℕ) × (n ≤ i) × (slice_get xs i ≡ Some x)
-in_drop xs zero x i = let r = at_of_in xs x i in (r.0, omega arith, r.1)
-in_drop [] (suc n) x i = absurd i
-in_drop (y ∷ xs) (suc n) x i = let r = in_drop xs n x i in let high = r.1 in (suc r.0, omega (arith, high), r.2)
-
-module _ (P : Program) (query : Query) (rs : List Record) (t : State) (replay : Replays P query rs t) (target : Option GoalName) (calls : List Call) (h : AreCallsOf rs t target calls) (told : List Answer) where
-  pub first_top : IsTopSoFar rs t target told (length told) None
-  first_top = (from_query, λ j a high at. let low = slice_get_within told j a at in absurd (omega (arith, high, low)))
-
-  pub last_top : (top : Option GoalName) → IsTopSoFar rs t target told 0 top → IsTop rs t target told top
-  last_top top h = (h.0, λ a i wrong. let at = at_of_in told a i in h.1 at.0 a (omega arith) at.1 wrong)
-
-  module _ (top : Option GoalName) (doubts : List Bool) (q : AreInQuestion rs t target told top calls doubts) (left : ℕ) (low : 0 < left) (a : Answer) (here : slice_get told (left - 1) ≡ Some a) (so_far : IsTopSoFar rs t target told left top) where
-    -- An answer that tells no call in question wrong leaves the top.
-    pub top_stays : (a.judgement ≡ Wrong → IsNoOpenPlace calls doubts a.goal) → IsTopSoFar rs t target told (left - 1) top
-    top_stays none = (
-      so_far.0,
-      λ j b high at wrong. elim (cases_eq j (left - 1)) [
-        | inl last ↦
-            let one : b ≡ a = same_value (subst (λ k. slice_get told k ≡ Some b) last at) here in
-            (λ is. not_open (none (ap (λ (z : Answer). z.judgement) (sym one) ∙ wrong)) (subst (λ (z : Answer). IsInQuestion rs t target told top z.goal) one is))
-        | inr other ↦ so_far.1 j b (omega (arith, low, high, other)) at wrong
-      ],
-    )
-      where
-        not_open : IsNoOpenPlace calls doubts a.goal → ¬ IsInQuestion rs t target told top a.goal
-        not_open (inl nowhere) is = let w = (h.all a.goal).0 is.0 in nowhere w.0 w.1 w.2 w.3
-        not_open (inr (p, c, at, same, fails)) is =
-            let holds = at_doubted P query rs t replay target calls h told top doubts q p c at (subst (IsInQuestion rs t target told top) (sym same) is) in
-            let clash : Some true ≡ Some false = sym holds ∙ fails in
-            cc
-
-    -- One that tells a call in question wrong makes that call the top.
-    module _ (p : ℕ) (wrong : a.judgement ≡ Wrong) (place : IsOpenPlace calls doubts a.goal p) where
-      of_call : IsInQuestion rs t target told top place.0.name
-      of_call = doubted_at P query rs t replay target calls h told top doubts q p place.0 place.1 place.3
-
-      pub top_goes_on : IsNameOfTop calls (Some p) (Some place.0.name) × IsTopSoFar rs t target told (left - 1) (Some place.0.name)
-      top_goes_on =
-          let c = place.0 in
-          let word : Answer = record { goal = c.name; judgement = Wrong } in
-          let is_word : word ≡ a = λ i. record { goal = place.2 i; judgement = sym wrong i } in
-          let short = slice_get_within told (left - 1) a here in
-          let value : a ≡ get_or told (left - 1) a = sym (get_or_from_slice_get told (left - 1) a a here) in
-          let next : left - 1 + 1 ≡ left = omega (arith, low) in
-          let split : told ≡ take (left - 1) told ++ word ∷ drop left told = splits_at told (left - 1) a short value ∙ ap (λ (z : Answer). take (left - 1) told ++ z ∷ drop (left - 1 + 1) told) (sym is_word) ∙ ap (λ k. take (left - 1) told ++ word ∷ drop k told) next in
-          let last : IsLastWrong rs t target told top c.name = (of_call, take (left - 1) told, drop left told, split, λ b i. let at = in_drop told left b i in so_far.1 at.0 b at.1 at.2) in (
-            (c, place.1, refl),
-            (
-              by_wrong c.name so_far.0 last,
-              λ j b high at bad is. elim (cases_eq j (left - 1)) [
-                | inl here_too ↦
-                    let one : b ≡ a = same_value (subst (λ k. slice_get told k ≡ Some b) here_too at) here in
-                    let goal : b.goal ≡ c.name = ap (λ (z : Answer). z.goal) one ∙ sym place.2 in
-                    not_itself P query rs t replay target calls h told c.name (subst (IsInQuestion rs t target told (Some c.name)) goal is)
-                | inr other ↦ so_far.1 j b (omega (arith, low, high, other)) at bad (still_so P query rs t replay target calls h told top c.name b.goal of_call is)
-              ],
-            ),
-          )
 
 -- This is the choice of the call at the place, which is in question.
 abbrev pub IsChoiceAt : List Call → List Bool → List ℕ → ℕ → ℕ → Choice → Type 0

@@ -114,6 +114,14 @@ module _ (calls new : List Call) (g : GoalName) (taker : Option ℕ) (add : Adds
               | inr other ↦ subst (IsPlaceTakenBy (calls ++ c ∷ []) k) (sym (now ∙ ap (λ b. cond b (Some (length calls)) (get nat_cmp m k)) (sym (tie number k) ∙ ne_eqb number k other))) (kept k other (get nat_cmp m k) (h.taken k))
             ]
 
+-- A call's maker stands before it.
+pub maker_before : (calls : List Call) → AreMakersBefore calls → (j : ℕ) (d : Call) → StandsAtPlace calls j d → IfSome d.maker (λ p. p < j)
+maker_before calls before j d at = by_maker d.maker refl
+  where
+    by_maker : (o : Option ℕ) → d.maker ≡ o → IfSome o (λ p. p < j)
+    by_maker None e = tt
+    by_maker (Some p) e = before j p d at e
+
 -- If what `none` says is false, there is something.
 pub there_is : {X : Type 0} (o : Option X) (Q : Type 0) → IfNone o Q → ¬ Q → IsSome o
 there_is (Some x) Q h n = refl

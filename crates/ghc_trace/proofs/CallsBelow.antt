@@ -117,7 +117,7 @@ module _ (P : Program) (query : Query) (rs : List Record) (t : State) (replay : 
         abbrev pub IsNext : Type 0
         IsNext = ((c.maker ≡ None) × (place ≡ None)) ⊎ ((p : ℕ) × (c.maker ≡ Some p) × ((place ≡ Some p) ⊎ ((d : Call) × StandsAtPlace calls p d × IsInQuestion rs t target told top d.name)))
 
-        not_right : IsInQuestion rs t target told top c.name → ¬ IsTold told c.name Right
+        pub not_right : IsInQuestion rs t target told top c.name → ¬ IsTold told c.name Right
         not_right q = q.2 c.name q.1 itself
 
         none_top : c.maker ≡ None → (o : Option ℕ) → IsNameOfTop calls o top → IsBelow rs top c.name → o ≡ None
@@ -148,10 +148,10 @@ module _ (P : Program) (query : Query) (rs : List Record) (t : State) (replay : 
               )
             ]
 
-        next_of : IsInQuestion rs t target told top c.name → IsNext
+        pub next_of : IsInQuestion rs t target told top c.name → IsNext
         next_of q = by_option c.maker (λ none. inl (none, none_top none place named q.1)) (λ p made. inr (p, made, maker_next p made q place named))
 
-        in_question_if : IsNext → ¬ IsTold told c.name Right → IsInQuestion rs t target told top c.name
+        pub in_question_if : IsNext → ¬ IsTold told c.name Right → IsInQuestion rs t target told top c.name
         in_question_if (inl (none, no_place)) not =
             let e : top ≡ None = subst (λ o. IsNameOfTop calls o top) no_place named in
             (call_at i c at, subst (λ o. IsBelow rs o c.name) (sym e) tt, λ k under f holds. not (subst (λ z. IsTold told z Right) (alone i c at none k c.name refl f) holds))

@@ -35,6 +35,7 @@ pub mod CallCounts
 pub mod CallWeights
 pub mod CallAnswers
 pub mod Ancestors
+pub mod CallTops
 pub mod Places
 pub mod Descending
 pub mod Blamed

@@ -10,19 +10,21 @@ ghost use Rattle.ghc_trace.specs.BlameLines.{HasAnswerBeside, HasTooLongBlame, H
 ghost use Rattle.ghc_trace.specs.Blaming.{IsCallOf, IsFault};
 ghost use Rattle.ghc_trace.specs.Laws.{IsSettled};
 ghost use Rattle.ghc_trace.specs.inner.BlameCode.{IsAskedAbout, IsNameOfTop};
-ghost use Rattle.ghc_trace.specs.inner.BlameLinesCode.{IsAbout, IsAboutSlice, IsToldBehind};
+ghost use Rattle.ghc_trace.specs.inner.BlameLinesCode.{IsAbout, IsAboutSlice, IsGathered, IsToldBehind};
 
-use crate::blame_lines::{Told, write_fault_of_call, write_fault_of_query, write_question};
+use crate::answered::are_about_calls;
+use crate::blame_lines::{Told, write_question};
 use crate::given::slice_of;
 use crate::given_goal::slice_of_goal;
 use crate::judgements::{Answer, Subject};
 use crate::next_question::next_question;
 use crate::place_slices::slice_of_place;
-use crate::questions::{are_about_calls, questions_of};
-use crate::slice_calls::{calls_of, is_call};
+use crate::questions::questions_of;
+use crate::slice_calls::{Calls, calls_of, is_call};
 use crate::slice_store::store_after;
+use crate::verdict_lines::{write_fault_of_call, write_fault_of_query};
 use ghc_core::Core;
-use ghc_term::{Fault, GoalName, Limit, VarName, end_of, or_cut_back};
+use ghc_term::{Fault, GoalName, Limit, Store, VarName, end_of, or_cut_back};
 use std::alloc::{AllocError, Global};
 
 // The goal asked about, if one is.
@@ -147,6 +149,37 @@ fn write_answered(
     write_next(alloc, told, answers, out)
 }
 
+// What is told of a subject: the steps behind it, by their numbers, the store that they leave, and their calls.
+#[derive(Drop)]
+struct Behind {
+    steps: Vec<u32>,
+    store: Store,
+    calls: Calls,
+}
+
+// What is told of the subject. It costs some look-ups for each step and each binding.
+fn told_behind(alloc: Global, core: &Core, subject: Subject) -> Result<Behind, Fault>
+    requires { IsKnownSubject core.now.world subject }
+    ensures told { IfOk result (IsGathered core.now.world subject) }
+    ensures refused { IfErr result (λ fault. (fault ≡ Fault.Memory) ⊎ (fault ≡ Fault.NoVariable)) }
+    ensures no_place { result ≡ Err Fault.NoVariable → IsNoPlace core.now.world subject }
+{
+    core.stands();
+    let steps = match steps_behind(alloc, core, subject) {
+        Ok(steps) => steps,
+        Err(fault) => return Err(fault),
+    };
+    let target = target_of(subject);
+    let records = core.records();
+    let store = store_after(alloc, records, core.store(), steps.as_slice())?;
+    let calls = calls_of(alloc, records, steps.as_slice(), asked_about(core, target))?;
+    Ok(Behind {
+        steps,
+        store,
+        calls,
+    })
+}
+
 // Writes the next question about the slice of the subject, or the verdict.
 fn write_blame(
     alloc: Global,
@@ -164,20 +197,16 @@ fn write_blame(
     ensures beside { result ≡ Err Fault.NoGoal → HasAnswerBeside core.now.world subject answers.now }
     ensures too_long { result ≡ Err (Fault.Limit Limit.Print) → HasTooLongBlame core.now.world subject answers.now }
 {
-    core.stands();
-    let target = target_of(subject);
-    let steps = match steps_behind(alloc, core, subject) {
-        Ok(steps) => steps,
+    let behind = match told_behind(alloc, core, subject) {
+        Ok(behind) => behind,
         Err(fault) => return Err(fault),
     };
-    let records = core.records();
-    let store = store_after(alloc, records, core.store(), steps.as_slice())?;
-    let calls = calls_of(alloc, records, steps.as_slice(), asked_about(core, target))?;
+    let target = target_of(subject);
     let told = Told {
         core,
-        steps: steps.as_slice(),
-        store: &store,
-        calls: &calls,
+        steps: behind.steps.as_slice(),
+        store: &behind.store,
+        calls: &behind.calls,
         target,
     };
     write_answered(alloc, &told, answers, out)
@@ -186,7 +215,7 @@ fn write_blame(
 /// Writes at the end of `out` the next question about a call of the slice of what is asked about, by these answers, or the verdict: which
 /// step or goal is at fault. It refuses with `NoVariable` a place that is not in the term; with `NoGoal` where an answer is about no call
 /// of the slice; then with the limit `print`, where a text is longer than is printed; or where memory is refused. Then `out` stays as it
-/// was. It costs what the slice costs, some look-ups for each of its steps and bindings, and the texts.
+/// was. It costs what the slice costs, some look-ups for each of its steps and bindings and for each answer, and the texts.
 pub fn push_blame(
     alloc: Global,
     core: &Core,

@@ -2,6 +2,7 @@
 //! bound the variables of a chain, which goals descend from a goal, and which predicates are spied.
 #![tactic(auto)]
 
+mod answered;
 mod backward;
 mod blame_lines;
 mod blaming;
@@ -37,6 +38,8 @@ mod spy_laws;
 mod status_text;
 mod step_ports;
 mod stuck;
+mod tops;
+mod verdict_lines;
 mod who_bound;
 
 pub use blaming::push_blame;

@@ -1,5 +1,5 @@
 -- How the calls of a slice stand in a list, and which of them are in question.
-use Rattle.std.specs.Prelude.{◌≡◌, ◌≢◌, ◌⊎◌, ◌↔◌, ◌<◌, ◌≤◌, ◌+◌, ◌∷◌, ◌++◌, [], ℕ, Bool, true, false, List, length, map, slice_get, slice_index, slice_set, Option, Some, None, IsTrue}
+use Rattle.std.specs.Prelude.{◌≡◌, ◌≢◌, ◌⊎◌, ◌↔◌, ◌<◌, ◌≤◌, ◌+◌, ◌∷◌, ◌++◌, [], ℕ, Bool, true, false, List, length, map, slice_get, slice_index, slice_set, Option, Some, None, IfSome, IsTrue}
 use Rattle.std.specs.BTreeMap.{BTreeMap, get}
 use Rattle.std.specs.BTreeMap.Range.{IsLtBy}
 use Rattle.std.specs.FinMap as finite
@@ -11,10 +11,12 @@ use Rattle.ghc_term.specs.GoalMap.{goal_cmp}
 use Rattle.ghc_term.specs.Lists.{In}
 use Rattle.ghc_records.specs.Record.{Record, State}
 use Rattle.ghc_depend.specs.Depend.{MakesGoal}
+use Rattle.ghc_trace.specs.declared.answered.ToldWrong.{ToldWrong}
 use Rattle.ghc_trace.specs.declared.judgements.Answer.{Answer}
 use Rattle.ghc_trace.specs.declared.judgements.Judgement.{Judgement}
-use Rattle.ghc_trace.specs.declared.judgements.Judgement.TheVariants.{Right}
+use Rattle.ghc_trace.specs.declared.judgements.Judgement.TheVariants.{Right, Wrong}
 use Rattle.ghc_trace.specs.declared.slice_calls.Call.{Call}
+use Rattle.ghc_trace.specs.declared.tops.LastBelow.{LastBelow}
 use Rattle.ghc_trace.specs.declared.next_question.Choice.{Choice}
 use Rattle.ghc_trace.specs.Blaming.{IsCall, IsCallOf, IsInQuestion, IsTold}
 
@@ -105,13 +107,66 @@ pub record AreInQuestion (rs : List Record) (t : State) (target : Option GoalNam
   pub long : length doubts ≡ length calls
   pub said : (i : ℕ) (c : Call) (b : Bool) → StandsAtPlace calls i c → slice_get doubts i ≡ Some b → IsTrue b ↔ IsInQuestion rs t target told top c.name
 
--- The call of this name stands at the place, and is in question.
-abbrev pub IsOpenPlace : List Call → List Bool → GoalName → ℕ → Type 0
-IsOpenPlace calls doubts name p = (c : Call) × StandsAtPlace calls p c × (c.name ≡ name) × IsOpenAt doubts p
+-- The call at the place has the property, and the answer tells it wrong.
+abbrev pub IsToldWrong : List Call → List Answer → (GoalName → Type 0) → ToldWrong → Type 0
+IsToldWrong calls told named w = (c : Call) × StandsAtPlace calls w.call c × named c.name × (slice_get told w.answer ≡ Some (record { goal = c.name; judgement = Wrong }))
 
--- No call has this name, or one has it and is not in question.
-abbrev pub IsNoOpenPlace : List Call → List Bool → GoalName → Type 0
-IsNoOpenPlace calls doubts name = ((i : ℕ) (c : Call) → StandsAtPlace calls i c → c.name ≢ name) ⊎ ((p : ℕ) × (c : Call) × StandsAtPlace calls p c × (c.name ≡ name) × (slice_get doubts p ≡ Some false))
+-- The answer at the place comes after the one that tells this wrong, if there is one.
+abbrev pub ComesAfter : Option ToldWrong → ℕ → Type 0
+ComesAfter None j = Unit {0}
+ComesAfter (Some w) j = w.answer < j
+
+-- Of the goals with the property this is the call that was told wrong last; or none of them was told wrong, if there is none.
+abbrev pub IsLastOf : List Call → List Answer → (GoalName → Type 0) → Option ToldWrong → Type 0
+IsLastOf calls told named o = IfSome o (IsToldWrong calls told named) × ((j : ℕ) (a : Answer) → ComesAfter o j → slice_get told j ≡ Some a → a.judgement ≡ Wrong → ¬ named a.goal)
+
+-- Each stands at the place of its call.
+abbrev pub StandAtTheirPlaces : List (Option ToldWrong) → Type 0
+StandAtTheirPlaces wrong = (i : ℕ) (w : ToldWrong) → slice_get wrong i ≡ Some (Some w) → w.call ≡ i
+
+-- Under the place it is noted that the answer tells the call there wrong, if a place is given; the others stay.
+abbrev pub NotesAnswer : Option ℕ → ℕ → List (Option ToldWrong) → List (Option ToldWrong) → Type 0
+NotesAnswer None j old new = new ≡ old
+NotesAnswer (Some p) j old new = new ≡ slice_set old p (Some (record { call = p; answer = j }))
+
+-- For each call, by place, it is said whether it was told wrong, and by which answer last.
+abbrev pub AreToldWrong : List Call → List Answer → List (Option ToldWrong) → Type 0
+AreToldWrong calls told wrong = (i : ℕ) (c : Call) (o : Option ToldWrong) → StandsAtPlace calls i c → slice_get wrong i ≡ Some o → IsLastOf calls told (λ g. g ≡ c.name) o
+
+-- The second was not told wrong before the first.
+abbrev pub IsNotEarlier : Option ToldWrong → Option ToldWrong → Type 0
+IsNotEarlier None o = Unit {0}
+IsNotEarlier (Some w) None = ⊥
+IsNotEarlier (Some w) (Some v) = w.answer ≤ v.answer
+
+-- Of two, this is the one that was told wrong later.
+abbrev pub IsLaterOf : Option ToldWrong → Option ToldWrong → Option ToldWrong → Type 0
+IsLaterOf one other o = ((o ≡ one) ⊎ (o ≡ other)) × IsNotEarlier one o × IsNotEarlier other o
+
+-- This is noted for the call at the place, or for the query, where no place is given.
+abbrev pub IsNotedFor : LastBelow → Option ℕ → Option ToldWrong → Type 0
+IsNotedFor last None o = last.query ≡ o
+IsNotedFor last (Some p) o = slice_get last.calls.items p ≡ Some o
+
+-- Nothing is noted, for the query and so many calls.
+abbrev pub HasNothing : ℕ → LastBelow → Type 0
+HasNothing count last = (length last.calls.items ≡ count) × ((place : Option ℕ) (o : Option ToldWrong) → IsNotedFor last place o → o ≡ None)
+
+-- For the place the later of the two is noted now, and for others what was.
+abbrev pub NotesLater : Option ℕ → Option ToldWrong → LastBelow → LastBelow → Type 0
+NotesLater place wrong old new = (length new.calls.items ≡ length old.calls.items)
+    × ((before now : Option ToldWrong) → IsNotedFor old place before → IsNotedFor new place now → IsLaterOf before wrong now)
+    × ((other : Option ℕ) (now : Option ToldWrong) → other ≢ place → IsNotedFor new other now → IsNotedFor old other now)
+
+-- Each that is noted is one of so many calls, and stands behind the one for which it is noted.
+pub record StandBelow (count : ℕ) (last : LastBelow) : Type 0 where
+  pub long : length last.calls.items ≡ count
+  pub below : (place : Option ℕ) (w : ToldWrong) → IsNotedFor last place (Some w) → (w.call < count) × IfSome place (λ p. p < w.call)
+
+-- For the query and for each call, the call is noted that was told wrong last of those in question below.
+abbrev pub AreLastBelow : List Record → State → Option GoalName → List Answer → List Call → LastBelow → Type 0
+AreLastBelow rs t target told calls last = (place : Option ℕ) (top : Option GoalName) (o : Option ToldWrong) → IsNameOfTop calls place top → IsNotedFor last place o
+    → IsLastOf calls told (IsInQuestion rs t target told top) o
 
 -- one for a call in question, and nothing for another one
 abbrev pub one_of : Bool → ℕ

@@ -10,9 +10,10 @@ use Rattle.ghc_records.specs.Record.{Record, State, numbers, with_makes}
 use Rattle.ghc_depend.specs.Depend.{IsKeptAs, MakesGoal}
 use Rattle.ghc_core.specs.World.{World}
 use Rattle.ghc_trace.specs.declared.blame_lines.Told.{Told}
+use Rattle.ghc_trace.specs.declared.blaming.Behind.{Behind}
 use Rattle.ghc_trace.specs.declared.judgements.Subject.{Subject}
 use Rattle.ghc_trace.specs.declared.slice_calls.Call.{Call}
-use Rattle.ghc_trace.specs.BlameLines.{AreMadeGoals, IsGoalNamed, IsNoPlace, IsSliceBehind, only}
+use Rattle.ghc_trace.specs.BlameLines.{AreMadeGoals, IsGoalNamed, IsNoPlace, IsSliceBehind, only, target_of}
 use Rattle.ghc_trace.specs.GoalLines.{IsTooLong}
 use Rattle.ghc_trace.specs.PartLines.{IsShown, TellsGiven}
 use Rattle.ghc_trace.specs.Parts.{IsStoreGiven}
@@ -85,3 +86,12 @@ HasTooLongAsked kept store n = (r : Record) × (b : Goal) × IsKeptAs kept n r �
 -- These are the numbers of the slice of what is asked about, which is a place, if a place is asked about.
 abbrev pub IsToldBehind : World → Subject → List ℕ → Type 0
 IsToldBehind w s ns = (rs : List Record) × (rest : List Record) × IsSliceBehind w s rs rest × (numbers rs ≡ ns) × (¬ IsNoPlace w s)
+
+-- What is told of the subject is about its slice, and the subject is in the term, if it is a place.
+pub record IsGathered (w : World) (s : Subject) (behind : Behind) : Type 0 where
+  pub slice : List Record
+  pub rest : List Record
+  pub state : State
+  pub is_slice : IsSliceBehind w s slice rest
+  pub is_there : ¬ IsNoPlace w s
+  pub about : IsToldSlice w behind.steps.items behind.store.held behind.calls.list.items (target_of s) slice state

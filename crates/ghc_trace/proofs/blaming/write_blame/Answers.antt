@@ -1,78 +1,43 @@
-use Rattle.ghc_trace.proofs.Words.{◌≡◌, List, Option, sym, ap, ◌∙◌, subst, GoalName, In, Record, Replays, Fault, Err}
+use Rattle.ghc_trace.proofs.Words.{◌≡◌, ℕ, List, Option, sym, ap, ◌∙◌, subst, GoalName, In, Err, Fault, World}
+use Rattle.ghc_trace.specs.declared.blaming.Behind.{Behind}
 use Rattle.ghc_trace.specs.declared.judgements.Answer.{Answer}
-use Rattle.ghc_trace.specs.BlameLines.{HasTooLongTold, TellsBlame}
+use Rattle.ghc_trace.specs.declared.judgements.Subject.{Subject}
+use Rattle.ghc_trace.specs.BlameLines.{HasTooLongTold, TellsBlame, target_of}
 use Rattle.ghc_trace.specs.Blaming.{IsCallOf}
-use Rattle.ghc_trace.proofs.BlameSlices.{about_slice, slice_known}
-use Rattle.ghc_trace.proofs.BlameTold.{kept_number}
+use Rattle.ghc_trace.specs.inner.BlameLinesCode.{IsGathered, IsToldSlice}
 use Rattle.ghc_trace.proofs.CausePlaces.{on_ok}
 use Rattle.ghc_trace.proofs.blaming.write_blame.Goals as goal
 
-pub store_after-requires : goal.store_after-requires
-store_after-requires c n i =
-    let w = c.args.core.now.world in
-    let b = c.in-Ok.ensures.slice in
-    let known = slice_known w c.stands.ensures.replay c.stands.ensures.orderly.acyclic c.args.subject b.0 b.1 b.2 in
-    let q = kept_number w.kept b.0 c.in-Ok.steps.items (record { within = known.1.within; numbered = b.3 }) n (subst (In n) c.as_slice.ensures.value i) in
-    (q.0, (subst (λ (l : List Record). In q.0 l) (sym c.records-records.ensures) q.1.0, q.1.1))
-
-pub calls_of-requires : goal.calls_of-requires
-calls_of-requires c n i =
-    let w = c.args.core.now.world in
-    let b = c.in-Ok.ensures.slice in
-    let known = slice_known w c.stands.ensures.replay c.stands.ensures.orderly.acyclic c.args.subject b.0 b.1 b.2 in
-    let q = kept_number w.kept b.0 c.in-Ok.steps.items (record { within = known.1.within; numbered = b.3 }) n (subst (In n) c.as_slice-2.ensures.value i) in
-    (q.0, (subst (λ (l : List Record). In q.0 l) (sym c.records-records.ensures) q.1.0, q.1.1))
+-- What is handed on is about the slice.
+about_told : (w : World) (s : Subject) (b : Behind) (g : IsGathered w s b) (ns : List ℕ) (target : Option GoalName) → ns ≡ b.steps.items → target ≡ target_of s
+    → IsToldSlice w ns b.store.held b.calls.list.items target g.slice g.state
+about_told w s b g ns target numbers same =
+    subst (λ (o : Option GoalName). IsToldSlice w ns b.store.held b.calls.list.items o g.slice g.state) (sym same)
+    (subst (λ (l : List ℕ). IsToldSlice w l b.store.held b.calls.list.items (target_of s) g.slice g.state) (sym numbers) g.about)
 
 pub write_answered-requires-clause-told : goal.write_answered-requires-clause-told
 write_answered-requires-clause-told c =
-    let w = c.args.core.now.world in
-    let b = c.in-Ok.ensures.slice in
-    let known = slice_known w c.stands.ensures.replay c.stands.ensures.orderly.acyclic c.args.subject b.0 b.1 b.2 in
-    let target = c.target_of-target.result in
-    let k = known.1 in
-    let within = subst (λ (l : List Record). (r : Record) → In r b.0 → In r l) (sym c.records-records.ensures) k.within in
-    let left =
-    c.in_ok-store.ensures w.opening.program w.opening.query b.0 w.state known.0 (subst (λ (l : List Record). Replays w.opening.program w.opening.query l w.state) (sym c.records-records.ensures) c.stands.ensures.replay)
-    (sym c.store.ensures) (record { within = within; numbered = b.3 ∙ sym c.as_slice.ensures.value }) k.replays in
-    let calls =
-    c.in_ok-calls.ensures w.opening.program w.opening.query b.0 known.0 target (record { within = within; numbered = b.3 ∙ sym c.as_slice-2.ensures.value }) k.replays
-    (c.asked_about.ensures known.0 (λ g e. let there = k.there g (sym c.target_of-target.ensures ∙ e) in there.2 ∙ sym there.1)) in
-    let about =
-    about_slice w c.as_slice-3.result.now c.in_ok-store.store.held c.in_ok-calls.calls.list.items target c.args.subject b.0 known.0 c.stands.ensures.replay c.target_of-target.ensures k
-    (b.3 ∙ sym c.as_slice-3.ensures.value) left calls in
-    (b.0, known.0, about)
+    let g = c.in-Ok.ensures.told in
+    (g.slice, g.state, about_told c.args.core.now.world c.args.subject c.in-Ok.behind g c.as_slice.result.now c.target_of-target.result c.as_slice.ensures.value c.target_of-target.ensures)
 
 pub returns-in-Err-clause-no_place : goal.returns-in-Err-clause-no_place
-returns-in-Err-clause-no_place c e = let same : c.in-Err.fault ≡ Fault.NoVariable = cc in c.steps_behind.ensures.no_place (c.in-Err.is ∙ ap Err same)
+returns-in-Err-clause-no_place c e = let same : c.in-Err.fault ≡ Fault.NoVariable = cc in c.told_behind.ensures.no_place (c.in-Err.is ∙ ap Err same)
 
 pub returns-clause-text : goal.returns-clause-text
 returns-clause-text c = on_ok c.write_answered.result c.write_answered.ensures.text (λ tells.
     let w = c.args.core.now.world in
-    let b = c.in-Ok.ensures.slice in
-    let known = slice_known w c.stands.ensures.replay c.stands.ensures.orderly.acyclic c.args.subject b.0 b.1 b.2 in
-    let target = c.target_of-target.result in
-    let k = known.1 in
-    let within = subst (λ (l : List Record). (r : Record) → In r b.0 → In r l) (sym c.records-records.ensures) k.within in
-    let left =
-    c.in_ok-store.ensures w.opening.program w.opening.query b.0 w.state known.0 (subst (λ (l : List Record). Replays w.opening.program w.opening.query l w.state) (sym c.records-records.ensures) c.stands.ensures.replay)
-    (sym c.store.ensures) (record { within = within; numbered = b.3 ∙ sym c.as_slice.ensures.value }) k.replays in
-    let calls =
-    c.in_ok-calls.ensures w.opening.program w.opening.query b.0 known.0 target (record { within = within; numbered = b.3 ∙ sym c.as_slice-2.ensures.value }) k.replays
-    (c.asked_about.ensures known.0 (λ g e. let there = k.there g (sym c.target_of-target.ensures ∙ e) in there.2 ∙ sym there.1)) in
-    let about =
-    about_slice w c.as_slice-3.result.now c.in_ok-store.store.held c.in_ok-calls.calls.list.items target c.args.subject b.0 known.0 c.stands.ensures.replay c.target_of-target.ensures k
-    (b.3 ∙ sym c.as_slice-3.ensures.value) left calls in
-    let q = tells b.0 known.0 about in (
+    let g = c.in-Ok.ensures.told in
+    let q = tells g.slice g.state (about_told w c.args.subject c.in-Ok.behind g c.as_slice.result.now c.target_of-target.result c.as_slice.ensures.value c.target_of-target.ensures) in (
       q.1.0,
       record {
-        slice = b.0;
-        rest = b.1;
-        state = known.0;
-        is_slice = b.2;
-        is_there = b.4;
-        replays = k.replays;
-        about_calls = subst (λ (o : Option GoalName). (a : Answer) → In a c.args.answers.now → IsCallOf b.0 known.0 o a.goal) c.target_of-target.ensures q.0;
-        tells = subst (λ (o : Option GoalName). TellsBlame w b.0 known.0 o c.args.answers.now q.1.0) c.target_of-target.ensures q.1.1;
+        slice = g.slice;
+        rest = g.rest;
+        state = g.state;
+        is_slice = g.is_slice;
+        is_there = g.is_there;
+        replays = g.about.world.replay;
+        about_calls = subst (λ (o : Option GoalName). (a : Answer) → In a c.args.answers.now → IsCallOf g.slice g.state o a.goal) c.target_of-target.ensures q.0;
+        tells = subst (λ (o : Option GoalName). TellsBlame w g.slice g.state o c.args.answers.now q.1.0) c.target_of-target.ensures q.1.1;
       },
       q.1.2,
     ))
@@ -80,47 +45,23 @@ returns-clause-text c = on_ok c.write_answered.result c.write_answered.ensures.t
 pub returns-clause-beside : goal.returns-clause-beside
 returns-clause-beside c e =
     let w = c.args.core.now.world in
-    let b = c.in-Ok.ensures.slice in
-    let known = slice_known w c.stands.ensures.replay c.stands.ensures.orderly.acyclic c.args.subject b.0 b.1 b.2 in
-    let target = c.target_of-target.result in
-    let k = known.1 in
-    let within = subst (λ (l : List Record). (r : Record) → In r b.0 → In r l) (sym c.records-records.ensures) k.within in
-    let left =
-    c.in_ok-store.ensures w.opening.program w.opening.query b.0 w.state known.0 (subst (λ (l : List Record). Replays w.opening.program w.opening.query l w.state) (sym c.records-records.ensures) c.stands.ensures.replay)
-    (sym c.store.ensures) (record { within = within; numbered = b.3 ∙ sym c.as_slice.ensures.value }) k.replays in
-    let calls =
-    c.in_ok-calls.ensures w.opening.program w.opening.query b.0 known.0 target (record { within = within; numbered = b.3 ∙ sym c.as_slice-2.ensures.value }) k.replays
-    (c.asked_about.ensures known.0 (λ g e. let there = k.there g (sym c.target_of-target.ensures ∙ e) in there.2 ∙ sym there.1)) in
-    let about =
-    about_slice w c.as_slice-3.result.now c.in_ok-store.store.held c.in_ok-calls.calls.list.items target c.args.subject b.0 known.0 c.stands.ensures.replay c.target_of-target.ensures k
-    (b.3 ∙ sym c.as_slice-3.ensures.value) left calls in
-    let q = c.write_answered.ensures.beside e b.0 known.0 about in
-    (b.4, b.0, b.1, known.0, q.0, b.2, k.replays, q.1, subst (λ (o : Option GoalName). ¬ IsCallOf b.0 known.0 o q.0.goal) c.target_of-target.ensures q.2)
+    let g = c.in-Ok.ensures.told in
+    let about = about_told w c.args.subject c.in-Ok.behind g c.as_slice.result.now c.target_of-target.result c.as_slice.ensures.value c.target_of-target.ensures in
+    let q = c.write_answered.ensures.beside e g.slice g.state about in
+    (g.is_there, g.slice, g.rest, g.state, q.0, g.is_slice, g.about.world.replay, q.1, subst (λ (o : Option GoalName). ¬ IsCallOf g.slice g.state o q.0.goal) c.target_of-target.ensures q.2)
 
 pub returns-clause-too_long : goal.returns-clause-too_long
 returns-clause-too_long c e =
     let w = c.args.core.now.world in
-    let b = c.in-Ok.ensures.slice in
-    let known = slice_known w c.stands.ensures.replay c.stands.ensures.orderly.acyclic c.args.subject b.0 b.1 b.2 in
-    let target = c.target_of-target.result in
-    let k = known.1 in
-    let within = subst (λ (l : List Record). (r : Record) → In r b.0 → In r l) (sym c.records-records.ensures) k.within in
-    let left =
-    c.in_ok-store.ensures w.opening.program w.opening.query b.0 w.state known.0 (subst (λ (l : List Record). Replays w.opening.program w.opening.query l w.state) (sym c.records-records.ensures) c.stands.ensures.replay)
-    (sym c.store.ensures) (record { within = within; numbered = b.3 ∙ sym c.as_slice.ensures.value }) k.replays in
-    let calls =
-    c.in_ok-calls.ensures w.opening.program w.opening.query b.0 known.0 target (record { within = within; numbered = b.3 ∙ sym c.as_slice-2.ensures.value }) k.replays
-    (c.asked_about.ensures known.0 (λ g e. let there = k.there g (sym c.target_of-target.ensures ∙ e) in there.2 ∙ sym there.1)) in
-    let about =
-    about_slice w c.as_slice-3.result.now c.in_ok-store.store.held c.in_ok-calls.calls.list.items target c.args.subject b.0 known.0 c.stands.ensures.replay c.target_of-target.ensures k
-    (b.3 ∙ sym c.as_slice-3.ensures.value) left calls in
-    let q = c.write_answered.ensures.too_long e b.0 known.0 about in (
-      b.4,
-      b.0,
-      b.1,
-      known.0,
-      b.2,
-      k.replays,
-      subst (λ (o : Option GoalName). (a : Answer) → In a c.args.answers.now → IsCallOf b.0 known.0 o a.goal) c.target_of-target.ensures q.0,
-      subst (λ (o : Option GoalName). HasTooLongTold w b.0 known.0 o c.args.answers.now) c.target_of-target.ensures q.1,
+    let g = c.in-Ok.ensures.told in
+    let about = about_told w c.args.subject c.in-Ok.behind g c.as_slice.result.now c.target_of-target.result c.as_slice.ensures.value c.target_of-target.ensures in
+    let q = c.write_answered.ensures.too_long e g.slice g.state about in (
+      g.is_there,
+      g.slice,
+      g.rest,
+      g.state,
+      g.is_slice,
+      g.about.world.replay,
+      subst (λ (o : Option GoalName). (a : Answer) → In a c.args.answers.now → IsCallOf g.slice g.state o a.goal) c.target_of-target.ensures q.0,
+      subst (λ (o : Option GoalName). HasTooLongTold w g.slice g.state o c.args.answers.now) c.target_of-target.ensures q.1,
     )

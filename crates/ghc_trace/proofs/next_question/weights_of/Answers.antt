@@ -2,10 +2,10 @@ use Rattle.ghc_trace.proofs.Words.{◌≡◌, ◌≤◌, ◌+◌, ◌-◌, ◌<�
 use Rattle.std.proofs.lemmas.Option.{slice_get-get_or, slice_get_read}
 use Rattle.std.specs.List.{sum}
 use Rattle.std.specs.Prelude.{IfSome}
+use Rattle.ghc_trace.proofs.CallPlaces.{maker_before}
 use Rattle.ghc_trace.proofs.CallCounts.{added_within, both_fit, less_sum, ones_sum, ones_within}
 use Rattle.ghc_trace.proofs.CallWeights.{AreCountedFrom, counted_closed, counted_first, counted_moved, weights_told}
-use Rattle.ghc_trace.specs.declared.slice_calls.Call.{Call}
-use Rattle.ghc_trace.specs.inner.BlameCode.{AreMakersBefore, AreWeightsWithin, StandsAtPlace, count_open, one_of}
+use Rattle.ghc_trace.specs.inner.BlameCode.{AreWeightsWithin, count_open, one_of}
 use Rattle.ghc_trace.proofs.next_question.weights_of.Goals as goal
 
 pub loop-place-init : goal.loop-place-init
@@ -26,14 +26,6 @@ loop-place-init c =
 -- The last of the places that are left.
 last_place : (k n : ℕ) → 0 < k → k ≤ n → (k - 1 + 1 ≡ k) × (k - 1 < n)
 last_place k n low high = (omega (arith, low), omega (arith, low, high))
-
--- A call's maker stands before it.
-maker_before : (calls : List Call) → AreMakersBefore calls → (j : ℕ) (d : Call) → StandsAtPlace calls j d → IfSome d.maker (λ p. p < j)
-maker_before calls before j d at = by_maker d.maker refl
-  where
-    by_maker : (o : Option ℕ) → d.maker ≡ o → IfSome o (λ p. p < j)
-    by_maker None e = tt
-    by_maker (Some p) e = before j p d at e
 
 fits : (o : Option ℕ) (doubts : List Bool) (weights : List ℕ) (h : AreWeightsWithin doubts weights) (j : ℕ) → j < length doubts → sum (take (j + 1) weights) ≤ count_open doubts → IfSome o (λ p. p < j)
     → IfSome o (λ p. (p < j) × (get_or weights p 0 + get_or weights j 0 ≤ length weights))

@@ -5,7 +5,7 @@ use Rattle.ghc_trace.specs.BlameLines.{TellsCallOf, fault_of_goal, fault_of_step
 use Rattle.ghc_trace.specs.inner.BlameLinesCode.{IsTakerOf}
 use Rattle.ghc_trace.proofs.BlameTold.{taker_goal, taker_kept, too_long_call}
 use Rattle.ghc_trace.proofs.CausePlaces.{on_ok}
-use Rattle.ghc_trace.proofs.blame_lines.write_fault_of_call.Goals as goal
+use Rattle.ghc_trace.proofs.verdict_lines.write_fault_of_call.Goals as goal
 
 pub returns-in-Err-clause-too_long : goal.returns-in-Err-clause-too_long
 returns-in-Err-clause-too_long c e rs t answers about fault =

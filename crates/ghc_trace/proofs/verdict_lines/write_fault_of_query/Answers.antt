@@ -2,7 +2,7 @@ use Rattle.ghc_trace.proofs.Words.{◌≡◌, ◌++◌, List, Goal, codes, refl,
 use Rattle.ghc_trace.specs.BlameLines.{AreMadeGoals, fault_of_query, only, query_is_too_long}
 use Rattle.ghc_trace.specs.GoalLines.{IsTooLong}
 use Rattle.ghc_trace.proofs.BlameTold.{in_slice}
-use Rattle.ghc_trace.proofs.blame_lines.write_fault_of_query.Goals as goal
+use Rattle.ghc_trace.proofs.verdict_lines.write_fault_of_query.Goals as goal
 
 pub returns-in-Err-clause-too_long : goal.returns-in-Err-clause-too_long
 returns-in-Err-clause-too_long c e rs t answers about fault =

@@ -1,7 +1,7 @@
 use Rattle.ghc_trace.proofs.Words.{◌≡◌, ◌++◌, ℕ, List, take, string_bytes, StartsWith, Record, State}
 use Rattle.ghc_trace.specs.BlameLines.{AreAskedGoals, only}
 use Rattle.ghc_trace.specs.inner.BlameLinesCode.{IsAbout}
-use Rattle.ghc_trace.proofs.blame_lines.write_all_asked.Given as goal
+use Rattle.ghc_trace.proofs.verdict_lines.write_all_asked.Given as goal
 
 abbrev pub invariant-loop-number : goal.invariant-loop-number
 invariant-loop-number l = record {

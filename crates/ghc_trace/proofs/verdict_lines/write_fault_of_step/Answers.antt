@@ -5,7 +5,7 @@ use Rattle.ghc_records.specs.StepText.{step_text}
 use Rattle.ghc_trace.specs.BlameLines.{AreMadeGoals, only}
 use Rattle.ghc_trace.specs.GoalLines.{IsTooLong}
 use Rattle.ghc_trace.proofs.Explained.{some_there}
-use Rattle.ghc_trace.proofs.blame_lines.write_fault_of_step.Goals as goal
+use Rattle.ghc_trace.proofs.verdict_lines.write_fault_of_step.Goals as goal
 
 pub unwrap-step-requires : goal.unwrap-step-requires
 unwrap-step-requires c =

@@ -4,7 +4,7 @@ use Rattle.ghc_trace.specs.BlameLines.{AreMadeGoals, only}
 use Rattle.ghc_trace.proofs.CausePlaces.{on_ok}
 use Rattle.ghc_trace.proofs.Explained.{some_there}
 use Rattle.ghc_trace.proofs.PartFinding.{no_value}
-use Rattle.ghc_trace.proofs.blame_lines.write_asked.Goals as goal
+use Rattle.ghc_trace.proofs.verdict_lines.write_asked.Goals as goal
 
 pub unwrap-step-requires : goal.unwrap-step-requires
 unwrap-step-requires c =

@@ -3,7 +3,7 @@ use Rattle.ghc_records.proofs.OrderLemmas.{number_of}
 use Rattle.ghc_trace.specs.BlameLines.{AreAskedGoals, no_step, only}
 use Rattle.ghc_trace.proofs.BlameTold.{kept_number, one_asked}
 use Rattle.ghc_trace.proofs.PartSteps.{all_taken, split_at}
-use Rattle.ghc_trace.proofs.blame_lines.write_all_asked.Goals as goal
+use Rattle.ghc_trace.proofs.verdict_lines.write_all_asked.Goals as goal
 
 pub loop-number-init : goal.loop-number-init
 loop-number-init c = record { lines = λ rs t about. ([], no_step, sym (append-nil (string_bytes c.args.out.now))); begun = grind (arith, common_steps) }

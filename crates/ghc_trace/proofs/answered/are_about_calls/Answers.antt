@@ -4,7 +4,7 @@ use Rattle.ghc_trace.specs.declared.judgements.Answer.{Answer}
 use Rattle.ghc_trace.specs.declared.judgements.Judgement.TheVariants.{Right}
 use Rattle.ghc_trace.specs.declared.slice_calls.Call.{Call}
 use Rattle.ghc_trace.specs.inner.BlameCode.{StandsAtPlace}
-use Rattle.ghc_trace.proofs.questions.are_about_calls.Goals as goal
+use Rattle.ghc_trace.proofs.answered.are_about_calls.Goals as goal
 
 pub loop-answer-init : goal.loop-answer-init
 loop-answer-init c a i = absurd i

@@ -3,7 +3,7 @@ use Rattle.ghc_trace.proofs.CallAnswers.{judged_more, judged_none}
 use Rattle.ghc_trace.specs.declared.judgements.Answer.{Answer}
 use Rattle.ghc_trace.specs.declared.judgements.Judgement.TheVariants.{Right}
 use Rattle.ghc_trace.specs.inner.BlameCode.{AreJudged}
-use Rattle.ghc_trace.proofs.questions.judged.Goals as goal
+use Rattle.ghc_trace.proofs.answered.judged.Goals as goal
 
 pub loop-answer-init : goal.loop-answer-init
 loop-answer-init c = judged_none c.new-judged.result c.new-judged.ensures.empty
