@@ -6,6 +6,7 @@ import Canvas from "./canvas.mjs";
 import Deeds from "./deeds.mjs";
 import Elements from "./elements.mjs";
 import Holes from "./holes.mjs";
+import Names from "./names.mjs";
 import Shown from "./shown.mjs";
 import Talk from "./talk.mjs";
 
@@ -20,7 +21,7 @@ const Answers = (() => {
 
   function put(isBad, ...parts) {
     const area = find("answer"), close = make("button", { class: "small", id: "close-answer", title: "Closes this line", "aria-label": "Close the answer" }, "×");
-    area.replaceChildren(make("span", { class: "answer-words" }, ...parts), close);
+    area.replaceChildren(Names.dress(make("span", { class: "answer-words" }, ...parts)), close);
     area.classList.toggle("refused", isBad);
     area.hidden = false;
   }

@@ -5,6 +5,7 @@ import Graph from "../front/run/graph.mjs";
 import Terms from "../front/run/terms.mjs";
 import Deeds from "./deeds.mjs";
 import Elements from "./elements.mjs";
+import Naming from "./naming.mjs";
 import Picture from "./picture.mjs";
 import Shown from "./shown.mjs";
 import Talk from "./talk.mjs";
@@ -18,7 +19,8 @@ const Beside = (() => {
   /** The run as it is now, which goes on no more. */
   function frozen() {
     const { graph, goals, shelf, texts, clauses, values } = Talk.run;
-    return { graph: Graph.partOf(graph, 0, graph.count), goals, shelf, texts: new Map(texts), clauses, values, given: Talk.given, lines: Talk.typedLines() };
+    const own = Graph.partOf(graph, 0, graph.count), naming = new Naming(Talk.given, own);
+    return { graph: own, goals, shelf, texts: new Map(texts), clauses, values, given: Talk.given, lines: Talk.typedLines(), shown: (text) => naming.shown(text) };
   }
 
   /** Keeps the run beside; says whether it did. */
@@ -76,7 +78,7 @@ const Beside = (() => {
       area.textContent = "";
       return;
     }
-    const drawn = Picture.draw(beside.kept, { ...options, by: "depth", scope: "kept", leastColumns: columns(), legend: false, high: undefined });
+    const drawn = Picture.draw(beside.kept, { ...options, by: "depth", scope: "kept", leastColumns: columns(), legend: false, high: undefined, shown: beside.kept.shown });
     area.innerHTML = drawn.svg.replace(/ data-step="/g, ' data-kept="').replace(/ data-(goal|taken|goto|unfold|from-goal|to-goal)="/g, ' data-kept-$1="');
     if (!isComparable()) return;
     const { pairs } = told(), others = new Set(pairs.values());
@@ -104,7 +106,7 @@ const Beside = (() => {
     if (pairs.has(number)) {
       Deeds.choose({ step: pairs.get(number) });
       Deeds.scrollTo(Shown.chosen);
-    } else Deeds.tell(false, `Only in the run that was kept: ${Terms.cut(Picture.tellStep(beside.kept, beside.kept.graph.byNumber.get(number)).split("\n").join(", "), 300)}`);
+    } else Deeds.tell(false, `Only in the run that was kept: ${Terms.cut(beside.kept.shown(Picture.tellStep(beside.kept, beside.kept.graph.byNumber.get(number))).split("\n").join(", "), 300)}`);
   }
 
   return Object.assign(beside, {

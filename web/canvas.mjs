@@ -3,6 +3,7 @@ import Graph from "../front/run/graph.mjs";
 import Beside from "./beside.mjs";
 import Deeds from "./deeds.mjs";
 import Elements from "./elements.mjs";
+import Names from "./names.mjs";
 import Overview from "./overview.mjs";
 import Picture from "./picture.mjs";
 import Shown from "./shown.mjs";
@@ -30,7 +31,7 @@ const Canvas = (() => {
     const room = Math.max(320, area.clientWidth - 8) * (Overview.isOn() || Shown.isFit ? 1 : Shown.zoom);
     const high = Shown.isFit ? Math.max(120, area.clientHeight - LEGEND) : undefined;
     Overview.draw();
-    const drawn = Picture.draw(Overview.shownRun(), { by: Shown.by, theme: Shown.theme, room, high, leastColumns: Shown.by === "depth" ? Beside.columns() : 0, legend: true, titles: false });
+    const drawn = Picture.draw(Overview.shownRun(), { by: Shown.by, theme: Shown.theme, room, high, leastColumns: Shown.by === "depth" ? Beside.columns() : 0, legend: true, titles: false, shown: Names.shown });
     area.innerHTML = drawn.svg;
     Beside.draw({ theme: Shown.theme, room, titles: false });
     canvas.view = drawn.view;
@@ -203,7 +204,8 @@ const Canvas = (() => {
 
   /** What the picture says of a step or of an arrow. */
   function wordsFor(element) {
-    const run = Overview.run(), { graph } = run, { step, from, to } = element.dataset;
+    const run = Overview.run(), { graph } = run, { step, from, to, types } = element.dataset;
+    if (types !== undefined) return `${types}: a click types it`;
     if (step !== undefined) return Picture.tellStep(run, graph.byNumber.get(Number(step)));
     const edge = to === undefined ? undefined : graph.causes.get(Number(to)).find((one) => one.from === Number(from));
     return edge && edge.kind !== "made" ? Picture.tellArrow(run, edge) : "";
@@ -211,10 +213,10 @@ const Canvas = (() => {
 
   /** Puts words on what one points at. A picture that is drawn with all its words takes longer to show. */
   function addTitle(element) {
-    const found = element.closest("[data-step], .edge");
+    const found = element.closest("[data-types], [data-step], .edge");
     if (!found || found.querySelector("title")) return;
     const title = document.createElementNS("http://www.w3.org/2000/svg", "title");
-    title.textContent = wordsFor(found);
+    title.textContent = found.dataset.types === undefined ? Names.shown(wordsFor(found)) : wordsFor(found);
     if (title.textContent) found.append(title);
   }
 

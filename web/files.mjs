@@ -9,6 +9,7 @@ import Deeds from "./deeds.mjs";
 import Elements from "./elements.mjs";
 import ExampleNotes from "./example_notes.mjs";
 import Holes from "./holes.mjs";
+import Names from "./names.mjs";
 import Overview from "./overview.mjs";
 import Picture from "./picture.mjs";
 import Program from "./program.mjs";
@@ -40,7 +41,7 @@ const Files = (() => {
 
   /** The run, or a part of it, as an SVG that stands alone. */
   function pictureText({ theme = "light", from, to } = {}) {
-    return Picture.draw(partOf(from, to), { by: Shown.by, theme, room: find("canvas").clientWidth * Shown.zoom, legend: true, title: Talk.given.query }).svg;
+    return Picture.draw(partOf(from, to), { by: Shown.by, theme, room: find("canvas").clientWidth * Shown.zoom, legend: true, title: Talk.given.query, shown: Names.shown }).svg;
   }
 
   /** A picture in pixels, two for each point. */

@@ -8,6 +8,7 @@ import Beside from "./beside.mjs";
 import Canvas from "./canvas.mjs";
 import Deeds from "./deeds.mjs";
 import Elements from "./elements.mjs";
+import Names from "./names.mjs";
 import Overview from "./overview.mjs";
 import Resting from "./resting.mjs";
 import Talk from "./talk.mjs";
@@ -75,7 +76,7 @@ const Menus = (() => {
    */
   function clauseButtons(clauses, asked, does) {
     const area = make("div", { class: "clauses" });
-    const fill = (told) => area.replaceChildren(...told.map(([one, says]) => clauseButton(one, says, does)));
+    const fill = (told) => area.replaceChildren(...told.map(([one, says]) => Names.dress(clauseButton(one, says, does))));
     fill(clauses.map((one) => [one, undefined]));
     asked.then((reply) => {
       if (reply === null || !area.isConnected) return;
@@ -116,7 +117,7 @@ const Menus = (() => {
     const undo = first ? make("button", { disabled: true }, "Undo") : lineButton("Undo", `undo ${number}`);
     const why = first ? make("p", { class: "dim" }, `Undo alone is not lawful: step ${first.to} depends on it.`) : null;
     const clause = step.clause && clauses[step.clause - 1] ? clauses[step.clause - 1].text : "", goal = make("span");
-    Resting.withGoalText(step, (text) => { goal.textContent = `${text}\n`; });
+    Resting.withGoalText(step, (text) => { goal.textContent = `${text}\n`; Names.dress(goal); });
     return [title(`Step ${number}`, step.goal === null ? "asked for goals" : `goal ${step.goal}, ${step.act}`),
       code(goal, step.goal === null ? step.act : "", clause, ...step.binds.map((binding) => `${binding.variable} = ${Terms.cut(binding.term, 300)}`)),
       buttons(lineButton("Why?", `why ${number}`), undo, rollButton(number, gone), foldButton({ step: number })), why, ...otherClauses(step)];
@@ -167,7 +168,10 @@ const Menus = (() => {
   /** Begins the questions that lead to the clause by which a value, or how a goal stands, is wrong. */
   const blameButton = (name) => lineButton("Find the wrong clause", `blame ${name}`);
 
-  const isBound = (name) => Talk.run.graph.store.has(Asking.queryVariables(Talk.given.query).get(name) ?? name);
+  /** A variable as the console prints it. */
+  const numberOf = (name) => Asking.queryVariables(Talk.given.query).get(name) ?? name;
+
+  const isBound = (name) => Talk.run.graph.store.has(numberOf(name));
 
   /** The menu of a goal that is there. */
   function ofGoal(name) {
@@ -189,9 +193,9 @@ const Menus = (() => {
   }
 
   /** The menu of a variable in the store. */
-  const ofVariable = (name) => [title(name, "a variable"), buttons(lineButton("Show", `show ${name}`), lineButton("Who bound it?", `who ${name}`), isBound(name) ? blameButton(name) : null),
+  const ofVariable = (name) => [title(Names.shown(name), make("span", null, "a variable, ", make("span", { class: "typed" }, numberOf(name)), " at the console")), buttons(lineButton("Show", `show ${name}`), lineButton("Who bound it?", `who ${name}`), isBound(name) ? blameButton(name) : null),
     buttons(lineButton("What it rests on", `explain ${name}`),
-      make("button", { "data-keep": name, title: "Takes back all steps on which this value does not rest; asks first" }, "Keep that alone …"))];
+      make("button", { "data-keep": name, title: "Takes back all steps on which this value does not rest; asks first" }, "Keep that alone …"), make("button", { "data-types": numberOf(name) }, "Type its number"))];
 
   const ofTaken = (number) => {
     const step = Talk.run.shelf.find((other) => other.number === number);
@@ -255,6 +259,7 @@ const Menus = (() => {
   function openWith(parts, anchor, focus = "input, button:not([disabled])") {
     const menu = find("menu");
     menu.replaceChildren(...parts);
+    Names.dress(menu);
     menu.setAttribute("aria-label", menu.querySelector(".menu-title").textContent);
     menu.hidden = false;
     place(anchor);

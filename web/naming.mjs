@@ -6,15 +6,18 @@ import Run from "../front/run/run.mjs";
 const Naming = (() => {
   const MOST_LETTERS = 200000; // of a program and a query that are read for their names
   const SUBSCRIPT = "₀".codePointAt(0);
-  const VARIABLE = /\b_\d+_\d+\b/g;
+  const VARIABLE = /\b_\d+_\d+\b/g, PARTED = /(\b_\d+_\d+\b)/, VARIABLE_ALONE = /^_\d+_\d+$/;
 
   const subscript = (number) => [...String(number)].map((digit) => String.fromCodePoint(SUBSCRIPT + Number(digit))).join("");
+
+  /** Of a graph's steps, by their numbers, what a name needs: the clause. No step is read for it. */
+  const stepsOf = (graph) => ({ get: (number) => { const at = graph.indexOf(number); return at < 0 ? undefined : { clause: graph.clauses.at(at) }; } });
 
   /** The names for the variables of a run: of a long program there are none. */
   class Naming {
     constructor({ program, query }, graph) {
       const isLong = program.length + query.length > MOST_LETTERS;
-      this.run = isLong ? null : new Run(Reader.readProgram(program), query, { steps: graph.byNumber, texts: new Map(), changes: 0 });
+      this.run = isLong ? null : new Run(Reader.readProgram(program), query, { steps: stepsOf(graph), texts: new Map(), changes: 0 });
     }
 
     /** The name that the text gives to a variable; undefined where it gives none. */
@@ -32,6 +35,26 @@ const Naming = (() => {
     /** A text with the names that people know. */
     shown(text) {
       return text.replace(VARIABLE, (variable) => this.shownName(variable));
+    }
+
+    /** A text taken apart: texts, and between them each variable that has a name, with that. */
+    partsOf(text) {
+      const parts = [""];
+      for (const part of text.split(PARTED)) {
+        const name = VARIABLE_ALONE.test(part) ? this.shownName(part) : part;
+        if (name !== part) parts.push({ variable: part, name }, "");
+        else parts.push(parts.pop() + part);
+      }
+      return parts.filter((part) => part !== "");
+    }
+
+    /** The variable of a name as people know it; undefined where no step here has it. */
+    variableOf(shown) {
+      const [, name, below] = /^([A-Z_]\w*?)([₀-₉]*)$/.exec(shown) || [];
+      if (this.run === null || name === undefined) return undefined;
+      const step = Number([...below].map((digit) => digit.codePointAt(0) - SUBSCRIPT).join("")), { clause } = this.run.kept.steps.get(step) || { clause: 0 };
+      const names = step === 0 ? this.run.query.variables : this.run.clauses[clause - 1]?.news || [], place = names.indexOf(name);
+      return place < 0 ? undefined : `_${step}_${place + 1}`;
     }
 
     /** A goal's text as a query: no `_1_2` may stand there, so each variable has a name of its own, the text's where no other has it. */

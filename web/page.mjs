@@ -284,11 +284,20 @@ const Page = (() => {
     element.classList.add("told");
   }
 
+  /** Types the number of a variable behind what stands in the console's line. */
+  function typeNumber(element) {
+    const line = find("line"), before = line.value.trimEnd();
+    showTab("console");
+    line.value = before === "" ? element.dataset.types : `${before} ${element.dataset.types}`;
+    line.focus();
+  }
+
   const closing = (does) => (element) => { Menus.close(); does(element); };
 
   /** What a click does, by what it hits: the first of these that fits. */
   const CLICKS = [
     ["[data-line]:not(:disabled)", closing(({ dataset }) => Talk.send(dataset.line))],
+    ["[data-types]", closing(typeNumber)],
     ["[data-root]", closing(explainPart)],
     ["[data-keep]", ({ dataset }) => Resting.askKeep(dataset.keep)],
     ["[data-go-goal]", ({ dataset }) => goToGoal(dataset.goGoal)],

@@ -1,5 +1,4 @@
 // Fills what stands around the picture: console, goals, store, what was taken back, the chosen step, and how many there are.
-import Asking from "../front/protocol/asking.mjs";
 import Replies from "../front/protocol/replies.mjs";
 import Explain from "../front/run/explain.mjs";
 import Graph from "../front/run/graph.mjs";
@@ -9,6 +8,7 @@ import Answers from "./answers.mjs";
 import Beside from "./beside.mjs";
 import Deeds from "./deeds.mjs";
 import Elements from "./elements.mjs";
+import Names from "./names.mjs";
 import Overview from "./overview.mjs";
 import Picture from "./picture.mjs";
 import Resting from "./resting.mjs";
@@ -60,8 +60,9 @@ const Panels = (() => {
   function goalRow(goal) {
     const waits = goal.waitsFor.length > 0 ? make("span", { class: "dim" }, ` waits for ${goal.waitsFor.join(", ")}`) : null;
     const failed = goal.refusal ? make("span", { class: "dim" }, ` ${goal.refusal}`) : null;
-    const text = make("button", { class: "row", "data-goal": goal.name }, make("span", { class: `status ${goal.status}` }, goal.status),
-      make("span", { class: "dim" }, `${goal.name} `), make("span", { title: goal.text.length > LONGEST_GOAL ? Terms.cut(goal.text, 2000) : null }, Terms.cut(goal.text, LONGEST_GOAL)), waits, failed);
+    const name = make("button", { class: "goal-name", "data-goal": goal.name, title: "What can be done with it" }, make("span", { class: `status ${goal.status}` }, goal.status), make("span", { class: "dim" }, `${goal.name} `));
+    const text = make("div", { class: "row", "data-goal": goal.name }, name, make("span", { title: goal.text.length > LONGEST_GOAL ? Terms.cut(goal.text, 2000) : null }, Terms.cut(goal.text, LONGEST_GOAL)), waits, failed);
+    Names.dress(text, { isInList: true });
     const step = lineButton("Step", `step ${goal.name}`, { class: "small" });
     return make("div", { class: "line-row" }, text, goal.status === "ready" && Overview.until === null ? step : null);
   }
@@ -82,7 +83,7 @@ const Panels = (() => {
 
   const showGoals = () => {
     const { goals, goalsRefused } = Overview.run(), isNow = Overview.until === null;
-    const keyOf = ({ name, status, waitsFor, refusal, text }) => [isNow, name, status, waitsFor, refusal, text].join();
+    const keyOf = ({ name, status, waitsFor, refusal, text }) => Names.shown([isNow, name, status, waitsFor, refusal, Terms.cut(text, LONGEST_GOAL)].join());
     const rows = goals.slice(0, MOST_ROWS).map((goal) => ({ key: keyOf(goal), does: () => goalRow(goal) }));
     const empty = Talk.refusal ? "none" : goalsRefused ? "They are too long to be told." : "none: all is done";
     fill("goals", rows, empty, goals.length, timeRows());
@@ -95,7 +96,7 @@ const Panels = (() => {
     const rows = shelf.slice(0, MOST_ROWS).map(({ number, goal, act }) => {
       const words = `${number} ${goal || "-"} ${act}`, line = `redo ${number}`;
       const attributes = { class: "chip taken", title: `${line}: puts it there again` };
-      return { key: words, does: () => lineButton(words, line, attributes) };
+      return { key: Names.shown(words), does: () => Names.dress(lineButton(words, line, attributes)) };
     });
     fill("shelf", rows, isNow ? "nothing" : "shown with all steps", shelf.length);
     find("redo-all").hidden = !isNow || shelf.length < 2;
@@ -115,6 +116,7 @@ const Panels = (() => {
     const because = causes.flatMap((line) => ["\nbecause of ", goTo(line.split(" ")[0], line)]);
     area.replaceChildren(Picture.tellStep(run, step), ...because,
       ...effects.slice(0, 20).flatMap((number, index) => [index === 0 ? "\nneeded by " : ", ", goTo(number, String(number))]));
+    Names.dress(area);
   }
 
   /** Why a goal has failed, with links to the steps that brought it there. */
@@ -126,8 +128,7 @@ const Panels = (() => {
 
   /** Where no goal is ready: who waits for what, and who could help. */
   function tellWaiting(goals) {
-    const names = new Map([...Asking.queryVariables(Talk.given.query)].map(([name, variable]) => [variable, name]));
-    const told = Stuck.lineOfOne(goals, (variable) => (names.has(variable) ? `${variable} (${names.get(variable)})` : variable));
+    const told = Stuck.lineOfOne(goals, (variable) => variable);
     const start = `Nothing is ready, and ${goals.length === 1 ? "a goal waits" : `${goals.length} goals wait`}.`;
     if (told === undefined) return [start];
     return [`${start} ${Terms.cut(told.words, 400)}. `, ...withCode(told.isHelped ? "Click a goal that waits, then `Explain`." : "`ask …` adds a goal that binds it.")];
@@ -177,6 +178,7 @@ const Panels = (() => {
     wasChanged = Deeds.isChanged();
     const parts = [...noteParts(), ...changedParts()];
     find("note").replaceChildren(...parts);
+    Names.dress(find("note"));
     find("note").hidden = parts.length === 0;
     find("note").classList.toggle("refused", Boolean(Talk.refusal || Talk.trouble));
   }
@@ -218,10 +220,10 @@ const Panels = (() => {
 
   /** Makes a panel anew; what had the focus in it has it afterwards, or what stands in its place. */
   function keepFocus(name, does) {
-    const panel = find(name), before = [...panel.querySelectorAll("button")], at = before.indexOf(document.activeElement), was = at < 0 ? "" : nameOf(before[at]);
+    const panel = find(name), buttons = () => [...panel.querySelectorAll("button:not(.variable)")], before = buttons(), at = before.indexOf(document.activeElement), was = at < 0 ? "" : nameOf(before[at]);
     does();
     if (at < 0) return;
-    const after = [...panel.querySelectorAll("button")], same = after.find((button) => nameOf(button) === was);
+    const after = buttons(), same = after.find((button) => nameOf(button) === was);
     (same || after[Math.min(at, after.length - 1)] || find("step")).focus({ preventScroll: true });
   }
 

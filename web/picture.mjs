@@ -44,7 +44,8 @@ const Picture = (() => {
 .run .number{font-size:${round(sizes.radius * 0.9)}px;fill:${theme.number};font-weight:600;text-anchor:middle;pointer-events:none}
 .run .bound{paint-order:stroke;stroke:${theme.ground};stroke-width:3px}
 .run .halo{fill:none;stroke:none;stroke-width:3;pointer-events:all}
-.run .mark,.run .goal,.run .taken,.run .bar,.run .coming{cursor:pointer}
+.run .mark,.run .goal,.run .taken,.run .bar,.run .coming,.run [data-types]{cursor:pointer}
+.run [data-types]:hover{text-decoration:underline}
 .run .hit .halo{stroke:${theme.named};stroke-width:3;opacity:.9}
 .run .mark:hover .halo,.run .goal:hover .halo,.run .taken:hover .halo{stroke:${theme.held};opacity:.6}
 .run.looking .mark,.run.looking .edge,.run.looking .fork{opacity:.13}
@@ -210,7 +211,7 @@ const Picture = (() => {
   function drawArrow(view, run, edge) {
     const from = view.marks.get(edge.from), to = view.marks.get(edge.to), look = edge.woke ? "woke" : edge.kind;
     const kind = `read${look === "read" ? "" : ` ${look}`}${edge.implied && !edge.woke ? " implied" : ""}`;
-    return `<g class="edge" data-from="${edge.from}" data-to="${edge.to}"><path class="${kind}" d="${pathOf(curveOf(view, from, to))}" marker-end="url(#head-${look})"/>${view.hasTitles ? `<title>${escaped(tellArrow(run, edge))}</title>` : ""}</g>`;
+    return `<g class="edge" data-from="${edge.from}" data-to="${edge.to}"><path class="${kind}" d="${pathOf(curveOf(view, from, to))}" marker-end="url(#head-${look})"/>${view.hasTitles ? `<title>${escaped(view.shown(tellArrow(run, edge)))}</title>` : ""}</g>`;
   }
 
   /** Whether both ends of an edge lie in one bar. */
@@ -289,7 +290,7 @@ const Picture = (() => {
     const letters = String(step.number).length, letter = Math.min(sizes.radius * 0.9, (sizes.radius * 3) / letters), isRead = sizes.kind === "roomy" && !mark.isLeaf && letter >= LEAST_LETTER;
     const size = letter < sizes.radius * 0.9 ? ` style="font-size:${round(letter)}px"` : "";
     const number = isRead ? `<text class="number"${size} x="${round(mark.x)}" y="${round(mark.y + sizes.radius * 0.33)}">${step.number}</text>` : "";
-    return `<g class="mark" data-step="${step.number}"><circle class="halo" cx="${round(mark.x)}" cy="${round(mark.y)}" r="${round(halo)}"/>${shapeOf(mark, sizes, fill)}${number}${view.hasTitles ? `<title>${escaped(tellStep(run, step))}</title>` : ""}</g>`;
+    return `<g class="mark" data-step="${step.number}"><circle class="halo" cx="${round(mark.x)}" cy="${round(mark.y)}" r="${round(halo)}"/>${shapeOf(mark, sizes, fill)}${number}${view.hasTitles ? `<title>${escaped(view.shown(tellStep(run, step)))}</title>` : ""}</g>`;
   }
 
   /** Above marks that are too small to hold their numbers: as many of these as have room side by side. */
@@ -327,11 +328,11 @@ const Picture = (() => {
     const binding = mark.step.binds[mark.step.binds.length - 1], value = Terms.brief(binding.term, new Map());
     const end = view.goals.size > 0 ? view.thereX - view.sizes.radius : view.width;
     const room = next ? next.x - mark.x : Math.min(150, end - mark.x), letters = Math.floor((room - 4) / 5.6);
-    const isTelling = /[a-z0-9]|\[\]/.test(value);
-    const forms = [`${binding.variable}=${binding.term}`, ...(isTelling ? [`${binding.variable}=${value}`, value] : []), binding.variable];
+    const isTelling = /[a-z0-9]|\[\]/.test(value), name = view.shown(binding.variable);
+    const forms = [`${name}=${view.shown(binding.term)}`, ...(isTelling ? [`${name}=${value}`, value] : []), name];
     const text = forms.find((form) => form.length <= letters);
     if (!text) return "";
-    return `<text class="bound" x="${round(mark.x - view.sizes.leaf)}" y="${round(mark.y + view.sizes.leaf + 10)}" font-size="9" fill="${theme.dim}">${escaped(text)}</text>`;
+    return `<text class="bound" data-types="${binding.variable}" x="${round(mark.x - view.sizes.leaf)}" y="${round(mark.y + view.sizes.leaf + 10)}" font-size="9" fill="${theme.dim}">${escaped(text)}</text>`;
   }
 
   function drawGoal(view, place, theme) {
@@ -339,23 +340,23 @@ const Picture = (() => {
     const colour = goal.status === "stream" ? theme.read : theme[goal.status] || theme.waits; // of a goal that was there once no status is known
     const dashes = goal.status === "waits" || goal.status === "then" ? ' stroke-dasharray="3 2.4"' : "";
     const cross = goal.status === "failed" ? `<path d="M${round(x - 4)} ${round(y - 4)}l8 8m0 -8l-8 8" stroke="${colour}" stroke-width="2"/>` : "";
-    const told = `${goal.name} ${goal.status}${goal.waitsFor.length ? ` for ${goal.waitsFor.join(", ")}` : ""}${goal.refusal ? ` ${goal.refusal}` : ""}\n${Terms.cut(goal.text, 300)}`;
+    const told = view.shown(`${goal.name} ${goal.status}${goal.waitsFor.length ? ` for ${goal.waitsFor.join(", ")}` : ""}${goal.refusal ? ` ${goal.refusal}` : ""}\n${Terms.cut(goal.text, 300)}`);
     const text = label ? `<text x="${round(x + sizes.radius + 6)}" y="${round(y + sizes.font * 0.35)}" font-size="${sizes.font}" fill="${colour}">${escaped(label)}</text>` : "";
     return `<g class="goal" data-goal="${goal.name}"><circle class="halo" cx="${round(x)}" cy="${round(y)}" r="${round(sizes.radius + 4)}"/><circle class="body" cx="${round(x)}" cy="${round(y)}" r="${radius}" fill="${theme.ground}" stroke="${colour}" stroke-width="${sizes.kind === "tiny" ? 1 : 2.2}"${dashes}/>${cross}${text}<title>${escaped(told)}</title></g>`;
   }
 
   function drawTaken(view, place, theme) {
     const { step, x, y } = place, radius = round(view.sizes.radius * 0.9);
-    return `<g class="taken" data-taken="${step.number}"><circle class="halo" cx="${round(x)}" cy="${round(y)}" r="${radius + 3}"/><circle class="body" cx="${round(x)}" cy="${round(y)}" r="${radius}" fill="${theme.ground}" stroke="${theme.taken}" stroke-width="1.5" stroke-dasharray="3 2"/>${view.sizes.kind === "tiny" ? "" : `<text x="${round(x)}" y="${round(y + 3)}" font-size="${round(view.sizes.radius * 0.85)}" text-anchor="middle" fill="${theme.dim}" pointer-events="none">${step.number}</text>`}<title>${escaped(`taken back: step ${step.number}, ${Replies.wordsOf(step)}`)}</title></g>`;
+    return `<g class="taken" data-taken="${step.number}"><circle class="halo" cx="${round(x)}" cy="${round(y)}" r="${radius + 3}"/><circle class="body" cx="${round(x)}" cy="${round(y)}" r="${radius}" fill="${theme.ground}" stroke="${theme.taken}" stroke-width="1.5" stroke-dasharray="3 2"/>${view.sizes.kind === "tiny" ? "" : `<text x="${round(x)}" y="${round(y + 3)}" font-size="${round(view.sizes.radius * 0.85)}" text-anchor="middle" fill="${theme.dim}" pointer-events="none">${step.number}</text>`}<title>${escaped(view.shown(`taken back: step ${step.number}, ${Replies.wordsOf(step)}`))}</title></g>`;
   }
 
   /** The arc from a waiting goal to a goal that has its variable. */
-  function drawWait(wait, theme) {
+  function drawWait(view, wait, theme) {
     const { x, fromX, fromY, toX, toY } = wait, sign = Math.sign(toY - fromY) || 1;
     const bend = Math.min(10, Math.abs(toY - fromY) / 2) * sign;
     const path = `M${round(fromX)} ${round(fromY)} H${round(x - 10)} Q${round(x)} ${round(fromY)} ${round(x)} ${round(fromY + bend)} V${round(toY - bend)} Q${round(x)} ${round(toY)} ${round(x - 10)} ${round(toY)} H${round(toX)}`;
     const kind = wait.isInCircle ? "circle" : "held", colour = wait.isInCircle ? theme.failed : theme.held;
-    return `<g class="wait" data-from-goal="${wait.from}" data-to-goal="${wait.to}"><path class="held ${wait.isInCircle ? "circle" : ""}" d="${path}" marker-end="url(#head-${kind})"/><text x="${round(x + 3)}" y="${round((fromY + toY) / 2 + 3)}" font-size="9.5" fill="${colour}">${wait.variable}</text><title>${escaped(`${wait.from} waits for ${wait.variable}, which ${wait.to} has`)}</title></g>`;
+    return `<g class="wait" data-from-goal="${wait.from}" data-to-goal="${wait.to}"><path class="held ${wait.isInCircle ? "circle" : ""}" d="${path}" marker-end="url(#head-${kind})"/><text x="${round(x + 3)}" y="${round((fromY + toY) / 2 + 3)}" font-size="9.5" fill="${colour}" data-types="${wait.variable}">${escaped(view.shown(wait.variable))}</text><title>${escaped(view.shown(`${wait.from} waits for ${wait.variable}, which ${wait.to} has`))}</title></g>`;
   }
 
   /** What the shapes, colours and lines stand for: pairs of a small drawing and its words. */
@@ -406,13 +407,15 @@ const Picture = (() => {
    * The text of an SVG of a run. `options`: `by` is `record` or `depth`, `room` the width that there is, `theme` is `light` or `dark`,
    * `high` the height that all is to fit into (if it is), `title` a line above it, `legend` whether to say below it what all stands for, `titles` whether steps and reads carry words that a
    * browser shows where one points (they do unless it is false), `leastColumns` how many columns there are at least, and `scope` the class
-   * of the picture, by which its styles go. Gives the text and the places of what it shows.
+   * of the picture, by which its styles go, and `shown` what puts names in the place of a text's variables. Gives the text and the places
+   * of what it shows.
    */
-  function draw(run, options) {
+  function draw(given, options) {
+    const run = options.shown === undefined ? given : { ...given, shown: options.shown };
     const theme = THEMES[options.theme || "light"], colour = coloursOf(run, theme), top = options.title ? 62 : 34, first = top + ((run.incoming || []).length > 0 ? ROOM_OF_COMING : 0);
     const room = options.room || 1100;
     const scope = options.scope || "run", { high, leastColumns } = options;
-    const view = { ...Lanes.layout(run, { by: options.by || "record", room, top: first, high, leastColumns }), top, hasTitles: options.titles !== false };
+    const view = { ...Lanes.layout(run, { by: options.by || "record", room, top: first, high, leastColumns }), top, hasTitles: options.titles !== false, shown: options.shown || ((text) => text) };
     const showsImplied = view.sizes.kind !== "tiny" && run.graph.steps.length <= 500;
     const edges = run.graph.edges.filter((edge) => showsImplied || edge.kind === "made" || !edge.implied || edge.woke);
     const legend = options.legend ? drawLegend(view, run, room, theme, colour) : { text: "", bottom: view.bottom + 12, width: 0 };
@@ -426,7 +429,7 @@ const Picture = (() => {
       ...edges.filter((edge) => !isInside(view, edge)).map((edge) => drawEdge(view, run, edge)), drawComing(view, run.incoming || [], theme), ...[...view.goals.values()].map((place) => drawMadeGoal(view, place)),
       ...[...view.marks.values()].map((mark) => drawMark(view, run, mark, theme, colour)), drawBindings(view, theme), drawSmallNumbers(view, theme),
       ...[...view.goals.values()].map((place) => drawGoal(view, place, theme)), ...view.taken.map((place) => drawTaken(view, place, theme)),
-      ...view.waits.map((wait) => drawWait(wait, theme)),
+      ...view.waits.map((wait) => drawWait(view, wait, theme)),
       drawNames(view, theme, colour), drawAxis(view, theme), legend.text,
       options.title ? `<text x="14" y="27" font-size="17" font-weight="600" fill="${theme.ink}">${escaped(options.title)}</text>` : "", "</svg>",
     ];

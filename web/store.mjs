@@ -7,12 +7,13 @@ import Answers from "./answers.mjs";
 import Canvas from "./canvas.mjs";
 import Deeds from "./deeds.mjs";
 import Elements from "./elements.mjs";
+import Names from "./names.mjs";
 import Overview from "./overview.mjs";
 import Talk from "./talk.mjs";
 
 const Store = (() => {
   const { find, make, lineButton, goTo, fillRows } = Elements;
-  const MOST_ROWS = 100, MOST_LOOKED_AT = 2000, MOST_PARTS = 40, MOST_DEEP = 6, LONGEST_ATOM = 60;
+  const MOST_ROWS = 100, MOST_LOOKED_AT = 2000, MOST_PARTS = 40, MOST_DEEP = 6, LONGEST_ATOM = 60, LONGEST_BINDING = 160;
   const { isVariable, argumentsOf } = Explain;
 
   /** A part of a value as a button; `path` leads to it from the row's variable. */
@@ -50,16 +51,24 @@ const Store = (() => {
     return [part(root, path, `${end.slice(0, end.indexOf("("))}(`), ...inner, ")"];
   }
 
-  const row = (name, variable, by, room) => make("div", { class: "row value" }, make("button", { class: "name", "data-variable": name, title: "show, who, what it rests on" }, make("b", null, name)), " = ",
-    ...termParts(variable, [], variable, room), by === undefined ? null : make("span", { class: "dim" }, "  by ", goTo(by)));
+  const nameButton = (variable) => make("button", { class: "name", "data-variable": variable, title: "show, who, what it rests on" }, make("b", null, variable));
+
+  /** A row of the panel, with names in the place of variables. */
+  const valueRow = (...parts) => Names.dress(make("div", { class: "row value" }, ...parts), { isInList: true });
+
+  /** What a variable of the query is bound to, as far as it is known. */
+  function row(name, variable, room) {
+    const isBound = endOf(variable) !== variable;
+    return valueRow(nameButton(name), ...(isBound ? [" = ", ...termParts(variable, [], variable, room)] : [make("span", { class: "dim" }, " is not bound")]));
+  }
 
   /** The values of the query's variables, which are made anew each time; then all bindings, the newest first, each of which stays what it is. */
   function rows() {
     const { graph } = Overview.run(), { query } = Talk.given, values = [], bindings = [];
-    for (const [name, variable] of Asking.queryVariables(query)) values.push({ key: null, does: () => row(name, variable, undefined, { parts: MOST_PARTS * 3 }) });
+    for (const [name, variable] of Asking.queryVariables(query)) values.push({ key: null, does: () => row(name, variable, { parts: MOST_PARTS * 3 }) });
     for (let at = graph.count - 1; at >= 0 && at > graph.count - MOST_LOOKED_AT && bindings.length < MOST_ROWS; at--) {
       const step = graph.stepAt(at);
-      for (const { variable, term } of [...step.binds].reverse()) bindings.push({ key: `${variable} ${step.number} ${term}`, does: () => bindingRow(variable, step.number) });
+      for (const { variable, term } of [...step.binds].reverse()) bindings.push({ key: Names.shown(`${variable} ${step.number} ${Terms.cut(term, LONGEST_BINDING)}`), does: () => bindingRow(variable, step.number) });
     }
     return { values, bindings };
   }
@@ -67,8 +76,7 @@ const Store = (() => {
   /** A binding as it was made, with no binding followed. */
   function bindingRow(variable, by) {
     const term = Overview.run().graph.termOf(variable);
-    return make("div", { class: "row value" }, make("button", { class: "name", "data-variable": variable, title: "show, who, what it rests on" }, make("b", null, variable)), " = ",
-      part(variable, [], Terms.cut(term, 160)), make("span", { class: "dim" }, "  by ", goTo(by)));
+    return valueRow(nameButton(variable), " = ", part(variable, [], Terms.cut(term, LONGEST_BINDING)), make("span", { class: "dim" }, "  by ", goTo(by)));
   }
 
   /** Where a part of a value stands, for a question about it: the variable nearest above it, where that is not the value's own. */

@@ -46,11 +46,11 @@ const Tour = (() => {
     { name: "Where does a value come from?", session: "again", stations: [
       click("who T", "The first run stands here once more. Who bound T? In the store, click `T`, then `Who bound it?`"),
       click("why 6", "Step 6 did. In the picture, click step 6: its causes light up. Then `Why?`"),
-      type("explain _1_1", "It read two prices. One line tells on which steps a value rests: type `explain _1_1`. Behind step 2 stands `or 3`: another clause could have been chosen there."),
+      type("explain _1_1", "It read two prices, P₁ and Q₁, which the console calls `_1_1` and `_1_2`. One line tells on which steps a value rests: type `explain _1_1`. Behind step 2 stands `or 3`: another clause could have been chosen there."),
     ] },
     { name: "Try another continuation", session: "asked", stations: [
       click("roll 2", "The first run once more. What would the bill be if twelve pieces cost 7 each? No clause says so. Take step 2 back with what came of it: click it, then `Roll back`."),
-      click("ask _1_1 := 12 * 7", "The sum waits for `_1_1` now. Ask for another price in its place: click `ask …`, beside the word Goals, type `_1_1 := 12 * 7`, and press `Enter`."),
+      click("ask _1_1 := 12 * 7", "The sum waits for P₁ now, which the console calls `_1_1`. Ask for another price in its place: click `ask …`, beside the word Goals, type `_1_1 := 12 * 7`, and press `Enter`."),
       click("step 7.1", "The ask is step 7, a hexagon: it consumed no goal, and it depends on step 1, which made `_1_1`. Click 7.1, which it made, then `Step`."),
       click("step 1.3", "Click 1.3, then `Step`."),
       click("show T", "In the store, click `T`, then `Show`."),

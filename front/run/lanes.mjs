@@ -347,12 +347,15 @@ const Lanes = (() => {
   /** The lanes of a run, from the top, each with its steps and the goals that are there. */
   const lanesOf = (run) => lanesIn(run, runLanes(run), 0, run.graph.count, run.goals);
 
+  /** A text as a run's reader knows it: where `shown` is given, with names in the place of numbers of variables. */
+  const shownIn = (run, text) => (run.shown === undefined ? text : run.shown(text));
+
   const shortName = (predicate) => predicate.split("/")[0];
 
   /** What stands at the beginning of an ask's lane: the word, and its first goal with what is known by now. */
   function askText(step, run, store, longest) {
     const [first, ...others] = step.makes, text = (first && (run.texts.get(first) || Printed.splitOutside(step.act.slice(4), ",")[0])) || "true";
-    const told = Printed.sortOfText(text) === "call" ? Terms.briefCall(text, store) : text;
+    const told = Printed.sortOfText(text) === "call" ? Terms.briefCall(text, store) : shownIn(run, text);
     return Terms.cut(`ask ${told}${others.length > 0 ? ", …" : ""}`, longest);
   }
 
@@ -362,7 +365,7 @@ const Lanes = (() => {
     const text = run.texts.get(lane.name) || (lane.goals.find((goal) => goal.name === lane.name) || { text: "" }).text;
     const kind = kinds.get(lane.name);
     if (kind && kind.sort === "stream") return `stream ${text.split(" ")[1] || ""}`;
-    if (isSmall(kind)) return Terms.cut(text, longest);
+    if (isSmall(kind)) return Terms.cut(shownIn(run, text), longest);
     if (lane.predicates.length > 1 || text === "") return Terms.cut(lane.predicates.slice(0, 3).map(shortName).join(" → "), longest);
     return Terms.cut(Terms.briefCall(text, store), longest);
   }
@@ -434,15 +437,15 @@ const Lanes = (() => {
   }
 
   /** What stands after a goal that is there: `labels` is `long`, `name` or `none`. */
-  function goalLabel(goal, labels) {
+  function goalLabel(run, goal, labels) {
     if (labels === "none") return "";
     if (labels === "name") return goal.name;
     const told = { waits: ` waits ${goal.waitsFor.join(",")}`, failed: ` failed ${goal.refusal}` }[goal.status] || "";
-    return `${goal.name} ${Terms.cut(goal.text, 26)}${Terms.cut(told, 22)}`;
+    return `${goal.name} ${Terms.cut(shownIn(run, goal.text), 26)}${Terms.cut(shownIn(run, told), 22)}`;
   }
 
   /** The width of a column of arcs, with their variables. */
-  const arcWidth = (edges) => 10 + Math.max(0, ...edges.map((edge) => edge.variable.length)) * 6;
+  const arcWidth = (run, edges) => 10 + Math.max(0, ...edges.map((edge) => shownIn(run, edge.variable).length)) * 6;
 
   const MOST_TAKEN = 3; // steps that are shown beside their goal
   const taken = new WeakMap(); // by lists of steps that were taken back: those of each goal that is there
@@ -470,9 +473,9 @@ const Lanes = (() => {
   /** About how much room the goals that are there take up, with their labels, what was taken back from them, and the arcs of waits. */
   function roomForGoals(run, labels) {
     if (run.goals.length === 0) return 96;
-    const widths = run.goals.map((goal) => goalLabel(goal, labels).length * 7 + takenFrom(run, goal).length * 30);
+    const widths = run.goals.map((goal) => goalLabel(run, goal, labels).length * 7 + takenFrom(run, goal).length * 30);
     const edges = Stuck.edgesOf(run.goals).slice(0, MOST_ARCS);
-    return 70 + Math.max(...widths) + Math.min(3, edges.length) * arcWidth(edges);
+    return 70 + Math.max(...widths) + Math.min(3, edges.length) * arcWidth(run, edges);
   }
 
   /** The numbers above the columns; `before` is how many columns of the run stand before the first one. */
@@ -492,7 +495,7 @@ const Lanes = (() => {
     for (const lane of view.lanes) {
       for (const goal of lane.goals) {
         const x = view.thereX, y = view.yOf(lane, view.rows.get(goal.name));
-        const label = goalLabel(goal, sizes.labels);
+        const label = goalLabel(run, goal, sizes.labels);
         let end = x + sizes.radius + 6 + label.length * sizes.font * LETTER;
         for (const step of takenFrom(run, goal)) {
           end += sizes.radius * 2 + 8;
@@ -526,7 +529,7 @@ const Lanes = (() => {
       const from = view.goals.get(edge.from), to = view.goals.get(edge.to);
       return { ...edge, fromX: from.end + 4, fromY: from.y + 4, toX: to.end + 6, toY: to.y - 4, isInCircle: isInCircle(edge) };
     });
-    const wide = arcWidth(edges), columns = columnsOfArcs(view.waits);
+    const wide = arcWidth(run, edges), columns = columnsOfArcs(view.waits);
     for (const wait of view.waits) wait.x = right + 22 + wait.column * wide;
     return right + 22 + columns * wide;
   }

@@ -126,12 +126,12 @@ inBrowsers("a program that is too long is not pasted or opened; of a long one th
 
 inBrowsers("where nothing is ready, the page tells who waits for what, and what to do", async (page) => {
   await open(page, "#example=deadlock&query=after(A,B)", WIDE);
-  assert.equal(await page.value(text("note")), "Nothing is ready, and a goal waits. 0.1 waits for _0_1 (A): nobody can bind it (no other goal has it). ask … adds a goal that binds it.");
+  assert.equal(await page.value(text("note")), "Nothing is ready, and a goal waits. 0.1 waits for A: nobody can bind it (no other goal has it). ask … adds a goal that binds it.");
   await page.click("#ask-more");
   await page.type("A = done");
   await page.key("Enter");
   await page.click("#leap");
   assert.equal(await page.value('document.querySelector("#goals").textContent'), "none: all is done");
   await open(page, "#example=deadlock&query=after(A,B), after(B,C)", WIDE);
-  assert.equal(await page.value(text("note")), "Nothing is ready, and 2 goals wait. 0.1 waits for _0_1 (A): nobody can bind it (no other goal has it). ask … adds a goal that binds it.");
+  assert.equal(await page.value(text("note")), "Nothing is ready, and 2 goals wait. 0.1 waits for A: nobody can bind it (no other goal has it). ask … adds a goal that binds it.");
 });

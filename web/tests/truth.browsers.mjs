@@ -75,9 +75,9 @@ inBrowsers("a menu asks what clauses say: one that says yes can be clicked, othe
     return (await page.value(clauses)).map(([words, isOff]) => [words.replace(/:.*\./, ":"), isOff]);
   };
   assert.deepEqual(await menu(),
-    [["by 1: waits for _0_2", true], ["by 2: waits for _0_1", true], ["by 3: waits for _0_2", true]]);
+    [["by 1: waits for Y", true], ["by 2: waits for X", true], ["by 3: waits for Y", true]]);
   await page.value('Talk.send("step 0.2")');
-  assert.deepEqual(await menu(), [["by 3:", false], ["by 2: waits for _0_1", true], ["by 1: says no", true]]);
+  assert.deepEqual(await menu(), [["by 3:", false], ["by 2: waits for X", true], ["by 1: says no", true]]);
   await page.value('Talk.send("step 0.1 1", "step 0.1 2")');
   const replies = await page.value("Talk.entries.slice(-2).map((entry) => entry.reply[0])");
   assert.deepEqual(replies, ["F10 no clause matches", "F9 waits"]);
@@ -93,7 +93,7 @@ inBrowsers("a menu asks what clauses say: one that says yes can be clicked, othe
 
 const CHOICE = "c(R) :- true | R = 1.\nc(R) :- true | w(R).\nc(R) :- true | R = 2, R = 3.\nw(X) :- wait(X) | true.\n";
 const ENDS = [
-  [2, /Nothing is ready, and a goal waits\. \d+\.1 waits for _0_1 \(R\): nobody can bind it/],
+  [2, /Nothing is ready, and a goal waits\. \d+\.1 waits for R: nobody can bind it/],
   [3, /Goal \d+\.\d has failed: .* are two different things/],
 ];
 

@@ -27,7 +27,7 @@ inBrowsers("a refusal stands above the picture, also on a phone, and its step is
 
 inBrowsers("a failed goal tells what clashed and which step bound it; an error in the program is scrolled into sight with its line", async (page) => {
   await open(page, FAILED, WIDE);
-  assert.match(await page.value(text("note")), /^Goal 4\.1 has failed: (2 and 7|7 and 2) are two different things \(F11, a clash\)\. Step 3 bound _1_1 = \[7\]\. Take back/);
+  assert.match(await page.value(text("note")), /^Goal 4\.1 has failed: (2 and 7|7 and 2) are two different things \(F11, a clash\)\. Step 3 bound Z1₁ = \[7\]\. Take back/);
   await page.click("#note [data-goto]");
   assert.deepEqual(await page.value("Canvas.chosen"), { step: 3 });
   const program = `${"p(a) :- true | true.\n".repeat(40)}p(b) :- true | q(.\n`;
@@ -105,7 +105,7 @@ inBrowsers("a part of a value is explained by a click, who and why light up, a v
   assert.deepEqual(await page.value(numbers("#canvas .chosen")), [47]);
   assert.deepEqual(await page.value(numbers("#canvas .way")), [29, 31, 37, 39]);
   await page.value('Talk.send("who R")');
-  assert.equal(await page.value(text("answer")), "who R _0_1 by 29×");
+  assert.equal(await page.value(text("answer")), "who R R by 29×");
   assert.deepEqual(await page.value(numbers("#canvas .chosen")), [29]);
   await page.click('#store [data-variable="_2_3"]');
   await page.click('#menu [data-keep="_2_3"]');
@@ -214,7 +214,9 @@ inBrowsers("above 3,000 steps the counts, the last step, the store and the chose
   assert.ok(!(await page.value(text("note"))).includes("`"));
   const rows = await page.value('[...document.querySelectorAll("#store .row")].map((row) => row.textContent)');
   assert.equal(rows[0].slice(0, 20), value.slice(0, 20));
-  assert.equal(rows[1], binding.replace(/^(\d+) .* binds (_\d+_\d+)=(.*) makes .*$/, "$2 = $3  by $1"));
+  const [, number, variable, term] = /^(\d+) .* binds (_\d+_\d+)=(.*) makes .*$/.exec(binding);
+  assert.equal(rows[1], await page.value(`Names.shown(${JSON.stringify(`${variable} = ${term}  by ${number}`)})`));
+  assert.equal(await page.value('document.querySelectorAll("#store .row .name")[1].dataset.variable'), variable);
   await page.value("Canvas.choose({ step: 2500 })");
   assert.match(await page.value(text("detail")), /^step 2500: goal /);
 });
