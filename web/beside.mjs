@@ -79,7 +79,9 @@ const Beside = (() => {
       return;
     }
     const drawn = Picture.draw(beside.kept, { ...options, by: "depth", scope: "kept", leastColumns: columns(), legend: false, high: undefined, shown: beside.kept.shown });
-    area.innerHTML = drawn.svg.replace(/ data-step="/g, ' data-kept="').replace(/ data-(goal|taken|goto|unfold|from-goal|to-goal)="/g, ' data-kept-$1="');
+    const picture = drawn.svg.replace(/ data-step="/g, ' data-kept="').replace(/ data-(goal|taken|goto|unfold|from-goal|to-goal)="/g, ' data-kept-$1="');
+    area.replaceChildren(Deeds.resultOf(beside.kept));
+    area.insertAdjacentHTML("beforeend", picture);
     if (!isComparable()) return;
     const { pairs } = told(), others = new Set(pairs.values());
     ringAlone(area, "kept", (number) => !pairs.has(number));

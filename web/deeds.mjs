@@ -4,7 +4,7 @@ const Deeds = (() => {
     "begin", "beginOther", "typed", "isChanged", "setTyped", // a session, and the texts in the fields
     "showTab", "setOrder", "showNow", "showTime", "timeRows", "showNote", "showDetail", // what is seen
     "draw", "choose", "scrollTo", "markClause", // the picture and the program
-    "tell", "tellSlice", "openMenu", "openMenuWith", "closeMenu", "pointAgain", "savePicture", // answers, menus, the tour, files
+    "resultOf", "tell", "tellSlice", "openMenu", "openMenuWith", "closeMenu", "pointAgain", "savePicture", // answers, menus, the tour, files
   ];
   const deeds = {};
 

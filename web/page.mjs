@@ -22,6 +22,7 @@ import Overview from "./overview.mjs";
 import Panels from "./panels.mjs";
 import Program from "./program.mjs";
 import Resting from "./resting.mjs";
+import Result from "./result.mjs";
 import Shown from "./shown.mjs";
 import Store from "./store.mjs";
 import Talk from "./talk.mjs";
@@ -150,7 +151,7 @@ const Page = (() => {
 
   /** What shows a change, in its order. */
   const parts = () => [
-    Overview.follow, Beside.follow, redraw, showNewSteps, Looking.follow, ...Panels.PARTS, Blaming.show, Guide.onChange, tellCause,
+    Overview.follow, Beside.follow, Result.show, redraw, showNewSteps, Looking.follow, ...Panels.PARTS, Blaming.show, Guide.onChange, tellCause,
     Keeping.keep,
   ];
 
@@ -241,6 +242,7 @@ const Page = (() => {
     smaller: () => setZoom(Shown.zoom / 1.4), larger: () => setZoom(Shown.zoom * 1.4), fit: () => setFit(!Shown.isFit),
     "keep-run": () => Beside.keep(), "drop-run": () => Beside.drop(), "swap-runs": () => Beside.swap(),
     play: () => Looking.play(), "show-all-steps": () => Looking.showNow(),
+    "lanes-alone": () => Panels.showLanesAlone(), "lanes-all": () => { Overview.only = null; Canvas.draw(); Panels.showNote(); },
     wrap: () => Program.setWrap(!Program.isWrapped()), again: () => Talk.again(), "close-answer": () => Answers.hide(),
     "go-without": () => Keeping.goWithout(),
     "blame-light": () => Blaming.lightAgain(), "blame-close": () => Blaming.close(), "blame-alone": () => Blaming.tryAlone(), "blame-return": () => Blaming.goBack(),
@@ -444,9 +446,9 @@ const Page = (() => {
 
   Deeds.give({
     begin, beginOther: Keeping.beginOther, typed, isChanged, setTyped,
-    showTab, setOrder, showNow: Looking.showNow, showTime: Panels.showTime, timeRows: Panels.timeRows, showNote: Panels.showNote, showDetail: Panels.showDetail,
+    showTab, setOrder, showNow: Looking.showNow, showTime: () => { Result.show(); Panels.showTime(); }, timeRows: Panels.timeRows, showNote: Panels.showNote, showDetail: Panels.showDetail,
     draw: Canvas.draw, choose: Canvas.choose, scrollTo: Canvas.scrollTo, markClause: Program.markClause,
-    tell: Answers.put, tellSlice: Resting.tell, openMenu: Menus.open, openMenuWith: Menus.openWith, closeMenu: Menus.close,
+    resultOf: Result.ofKept, tell: Answers.put, tellSlice: Resting.tell, openMenu: Menus.open, openMenuWith: Menus.openWith, closeMenu: Menus.close,
     pointAgain: Guide.pointAgain, savePicture: Files.savePicture,
   });
 

@@ -9,6 +9,7 @@ import Beside from "./beside.mjs";
 import Deeds from "./deeds.mjs";
 import Elements from "./elements.mjs";
 import Names from "./names.mjs";
+import Outcome from "./outcome.mjs";
 import Overview from "./overview.mjs";
 import Picture from "./picture.mjs";
 import Resting from "./resting.mjs";
@@ -60,7 +61,7 @@ const Panels = (() => {
   function goalRow(goal) {
     const waits = goal.waitsFor.length > 0 ? make("span", { class: "dim" }, ` waits for ${goal.waitsFor.join(", ")}`) : null;
     const failed = goal.refusal ? make("span", { class: "dim" }, ` ${goal.refusal}`) : null;
-    const name = make("button", { class: "goal-name", "data-goal": goal.name, title: "What can be done with it" }, make("span", { class: `status ${goal.status}` }, goal.status), make("span", { class: "dim" }, `${goal.name} `));
+    const name = make("button", { class: "goal-name", "data-goal": goal.name, title: "What can be done with it" }, make("span", { class: `status ${goal.status}` }, goal.status), make("span", { class: "dim" }, goal.name), " ");
     const text = make("div", { class: "row", "data-goal": goal.name }, name, make("span", { title: goal.text.length > LONGEST_GOAL ? Terms.cut(goal.text, 2000) : null }, Terms.cut(goal.text, LONGEST_GOAL)), waits, failed);
     Names.dress(text, { isInList: true });
     const step = lineButton("Step", `step ${goal.name}`, { class: "small" });
@@ -134,6 +135,23 @@ const Panels = (() => {
     return [`${start} ${Terms.cut(told.words, 400)}. `, ...withCode(told.isHelped ? "Click a goal that waits, then `Explain`." : "`ask …` adds a goal that binds it.")];
   }
 
+  /** The circle in which a run is stuck, as sentences of the names of its processes, and their lanes alone. */
+  function tellCircle(circle) {
+    const told = Outcome.circleOf(Talk.run);
+    if (told === null) return [`Nothing is ready: ${Terms.cut([...circle, circle[0]].join(" waits for "), 400)}, in a circle.`];
+    const link = (goal) => make("button", { class: "link", type: "button", "data-go-goal": goal, title: `goal ${goal}` }, told.names.get(goal));
+    const words = told.sentences.flatMap(({ who, holds, waitsFor, variable }, at) => [at > 0 ? "; " : "", link(who), ...(holds === null ? [] : [" holds ", link(holds), " and"]), " waits for ", link(waitsFor), ...(holds === null ? [` to bind ${variable}`] : [])]);
+    const [id, label] = Overview.only === null ? ["lanes-alone", "Show these lanes alone"] : ["lanes-all", "Show all lanes"];
+    return ["A deadlock: ", ...words, ". ", make("button", { class: "small", id }, label)];
+  }
+
+  /** Shows the lanes of the goals alone that wait for each other in a circle. */
+  function showLanesAlone() {
+    Overview.only = new Set(Stuck.circleOf(Talk.run.goals));
+    Deeds.draw();
+    showNote();
+  }
+
   /** What is said where the record is shown up to an earlier step. */
   function timeParts() {
     const others = Overview.earlier === null ? "Goals, values and names are those after all steps. " : "";
@@ -162,7 +180,7 @@ const Panels = (() => {
     if (isReady && graph.count === 0) return ["A green ring is a goal that is ready: click it, or press Run."];
     if (isReady) return [];
     const circle = Stuck.circleOf(goals);
-    if (circle.length > 0) return [`Nothing is ready: ${Terms.cut([...circle, circle[0]].join(" waits for "), 400)}, in a circle.`];
+    if (circle.length > 0) return tellCircle(circle);
     if (stream) return [`Nothing is ready. Click the stream ${stream.name} and give it an input.`];
     if (goals.length > 0) return tellWaiting(goals);
     return [];
@@ -260,7 +278,7 @@ const Panels = (() => {
     find("stop").hidden = !busy.canStop;
   }
 
-  return { PARTS, showTime, timeRows, showBusy, showNote, followText, showDetail, showLookAt, madeWith };
+  return { PARTS, showTime, timeRows, showBusy, showNote, showLanesAlone, followText, showDetail, showLookAt, madeWith };
 })();
 
 export default Panels;

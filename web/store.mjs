@@ -20,10 +20,8 @@ const Store = (() => {
   const part = (root, path, ...words) => make("button", { class: "part", type: "button", "data-root": root, "data-path": path.join("."), title: "lights the step that gave this" }, ...words);
 
   /** The end of a chain of bindings. */
-  function endOf(term) {
-    const { store } = Overview.run().graph;
-    return Printed.endOfChain(term, (end) => (isVariable(end) ? store.get(end) : undefined));
-  }
+  const endIn = ({ store }, term) => Printed.endOfChain(term, (end) => (isVariable(end) ? store.get(end) : undefined));
+  const endOf = (term) => endIn(Overview.run().graph, term);
 
   function listParts(root, path, term, room) {
     const parts = [part(root, path, "[")];
@@ -60,6 +58,33 @@ const Store = (() => {
   function row(name, variable, room) {
     const isBound = endOf(variable) !== variable;
     return valueRow(nameButton(name), ...(isBound ? [" = ", ...termParts(variable, [], variable, room)] : [make("span", { class: "dim" }, " is not bound")]));
+  }
+
+  /** A variable of the query and its value, for the result of a run. */
+  const resultOf = (name, variable) => [make("code", { class: "value" }, nameButton(name), " = ", ...termParts(variable, [], variable, { parts: MOST_PARTS }))];
+
+  /** The value of a variable in a graph as a text, as far as it is known and a line holds it. */
+  function textOf(graph, variable) {
+    const words = [], left = [variable];
+    while (left.length > 0 && words.length < MOST_PARTS * 2) {
+      const end = endIn(graph, left.pop()), isCell = end.startsWith("[") && end !== "[]", terms = argumentsOf(end);
+      words.push(isCell ? "[" : terms.length > 0 ? end.slice(0, end.indexOf("(") + 1) : end);
+      if (isCell) left.push(...inList(graph, end));
+      else if (terms.length > 0) left.push(")", ...terms.reverse().flatMap((term, at) => (at > 0 ? [",", term] : [term])));
+    }
+    return `${words.join("")}${left.length > 0 ? "…" : ""}`;
+  }
+
+  /** What stands within a list's brackets and the closing one, the last first. */
+  function inList(graph, list) {
+    const parts = [];
+    let rest = list;
+    while (rest.startsWith("[") && rest !== "[]" && parts.length < MOST_PARTS * 2) {
+      const [head, tail] = argumentsOf(rest);
+      parts.push(...(parts.length > 0 ? [","] : []), head);
+      rest = endIn(graph, tail);
+    }
+    return [...parts, ...(rest === "[]" ? [] : ["|", rest]), "]"].reverse();
   }
 
   /** The values of the query's variables, which are made anew each time; then all bindings, the newest first, each of which stays what it is. */
@@ -126,7 +151,7 @@ const Store = (() => {
       ...(shown.length > 0 ? [`. On the way to it: ${before}step `, ...shown.flatMap((step, index) => [index > 0 ? ", " : "", goTo(step)])] : []), ". Its causes are lit. ", blameButton(root, path));
   }
 
-  return { show, explain };
+  return { show, explain, resultOf, textOf };
 })();
 
 export default Store;

@@ -12,6 +12,7 @@ const SCREEN = `(() => {
   return {
     goals: goals.length > 0 ? goals : textsOf("#goals"), values: textsOf("#store .row"), steps,
     names: textsOf("#canvas .names text").sort(), count: document.getElementById("count").textContent,
+    result: document.getElementById("result").textContent,
   };
 })()`;
 const slider = 'document.getElementById("until")';
@@ -93,13 +94,13 @@ inBrowsers("a menu asks what clauses say: one that says yes can be clicked, othe
 
 const CHOICE = "c(R) :- true | R = 1.\nc(R) :- true | w(R).\nc(R) :- true | R = 2, R = 3.\nw(X) :- wait(X) | true.\n";
 const ENDS = [
-  [2, /Nothing is ready, and a goal waits\. \d+\.1 waits for R: nobody can bind it/],
-  [3, /Goal \d+\.\d has failed: .* are two different things/],
+  [2, "stuck: 9.2 w(R) waits", /Nothing is ready, and a goal waits\. \d+\.1 waits for R: nobody can bind it/],
+  [3, "failed: R = 2; 9.2 R = 3", /Goal \d+\.\d has failed: .* are two different things/],
 ];
 
 inBrowsers("beside a run that is kept a deadlock and a failure are told, too", async (page) => {
   await open(page, "", WIDE);
-  for (const [clause, told] of ENDS) {
+  for (const [clause, result, told] of ENDS) {
     await page.value(begin(CHOICE, "c(R)"));
     await page.value('Talk.send("step 0.1 1", "leap")');
     await page.click('#canvas [data-step="1"]');
@@ -107,14 +108,18 @@ inBrowsers("beside a run that is kept a deadlock and a failure are told, too", a
     await page.value('Talk.send("leap")');
     const note = await page.value(text("note"));
     assert.match(note, /^Above is the run that you kept\./);
+    assert.equal(await page.value(text("result")), result);
+    assert.equal(await page.value('document.querySelector("#beside .result-line").textContent'), "above: done: R = 1");
     assert.match(note, told);
     await page.click("#drop-run");
   }
 });
 
 const CIRCLES = [
-  ["p(1) :- true | true.\nr(1,2) :- true | true.\ns(2,X) :- true | true.\n", "p(X), r(X,Y), s(Y,X)", ["0.2", "0.3"]],
-  ["p(a,_) :- true | true.\np(_,b) :- true | true.\n", "p(X,Y), p(Y,X)", ["0.1", "0.2"]],
+  ["p(1) :- true | true.\nr(1,2) :- true | true.\ns(2,X) :- true | true.\n", "p(X), r(X,Y), s(Y,X)", ["0.2", "0.3"],
+    "A deadlock: r waits for s to bind X; s waits for r to bind Y. Show these lanes alone"],
+  ["p(a,_) :- true | true.\np(_,b) :- true | true.\n", "p(X,Y), p(Y,X)", ["0.1", "0.2"],
+    "A deadlock: p 1 waits for p 2 to bind X; p 2 waits for p 1 to bind Y. Show these lanes alone"],
 ];
 
 inBrowsers("`F1 = 2` is a value and no refusal; a circle is one on the page as at the terminal", async (page) => {
@@ -122,14 +127,13 @@ inBrowsers("`F1 = 2` is a value and no refusal; a circle is one on the page as a
   assert.equal(await page.value(text("answer")), "");
   assert.equal(await page.value("document.querySelectorAll('#told .refused').length"), 0);
   assert.ok((await page.value(text("told"))).endsWith("> show F1F1 = 2"));
-  for (const [program, query, names] of CIRCLES) {
+  for (const [program, query, names, told] of CIRCLES) {
     await page.value(begin(program, query));
     await page.value('Talk.send("leap")');
-    const [, circle] = /^Nothing is ready: (.*), in a circle\.$/.exec(await page.value(text("note")));
-    const way = circle.split(" waits for ");
-    assert.deepEqual(way.slice(1).sort(), names);
-    assert.equal(way[0], way.at(-1));
-    const atTerminal = await page.value("Stuck.linesOf(Talk.run.goals, (variable) => variable)");
-    assert.ok(atTerminal.includes(`a circle: ${circle}`), atTerminal.join("; "));
+    assert.equal(await page.value(text("note")), told);
+    const links = await page.value('[...document.querySelectorAll("#note [data-go-goal]")].map((one) => one.dataset.goGoal)');
+    assert.deepEqual([...new Set(links)].sort(), names);
+    const atTerminal = await page.value("Stuck.linesOf(Talk.run.goals, (variable) => variable)"), way = links.filter((link, at) => at % 2 === 0);
+    assert.ok(atTerminal.includes(`a circle: ${[...way, way[0]].join(" waits for ")}`), atTerminal.join("; "));
   }
 });
