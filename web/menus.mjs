@@ -19,6 +19,7 @@ const Menus = (() => {
   const MOST_HOLDERS = 20; // goals that are named because they have a variable
   const MOST_NAMED = 100; // steps that are named before a roll
   const OFFSET = 14, MOST_LOOKED_AT = 400;
+  const FIRST = "input, button:not([disabled]):not(.variable)"; // what has the focus in a menu that opens
 
   const title = (words, dim) => make("div", { class: "menu-title" }, make("b", null, words), " ", make("span", { class: "dim" }, dim));
   const code = (first, ...lines) => make("div", { class: "code" }, ...(typeof first === "string" ? [[first, ...lines].filter(Boolean).join("\n")] : [first, lines.filter(Boolean).join("\n")]));
@@ -252,11 +253,11 @@ const Menus = (() => {
 
   /** Opens the menu of `{ step }`, `{ goal }`, `{ variable }` or `{ taken }`, or of `{ ask: true }`, beside an element. */
   function open(chosen, anchor) {
-    openWith(partsFor(chosen).filter(Boolean), anchor, chosen.picture ? "button" : "input, button:not([disabled])");
+    openWith(partsFor(chosen).filter(Boolean), anchor, chosen.picture ? "button" : FIRST);
   }
 
   /** Opens a menu of these parts beside an element; what a selector finds first has the focus. */
-  function openWith(parts, anchor, focus = "input, button:not([disabled])") {
+  function openWith(parts, anchor, focus = FIRST) {
     const menu = find("menu");
     menu.replaceChildren(...parts);
     Names.dress(menu);

@@ -94,8 +94,8 @@ inBrowsers("a menu asks what clauses say: one that says yes can be clicked, othe
 
 const CHOICE = "c(R) :- true | R = 1.\nc(R) :- true | w(R).\nc(R) :- true | R = 2, R = 3.\nw(X) :- wait(X) | true.\n";
 const ENDS = [
-  [2, "stuck: 9.2 w(R) waits", /Nothing is ready, and a goal waits\. \d+\.1 waits for R: nobody can bind it/],
-  [3, "failed: R = 2; 9.2 R = 3", /Goal \d+\.\d has failed: .* are two different things/],
+  [2, "stuck: 3.1 w(R) waits", /Nothing is ready, and a goal waits\. \d+\.1 waits for R: nobody can bind it/],
+  [3, "failed: R = 2; 3.2 2 = 3", /Goal \d+\.\d has failed: .* are two different things/],
 ];
 
 inBrowsers("beside a run that is kept a deadlock and a failure are told, too", async (page) => {
@@ -117,7 +117,7 @@ inBrowsers("beside a run that is kept a deadlock and a failure are told, too", a
 
 const CIRCLES = [
   ["p(1) :- true | true.\nr(1,2) :- true | true.\ns(2,X) :- true | true.\n", "p(X), r(X,Y), s(Y,X)", ["0.2", "0.3"],
-    "A deadlock: r waits for s to bind X; s waits for r to bind Y. Show these lanes alone"],
+    "A deadlock: s waits for r to bind Y; r waits for s to bind X. Show these lanes alone"],
   ["p(a,_) :- true | true.\np(_,b) :- true | true.\n", "p(X,Y), p(Y,X)", ["0.1", "0.2"],
     "A deadlock: p 1 waits for p 2 to bind X; p 2 waits for p 1 to bind Y. Show these lanes alone"],
 ];
