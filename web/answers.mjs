@@ -80,7 +80,7 @@ const Answers = (() => {
   /** Of another line: the limit that it met. */
   function partsOfLimit({ line, reply }) {
     const words = Replies.limitIn(reply[0], line);
-    return words === undefined ? [] : [`${words}. ${reply[0].endsWith("print") ? "The store shows how each value begins." : ""}`];
+    return words === undefined ? [] : [`${words}. ${reply[0].endsWith("print") ? "Values shows how each one begins." : ""}`];
   }
 
   /** A line that was not taken, or was stopped. */

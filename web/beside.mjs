@@ -1,5 +1,4 @@
 // Two runs side by side: one that was kept, above the one that goes on, both by causal depth; the steps that the other has not are ringed.
-import Replies from "../front/protocol/replies.mjs";
 import Compare from "../front/run/compare.mjs";
 import Graph from "../front/run/graph.mjs";
 import Terms from "../front/run/terms.mjs";
@@ -8,6 +7,7 @@ import Elements from "./elements.mjs";
 import Naming from "./naming.mjs";
 import Picture from "./picture.mjs";
 import Shown from "./shown.mjs";
+import StepWords from "./step_words.mjs";
 import Talk from "./talk.mjs";
 
 const Beside = (() => {
@@ -78,7 +78,7 @@ const Beside = (() => {
       area.textContent = "";
       return;
     }
-    const drawn = Picture.draw(beside.kept, { ...options, by: "depth", scope: "kept", leastColumns: columns(), legend: false, high: undefined, shown: beside.kept.shown });
+    const drawn = Picture.draw(beside.kept, { ...options, by: "depth", scope: "kept", leastColumns: columns(), legend: false, shown: beside.kept.shown });
     const picture = drawn.svg.replace(/ data-step="/g, ' data-kept="').replace(/ data-(goal|taken|goto|unfold|from-goal|to-goal)="/g, ' data-kept-$1="');
     area.replaceChildren(Deeds.resultOf(beside.kept));
     area.insertAdjacentHTML("beforeend", picture);
@@ -96,9 +96,9 @@ const Beside = (() => {
     const drops = make("button", { class: "small", id: "drop-run" }, "Drop it");
     if (!isComparable()) return [`Above is the run that you kept. This one has more than ${MOST_STEPS} steps: too many to be compared. `, drops];
     const { pairs, alone, otherAlone, first, instead } = told(), step = first === null ? null : beside.kept.graph.byNumber.get(first);
-    const words = first === null ? "" : ` The first that differs: step ${first} above (${Replies.wordsOf(step)})`;
+    const words = first === null ? "" : ` The first that differs: step ${first} above (${StepWords.of(step)})`;
     return [`Above is the run that you kept. ${plural(pairs.size, "step")} in both, ${alone} in that one alone, ${otherAlone} in this one (ringed).${words}`,
-      ...(instead === null ? [] : [", here step ", goTo(instead), ` (${Replies.wordsOf(Talk.run.graph.byNumber.get(instead))})`]), first === null ? "" : ".", " ",
+      ...(instead === null ? [] : [", here step ", goTo(instead), ` (${StepWords.of(Talk.run.graph.byNumber.get(instead))})`]), first === null ? "" : ".", " ",
       make("button", { class: "small", id: "swap-runs" }, "Swap"), " ", drops];
   }
 

@@ -13,6 +13,7 @@ const Canvas = (() => {
   const { find } = Elements;
   const canvas = { way: new Set(), others: new Set(), view: null, get chosen() { return Shown.chosen; } };
   const LEGEND = 70; // points below the lanes
+  const LEAST_OF_TWO = 150; // points that each of two runs is high
   const TICK_LETTER = 3.2; // points, half the width of a letter of the axis
   const OWN_SCROLL = 250; // milliseconds in which the browser tells of a scrolling that the page did
   let scrolledAt = -OWN_SCROLL;
@@ -29,11 +30,11 @@ const Canvas = (() => {
     if (!Talk.run.isWhole) return; // when all of a change is read, it is drawn
     const area = find("canvas"), isScrolled = area.scrollLeft > 0 || area.scrollTop > 0;
     const room = Math.max(320, area.clientWidth - 8) * (Overview.isOn() || Shown.isFit ? 1 : Shown.zoom);
-    const high = Shown.isFit ? Math.max(120, area.clientHeight - LEGEND) : undefined;
+    const high = Beside.isOn() ? Math.max(LEAST_OF_TWO, (area.clientHeight + find("beside").offsetHeight) / 2 - LEGEND) : Shown.isFit ? Math.max(120, area.clientHeight - LEGEND) : undefined;
     Overview.draw();
     const drawn = Picture.draw(Overview.shownRun(), { by: Shown.by, theme: Shown.theme, room, high, leastColumns: Shown.by === "depth" ? Beside.columns() : 0, legend: true, titles: false, shown: Names.shown });
     area.innerHTML = drawn.svg;
-    Beside.draw({ theme: Shown.theme, room, titles: false });
+    Beside.draw({ theme: Shown.theme, room, high, titles: false });
     canvas.view = drawn.view;
     if (Shown.chosen && !isThere(Shown.chosen)) Shown.chosen = null;
     if (isScrolled) stayInSight();
@@ -80,6 +81,15 @@ const Canvas = (() => {
     for (const goal of svg.querySelectorAll(".goal")) goal.classList.toggle("chosen", Boolean(chosen) && goal.dataset.goal === chosen.goal);
     markEdges(causes, effects);
     markAsked(svg, graph);
+    Deeds.markLit(lit ? clausesIn(lit, graph) : []);
+  }
+
+  /** The numbers of the clauses by which flagged steps went. */
+  function clausesIn({ isIn }, graph) {
+    const clauses = new Set();
+    for (let index = 0; index < isIn.length; index++) if (isIn[index] === 1) clauses.add(graph.clauses.at(index));
+    clauses.delete(0);
+    return [...clauses].sort((one, other) => one - other);
   }
 
   /** Lights the part of the call that is asked about, and dims what was told right. */
@@ -117,6 +127,22 @@ const Canvas = (() => {
     Overview.draw();
   }
 
+  /** Lights the steps that went by a clause; gives how many there are. */
+  function showClause(number) {
+    const { graph } = Talk.run, isIn = new Uint8Array(graph.count);
+    let count = 0;
+    choose(null);
+    for (let index = 0; index < graph.count; index++) {
+      if (graph.clauses.at(index) !== number) continue;
+      isIn[index] = 1;
+      count += 1;
+    }
+    Shown.slice = { isIn, count };
+    showChosen();
+    Overview.draw();
+    return { isIn, count };
+  }
+
   /** Lights the part of a call, also in the strip. */
   function showAsked(asked) {
     Shown.asked = asked;
@@ -145,6 +171,7 @@ const Canvas = (() => {
     Overview.draw();
     Deeds.showDetail(chosen);
     Deeds.markClause(clauseOf(chosen));
+    if (chosen === null) Deeds.markLit([]);
   }
 
   /** Lane names, the axis and what all stands for stay where one sees them while the picture is scrolled. */
@@ -248,7 +275,7 @@ const Canvas = (() => {
     return true;
   }
 
-  return Object.assign(canvas, { draw, choose, forget, markWay, showSlice, showAsked, elementOf, showThere, isOwnScroll, scrollTo, ring, stayInSight, onKey, addTitle });
+  return Object.assign(canvas, { draw, choose, forget, markWay, showSlice, showClause, showAsked, elementOf, showThere, isOwnScroll, scrollTo, ring, stayInSight, onKey, addTitle });
 })();
 
 export default Canvas;

@@ -11,6 +11,7 @@ import Elements from "./elements.mjs";
 import Names from "./names.mjs";
 import Overview from "./overview.mjs";
 import Resting from "./resting.mjs";
+import StepWords from "./step_words.mjs";
 import Talk from "./talk.mjs";
 
 const Menus = (() => {
@@ -66,7 +67,7 @@ const Menus = (() => {
   /** A button for a clause. One that says yes can be clicked: `does` gives what it does then, as attributes. */
   function clauseButton({ clause, number }, told, does) {
     const how = told?.says === "yes" ? does(number) : { disabled: true };
-    return make("button", { class: "clause", ...how }, `by ${number}:  ${clause.text}`, wordsOfClause(told));
+    return make("button", { class: "clause", ...how }, `clause ${number}:  ${clause.text}`, wordsOfClause(told));
   }
 
   const RANKS = ["yes", "waits", "no"];
@@ -119,7 +120,7 @@ const Menus = (() => {
     const why = first ? make("p", { class: "dim" }, `Undo alone is not lawful: step ${first.to} depends on it.`) : null;
     const clause = step.clause && clauses[step.clause - 1] ? clauses[step.clause - 1].text : "", goal = make("span");
     Resting.withGoalText(step, (text) => { goal.textContent = `${text}\n`; Names.dress(goal); });
-    return [title(`Step ${number}`, step.goal === null ? "asked for goals" : `goal ${step.goal}, ${step.act}`),
+    return [title(`Step ${number}`, StepWords.of(step)),
       code(goal, step.goal === null ? step.act : "", clause, ...step.binds.map((binding) => `${binding.variable} = ${Terms.cut(binding.term, 300)}`)),
       buttons(lineButton("Why?", `why ${number}`), undo, rollButton(number, gone), foldButton({ step: number })), why, ...otherClauses(step)];
   }
@@ -149,7 +150,7 @@ const Menus = (() => {
   }
 
   /** The menu in which one asks for more goals. */
-  const ofAsk = () => [title("Ask for more goals", "as a query has them"), lineForm("ask", "Goals to ask for", "p(R,X), X = 1", "Ask"),
+  const ofAsk = () => [title("Add goals", "as a query has them"), lineForm("ask", "Goals to add", "p(R,X), X = 1", "Add"),
     make("p", { class: "dim" }, "The query's variables go by their names, others of the run as _1_1; all else is new. It is a step, which can be taken back.")];
 
   /** The clauses of a call: those that it can be reduced by, and for what the others wait. */
@@ -200,7 +201,7 @@ const Menus = (() => {
 
   const ofTaken = (number) => {
     const step = Talk.run.shelf.find((other) => other.number === number);
-    return [title(`Step ${number}`, "was taken back"), code(`${step.goal || "-"} ${step.act}`), buttons(lineButton("Redo", `redo ${number}`, { class: "main-button" }))];
+    return [title(`Step ${number}`, "is undone"), code(StepWords.of(step)), buttons(lineButton("Redo", `redo ${number}`, { class: "main-button" }))];
   };
 
   /** How many of some boxes a menu would cover that has its upper left corner at a place. */
@@ -213,7 +214,7 @@ const Menus = (() => {
     const svg = find("canvas").querySelector("svg"), bottom = svg ? svg.getBoundingClientRect().top + Canvas.view.bottom : box.bottom;
     const right = box.right + OFFSET, left = box.left - width - OFFSET, below = box.bottom + OFFSET, above = box.top - height - OFFSET;
     const all = [{ x: right, y: below }, { x: right, y: above }, { x: left, y: below }, { x: left, y: above }, { x: box.left, y: bottom + 6 }, { x: right, y: bottom + 6 }];
-    const area = find("run").getBoundingClientRect(), inside = (least, value, most) => Math.max(least, Math.min(value, most));
+    const area = find("view").getBoundingClientRect(), inside = (least, value, most) => Math.max(least, Math.min(value, most));
     return all.map((place) => ({ x: inside(area.left + 8, place.x, area.right - width - 8), y: inside(area.top + 8, place.y, area.bottom - height - 8) }));
   }
 

@@ -26,6 +26,7 @@ import Result from "./result.mjs";
 import Shown from "./shown.mjs";
 import Store from "./store.mjs";
 import Talk from "./talk.mjs";
+import Welcome from "./welcome.mjs";
 
 const Page = (() => {
   const { find, make, withCode } = Elements;
@@ -35,8 +36,9 @@ const Page = (() => {
 
   const HELP = [
     ["Picture", "A line is a process, and time goes right. `●` reduces a goal by a clause, `◆` binds a variable, `■` computes, a flag is an input. A grey line leads from a step to a goal that it made, a blue arrow to a step that read what it bound; an orange dashed one says that this woke a goal that waited. A green ring is a goal that is ready, a dashed one waits, and its dotted arc points at a goal that has its variable. A hexagon is an ask, which no goal was there for; a line of dashes and dots leads to it from a step that made a variable that it names."],
-    ["Click", "a step, a goal, a variable, or something that was taken back, and choose. Each click types a line at the console, where you see what it is called. `ask …`, beside the word Goals, adds goals while the program runs: write them as a query has them."],
-    ["Keys", "`s` steps the first goal that is ready, `r` runs, `u` takes back the last step, `a` asks for more goals, `t` tidies the order, `d` changes between recorded order and causal depth, `f` finds steps, `y` and `n` answer a question, `b` takes the last answer back, `/` goes to the console, `Escape` closes, and `Ctrl` `Enter` in the program starts it. In the picture `←` `→` go from step to step, `↑` `↓` to a cause or an effect, `Enter` opens what can be done."],
+    ["Click", "a step, a goal, a variable, or something that was taken back, and choose. Each click types a line at the console, below, where you see what it is called. A click on a clause of the program lights its steps. `Add goals` adds some while the program runs: write them as a query has them."],
+    ["Names", "A variable has the program's name, with the number of its step below the line: `Rel₆` is Rel of step 6. Point at it to see its number, and click it to type that at the console."],
+    ["Keys", "`s` steps the first goal that is ready, `r` runs, `u` takes back the last step, `a` asks for more goals, `t` sorts the steps by process, `d` changes between recorded order and chains of causes, `f` finds steps, `y` and `n` answer a question, `b` takes the last answer back, `/` goes to the console, `Escape` closes, and `Ctrl` `Enter` in the program starts it. In the picture `←` `→` go from step to step, `↑` `↓` to a cause or an effect, `Enter` opens what can be done."],
     ["Why?", "Click a value that is wrong, or a goal that has failed or waits, then `Find the wrong clause`. You are asked about a few calls: was what each gave right, for what it was given? Then the clause that is wrong is marked, and its step can be taken back."],
     ["Kept", "This browser keeps the last five sessions of your own programs, and what you typed since Start: after a reload the page offers them. `Link` puts program, query and lines into the address. Nothing leaves this browser by itself."],
     ["Texts", "`Save` keeps program, query and all lines in a text; `Open` plays it again. It opens histories (as `save` writes them) and programs, too. All that is described in docs/LANGUAGE.md and docs/FORMATS.md."],
@@ -88,7 +90,7 @@ const Page = (() => {
     const given = { text: name === "program" ? program : query, which: name, isQuery: name === "query", program };
     const isLong = program.length + query.length > MOST_NOTED, cause = isLong ? Answers.placeIn(refusal) : Causes.causeOf(refusal, given);
     const parts = isLong ? Answers.partsOfLong(refusal) : Answers.partsOfRefusal(refusal, given, cause);
-    if (cause) Program.showPlace(name, cause.line, Causes.letterOf(cause, given.text), cause.length);
+    if (cause) Program.showPlace(name, cause.line, Causes.letterOf(cause, given.text), cause.length, cause.title);
     if (parts.length > 0) Answers.put(true, ...parts);
   }
 
@@ -145,13 +147,24 @@ const Page = (() => {
     if (Talk.run.graph.count > wasCount) Canvas.showThere();
   }
 
+  /** Lights the steps that went by a clause, and tells how many there are. */
+  function lightClause(number) {
+    const { count } = Canvas.showClause(number), clause = Talk.run.clauses[number - 1];
+    Program.markClause(clause);
+    Answers.put(false, `Clause ${number} of ${clause.predicate}: `, count === 0 ? "no step went by it." : `${count} step${count === 1 ? "" : "s"} went by it (lit).`);
+  }
+
+  function leaveWelcome() {
+    Welcome.hide();
+  }
+
   function tellCause(what) {
     if (what === "start") showCause();
   }
 
   /** What shows a change, in its order. */
   const parts = () => [
-    Overview.follow, Beside.follow, Result.show, redraw, showNewSteps, Looking.follow, ...Panels.PARTS, Blaming.show, Guide.onChange, tellCause,
+    leaveWelcome, Overview.follow, Beside.follow, Result.show, redraw, showNewSteps, Looking.follow, ...Panels.PARTS, Blaming.show, Guide.onChange, tellCause,
     Keeping.keep,
   ];
 
@@ -226,12 +239,21 @@ const Page = (() => {
     const words = HELP.map(([name, text]) => make("p", null, make("b", null, `${name}: `), ...withCode(text)));
     const close = make("button", { class: "main-button" }, "Close");
     close.addEventListener("click", () => find("help").close());
-    find("help").replaceChildren(make("h2", null, "ghcdb in a page"), ...words, make("p", { class: "dim" }, `${Panels.madeWith()}.`), close);
+    find("help").replaceChildren(make("h2", null, "ghcdb in a page"), ...words, Welcome.language(), make("p", { class: "dim" }, `${Panels.madeWith()}.`), close);
     find("help").showModal();
   }
 
+  /** Empties program and query, to be written. */
+  function writeOwn() {
+    Welcome.hide();
+    setTyped({ program: "", query: "" });
+    showTab("program");
+    find("program").focus();
+  }
+
   const BUTTONS = {
-    "begin-tour": () => Keeping.beginOther(Guide.begin), "open-help": showHelp, "open-file": () => find("file").click(),
+    "begin-tour": () => Keeping.beginOther(Guide.begin), "welcome-tour": () => Keeping.beginOther(Guide.begin),
+    "welcome-run": () => { Welcome.hide(); find("leap").click(); }, "welcome-own": writeOwn, "close-welcome": Welcome.hide, "open-help": showHelp, "open-file": () => find("file").click(),
     "larger-query": () => begin({ ...typed(), query: find("larger-query").value }), "start-anew": startTyped,
     "save-session": () => Files.saveSession(), "save-picture": () => Menus.open({ picture: true }, find("save-picture")),
     "ask-more": () => Menus.open({ ask: true }, find("ask-more")),
@@ -349,6 +371,7 @@ const Page = (() => {
       Talk.stop();
       return;
     }
+    if (event.key === "Escape" && event.target === find("line")) find("line").blur();
     if (event.key === "Escape") {
       const wasOpen = !find("menu").hidden;
       Menus.close();
@@ -447,7 +470,7 @@ const Page = (() => {
   Deeds.give({
     begin, beginOther: Keeping.beginOther, typed, isChanged, setTyped,
     showTab, setOrder, showNow: Looking.showNow, showTime: () => { Result.show(); Panels.showTime(); }, timeRows: Panels.timeRows, showNote: Panels.showNote, showDetail: Panels.showDetail,
-    draw: Canvas.draw, choose: Canvas.choose, scrollTo: Canvas.scrollTo, markClause: Program.markClause,
+    draw: Canvas.draw, choose: Canvas.choose, scrollTo: Canvas.scrollTo, markClause: Program.markClause, markLit: Program.markLit, lightClause,
     resultOf: Result.ofKept, tell: Answers.put, tellSlice: Resting.tell, openMenu: Menus.open, openMenuWith: Menus.openWith, closeMenu: Menus.close,
     pointAgain: Guide.pointAgain, savePicture: Files.savePicture,
   });
@@ -459,6 +482,7 @@ const Page = (() => {
     setTheme(window.matchMedia("(prefers-color-scheme: dark)").matches ? "dark" : "light");
     showTab("run");
     Keeping.offer(await fromAddress());
+    if (location.hash.length < 2 && find("answer").hidden) Welcome.show();
     document.body.classList.add("started");
   }
 

@@ -1,7 +1,6 @@
 // Fills what stands around the picture: console, goals, store, what was taken back, the chosen step, and how many there are.
 import Replies from "../front/protocol/replies.mjs";
 import Explain from "../front/run/explain.mjs";
-import Graph from "../front/run/graph.mjs";
 import Stuck from "../front/run/stuck.mjs";
 import Terms from "../front/run/terms.mjs";
 import Answers from "./answers.mjs";
@@ -14,6 +13,7 @@ import Overview from "./overview.mjs";
 import Picture from "./picture.mjs";
 import Resting from "./resting.mjs";
 import Shown from "./shown.mjs";
+import StepWords from "./step_words.mjs";
 import Store from "./store.mjs";
 import Talk from "./talk.mjs";
 
@@ -94,8 +94,8 @@ const Panels = (() => {
 
   function showShelf() {
     const isNow = Overview.until === null, shelf = isNow ? Talk.run.shelf : [];
-    const rows = shelf.slice(0, MOST_ROWS).map(({ number, goal, act }) => {
-      const words = `${number} ${goal || "-"} ${act}`, line = `redo ${number}`;
+    const rows = shelf.slice(0, MOST_ROWS).map((step) => {
+      const words = StepWords.shortOf(step), line = `redo ${step.number}`;
       const attributes = { class: "chip taken", title: `${line}: puts it there again` };
       return { key: Names.shown(words), does: () => Names.dress(lineButton(words, line, attributes)) };
     });
@@ -110,11 +110,11 @@ const Panels = (() => {
       area.replaceChildren(make("span", { class: "dim" }, "Click a step in the picture."));
       return;
     }
-    const causes = Graph.whyLines(run.graph, step.number).filter((line) => line !== "none");
+    const causes = run.graph.causes.get(step.number);
     const effects = run.graph.effects.get(step.number).map((edge) => edge.to);
     const isTold = run.texts.has(step.goal);
     Resting.withGoalText(step, () => { if (!isTold && Shown.chosen && Shown.chosen.step === step.number) showDetail(Shown.chosen); });
-    const because = causes.flatMap((line) => ["\nbecause of ", goTo(line.split(" ")[0], line)]);
+    const because = causes.flatMap((edge) => ["\nbecause step ", goTo(edge.from), ` ${StepWords.causeOf(edge)}`]);
     area.replaceChildren(Picture.tellStep(run, step), ...because,
       ...effects.slice(0, 20).flatMap((number, index) => [index === 0 ? "\nneeded by " : ", ", goTo(number, String(number))]));
     Names.dress(area);
@@ -132,7 +132,7 @@ const Panels = (() => {
     const told = Stuck.lineOfOne(goals, (variable) => variable);
     const start = `Nothing is ready, and ${goals.length === 1 ? "a goal waits" : `${goals.length} goals wait`}.`;
     if (told === undefined) return [start];
-    return [`${start} ${Terms.cut(told.words, 400)}. `, ...withCode(told.isHelped ? "Click a goal that waits, then `Explain`." : "`ask …` adds a goal that binds it.")];
+    return [`${start} ${Terms.cut(told.words, 400)}. `, ...withCode(told.isHelped ? "Click a goal that waits, then `Explain`." : "`Add goals` adds one that binds it.")];
   }
 
   /** The circle in which a run is stuck, as sentences of the names of its processes, and their lanes alone. */
@@ -211,7 +211,7 @@ const Panels = (() => {
     const { until } = Overview, shownReady = Overview.run().goals.filter((goal) => goal.status === "ready");
     const count = Overview.count(), deepest = count === 0 ? 0 : graph.deepest.at(count - 1) + 1;
     const of = until === null ? "" : `${until} of `, chain = `the longest chain of causes has ${deepest}`;
-    find("count").textContent = `${of}${plural(graph.count, "step")}, depth ${deepest}`;
+    find("count").textContent = `${of}${plural(graph.count, "step")}, longest chain ${deepest}`;
     find("count").title = `${plural(count, "kept step")}; ${chain}; ${plural(shownReady.length, "goal")} ready`;
     const last = graph.count > 0 ? graph.numbers.at(graph.count - 1) : undefined;
     const isOver = !Talk.session || Talk.session.hasEnded, isFull = graph.count >= MOST_KEPT;

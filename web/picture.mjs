@@ -1,7 +1,7 @@
 // Draws a run that was put into lanes, as the text of an SVG. Pure functions.
-import Replies from "../front/protocol/replies.mjs";
 import Lanes from "../front/run/lanes.mjs";
 import Terms from "../front/run/terms.mjs";
+import StepWords from "./step_words.mjs";
 
 const Picture = (() => {
   const LIGHT = {
@@ -78,7 +78,7 @@ const Picture = (() => {
 
   function drawAxis(view, theme) {
     const y = view.top - 12;
-    const name = view.by === "depth" ? "causal depth" : "recorded order";
+    const name = view.by === "depth" ? "chain of causes" : "recorded order";
     const ticks = view.ticks.filter((tick) => tick.x - String(tick.text).length * 3 > view.left - 8).map((tick) => `<text x="${round(tick.x)}" y="${y}" text-anchor="middle" font-size="10" fill="${theme.dim}">${tick.text}</text>`);
     return `<g class="axis"><rect x="0" y="0" width="${round(view.width)}" height="${view.top - 6}" fill="${theme.ground}"/>${ticks.join("")}<text x="${round(view.left - 10)}" y="${y}" text-anchor="end" font-size="10" fill="${theme.dim}">${name}</text></g>`;
   }
@@ -224,7 +224,7 @@ const Picture = (() => {
 
   /** What is said of a step where one points at it. */
   function tellStep(run, step) {
-    const lines = [`step ${step.number}: ${Replies.wordsOf(step)}`];
+    const lines = [`step ${step.number}: ${StepWords.of(step)}`];
     if (run.texts.has(step.goal)) lines.push(Terms.cut(run.texts.get(step.goal), 300));
     if (step.clause && run.clauses[step.clause - 1]) lines.push(run.clauses[step.clause - 1].text);
     for (const binding of step.binds) lines.push(`binds ${binding.variable} = ${Terms.cut(binding.term, 200)}`);
@@ -347,7 +347,7 @@ const Picture = (() => {
 
   function drawTaken(view, place, theme) {
     const { step, x, y } = place, radius = round(view.sizes.radius * 0.9);
-    return `<g class="taken" data-taken="${step.number}"><circle class="halo" cx="${round(x)}" cy="${round(y)}" r="${radius + 3}"/><circle class="body" cx="${round(x)}" cy="${round(y)}" r="${radius}" fill="${theme.ground}" stroke="${theme.taken}" stroke-width="1.5" stroke-dasharray="3 2"/>${view.sizes.kind === "tiny" ? "" : `<text x="${round(x)}" y="${round(y + 3)}" font-size="${round(view.sizes.radius * 0.85)}" text-anchor="middle" fill="${theme.dim}" pointer-events="none">${step.number}</text>`}<title>${escaped(view.shown(`taken back: step ${step.number}, ${Replies.wordsOf(step)}`))}</title></g>`;
+    return `<g class="taken" data-taken="${step.number}"><circle class="halo" cx="${round(x)}" cy="${round(y)}" r="${radius + 3}"/><circle class="body" cx="${round(x)}" cy="${round(y)}" r="${radius}" fill="${theme.ground}" stroke="${theme.taken}" stroke-width="1.5" stroke-dasharray="3 2"/>${view.sizes.kind === "tiny" ? "" : `<text x="${round(x)}" y="${round(y + 3)}" font-size="${round(view.sizes.radius * 0.85)}" text-anchor="middle" fill="${theme.dim}" pointer-events="none">${step.number}</text>`}<title>${escaped(view.shown(`undone: step ${step.number}, ${StepWords.of(step)}`))}</title></g>`;
   }
 
   /** The arc from a waiting goal to a goal that has its variable. */

@@ -37,7 +37,7 @@ inBrowsers("a fault in what shows a change is told, all else is shown, and the n
   await open(page, "#example=append", WIDE);
   await page.value(`(Talk.plain = Looking.follow, Looking.follow = ${faults("one")}, Talk.send("step 0.1"))`);
   assert.ok((await page.value(text("note"))).startsWith(`${told}one. The lines are kept: Save writes them.`));
-  assert.equal(await page.value(text("count")), "1 step, depth 1", "what comes after it is shown");
+  assert.equal(await page.value(text("count")), "1 step, longest chain 1", "what comes after it is shown");
   await page.value('(Looking.follow = Talk.plain, Talk.send("step 1.1"))');
   assert.deepEqual(await page.value(lines), ["step 0.1", "step 1.1"]);
   assert.equal(await page.value(text("note")), "");

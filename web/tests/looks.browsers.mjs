@@ -35,7 +35,7 @@ const CONTRAST = `(() => {
   const wrong = [];
   for (const element of document.querySelectorAll("body *:not(svg *)")) {
     const isText = [...element.childNodes].some((node) => node.nodeType === 3 && node.textContent.trim() !== "") || element.matches("input:not([type=range]), textarea, select");
-    if (!isText || element.getClientRects().length === 0 || element.closest(":disabled, option, script, style, #program-lines")) continue;
+    if (!isText || element.getClientRects().length === 0 || element.closest(":disabled, option, script, style, #program")) continue;
     const value = ratio(light(parts(getComputedStyle(element).color)), light(behind(element)));
     if (value < 4.5) wrong.push(value.toFixed(2) + " " + element.tagName + " " + (element.id || element.className) + " " + element.textContent.slice(0, 20));
   }
@@ -51,7 +51,7 @@ const CONTRAST = `(() => {
 /** The parts of the page that reach beyond the window's width, and labels of buttons that are cut. */
 const PARTS = `(() => {
   const wrong = [];
-  for (const element of document.querySelectorAll("header *, .tools *, #answer *, #blame *, #note *, #panels h2 *")) {
+  for (const element of document.querySelectorAll("header *, .tools *, #answer *, #blame *, #note *, #panels .heading *")) {
     const box = element.getBoundingClientRect();
     if (box.width === 0 || element.closest("option, select, [hidden]")) continue;
     if (box.right > innerWidth + 1) wrong.push("beyond the window: " + (element.id || element.textContent));

@@ -59,7 +59,7 @@ inBrowsers("of a run of more than 3,000 steps the slider moves the picture, and 
     assert.ok((await page.value(text(panel))).startsWith("after all 4000 steps:"), panel);
   }
   assert.equal(await page.value(goals), before);
-  assert.match(await page.value(text("count")), /^2000 of 4000 steps, depth \d+$/);
+  assert.match(await page.value(text("count")), /^2000 of 4000 steps, longest chain \d+$/);
 });
 
 const MERGE = [
@@ -76,9 +76,9 @@ inBrowsers("a menu asks what clauses say: one that says yes can be clicked, othe
     return (await page.value(clauses)).map(([words, isOff]) => [words.replace(/:.*\./, ":"), isOff]);
   };
   assert.deepEqual(await menu(),
-    [["by 1: waits for Y", true], ["by 2: waits for X", true], ["by 3: waits for Y", true]]);
+    [["clause 1: waits for Y", true], ["clause 2: waits for X", true], ["clause 3: waits for Y", true]]);
   await page.value('Talk.send("step 0.2")');
-  assert.deepEqual(await menu(), [["by 3:", false], ["by 2: waits for X", true], ["by 1: says no", true]]);
+  assert.deepEqual(await menu(), [["clause 3:", false], ["clause 2: waits for X", true], ["clause 1: says no", true]]);
   await page.value('Talk.send("step 0.1 1", "step 0.1 2")');
   const replies = await page.value("Talk.entries.slice(-2).map((entry) => entry.reply[0])");
   assert.deepEqual(replies, ["F10 no clause matches", "F9 waits"]);
@@ -87,7 +87,7 @@ inBrowsers("a menu asks what clauses say: one that says yes can be clicked, othe
   assert.equal((await page.value(lines)).at(-1), "step 0.1 3");
   await open(page, "#example=bill&query=bill(5,3,T)&lines=leap", WIDE);
   await page.click('#canvas [data-step="2"]');
-  const says = ["by 3:  price(N,P) :- N >= 10 | P := N * 8. says no", true];
+  const says = ["clause 3:  price(N,P) :- N >= 10 | P := N * 8. says no", true];
   assert.deepEqual(await page.value(clauses), [says], "and that of a step, as it would be after a roll");
   assert.deepEqual(await page.value(numbers("#canvas .mark")), [1, 2, 3, 4, 5, 6], "nothing was taken back for that");
 });

@@ -156,7 +156,7 @@ inBrowsers("two choices of a clause stand side by side, with what differs ringed
   assert.deepEqual(await page.value(numbers("#beside .mark", "kept")), [1, 2, 3, 4, 5, 6]);
   assert.deepEqual(await page.value(numbers("#beside .alone", "kept")), [2, 3]);
   assert.deepEqual(await page.value(numbers("#canvas .alone")), [7, 8]);
-  assert.match(await page.value(text("note")), /4 steps in both, 2 in that one alone, 2 in this one \(ringed\)\. The first that differs: step 2 above \(goal 1\.1 by 2\), here step 7 \(goal 1\.1 by 3\)/);
+  assert.match(await page.value(text("note")), /4 steps in both, 2 in that one alone, 2 in this one \(ringed\)\. The first that differs: step 2 above \(goal 1\.1 was reduced by clause 2\), here step 7 \(goal 1\.1 was reduced by clause 3\)/);
   await page.click("#swap-runs");
   await page.value("Talk.settled()");
   assert.deepEqual(await page.value(numbers("#canvas .alone")), [2, 3]);
@@ -172,9 +172,9 @@ inBrowsers("the chosen step's clause is marked in the program, lines wrap, the d
   await page.value('Canvas.choose({ step: 3 })');
   assert.deepEqual(await page.value(marked), []);
   const high = 'document.getElementById("program-lines").offsetHeight', before = await page.value(high);
-  await page.click("#wrap");
-  assert.ok((await page.value(high)) > before, "long lines go on in the next row");
   assert.equal(await page.value('document.getElementById("program").scrollHeight - document.getElementById("program-lines").offsetHeight < 30 || document.getElementById("program").scrollHeight === document.getElementById("program").clientHeight'), true);
+  await page.click("#wrap");
+  assert.ok((await page.value(high)) < before, "a long line goes on in one row");
   const wide = 'document.getElementById("source").offsetWidth', narrow = await page.value(wide);
   await page.value('document.getElementById("divider").focus()');
   await page.key("ArrowRight");
@@ -209,7 +209,7 @@ inBrowsers("above 3,000 steps the counts, the last step, the store and the chose
   const told = await page.value('Service.ask("lines", { lines: ["records", "show Ps"] }).then(({ replies }) => replies.map((one) => (Array.isArray(one) ? one : new TextDecoder().decode(one).split("\\n").filter(Boolean))))');
   const [records, [value]] = told, last = records[4999].split(" ")[0], binding = records.filter((line) => !line.includes(" binds - ")).at(-1);
   assert.equal(records.length, 5000);
-  assert.match(await page.value(text("count")), /^5000 steps, depth \d+$/);
+  assert.match(await page.value(text("count")), /^5000 steps, longest chain \d+$/);
   assert.equal(await page.value('document.getElementById("undo-last").dataset.line'), `undo ${last}`);
   assert.ok(!(await page.value(text("note"))).includes("`"));
   const rows = await page.value('[...document.querySelectorAll("#store .row")].map((row) => row.textContent)');
