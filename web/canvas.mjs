@@ -70,7 +70,7 @@ const Canvas = (() => {
     svg.classList.toggle("looking", Boolean(lit));
     for (const mark of marks()) {
       const number = Number(mark.dataset.step);
-      mark.classList.toggle("chosen", number === step);
+      mark.classList.toggle("chosen", number === step || number === Shown.visited);
       mark.classList.toggle("cause", causes.has(number) && number !== step);
       mark.classList.toggle("effect", effects.has(number) && number !== step);
       mark.classList.toggle("way", canvas.way.has(number));
@@ -127,20 +127,22 @@ const Canvas = (() => {
     Overview.draw();
   }
 
-  /** Lights the steps that went by a clause; gives how many there are. */
-  function showClause(number) {
-    const { graph } = Talk.run, isIn = new Uint8Array(graph.count);
-    let count = 0;
+  /** Lights the flagged steps. */
+  function showFlags(isIn, count) {
     choose(null);
-    for (let index = 0; index < graph.count; index++) {
-      if (graph.clauses.at(index) !== number) continue;
-      isIn[index] = 1;
-      count += 1;
-    }
     Shown.slice = { isIn, count };
     showChosen();
     Overview.draw();
-    return { isIn, count };
+  }
+
+  /** Goes to one of the steps that are lit, tells of it, and keeps the light. */
+  function visit(step) {
+    if (!Talk.run.graph.byNumber.has(step)) return;
+    Shown.visited = step;
+    scrollTo({ step });
+    showChosen();
+    Deeds.showDetail({ step });
+    Deeds.markClause(clauseOf({ step }));
   }
 
   /** Lights the part of a call, also in the strip. */
@@ -155,6 +157,7 @@ const Canvas = (() => {
     canvas.way = new Set();
     canvas.others = new Set();
     Shown.slice = null;
+    Shown.visited = null;
     Shown.asked = null;
   }
 
@@ -275,7 +278,7 @@ const Canvas = (() => {
     return true;
   }
 
-  return Object.assign(canvas, { draw, choose, forget, markWay, showSlice, showClause, showAsked, elementOf, showThere, isOwnScroll, scrollTo, ring, stayInSight, onKey, addTitle });
+  return Object.assign(canvas, { draw, choose, forget, markWay, showSlice, showFlags, visit, showAsked, elementOf, showThere, isOwnScroll, scrollTo, ring, stayInSight, onKey, addTitle });
 })();
 
 export default Canvas;

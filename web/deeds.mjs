@@ -3,7 +3,7 @@ const Deeds = (() => {
   const NAMES = [
     "begin", "beginOther", "typed", "isChanged", "setTyped", // a session, and the texts in the fields
     "showTab", "setOrder", "showNow", "showTime", "timeRows", "showNote", "showDetail", // what is seen
-    "draw", "choose", "scrollTo", "markClause", "markLit", "lightClause", // the picture and the program
+    "draw", "choose", "scrollTo", "markClause", "markLit", "lightClause", "size", "selectRange", // the picture and the program
     "resultOf", "tell", "tellSlice", "openMenu", "openMenuWith", "closeMenu", "pointAgain", "savePicture", // answers, menus, the tour, files
   ];
   const deeds = {};

@@ -351,10 +351,20 @@ const Overview = (() => {
     });
   }
 
+  /** The place of a pointer in the strip, by steps. */
+  const stepsAt = (event) => ((event.offsetX - EDGE) / (find("overview").clientWidth - 2 * EDGE)) * count();
+
+  let selectedFrom = null; // where an area began that is selected in the strip
+
   function onPointer(event) {
     if (event.buttons !== 1) return;
-    const area = find("overview"), part = (event.offsetX - EDGE) / (area.clientWidth - 2 * EDGE);
-    goTo(part * count() - size() / 2);
+    if (event.type === "pointerdown") selectedFrom = event.shiftKey ? stepsAt(event) : null;
+    if (selectedFrom === null) goTo(stepsAt(event) - size() / 2);
+  }
+
+  function onPointerUp(event) {
+    if (selectedFrom !== null && overview.until === null) Deeds.selectRange(selectedFrom, stepsAt(event));
+    selectedFrom = null;
   }
 
   function onKey(event) {
@@ -370,13 +380,14 @@ const Overview = (() => {
     const area = find("overview");
     area.addEventListener("pointerdown", (event) => { area.setPointerCapture(event.pointerId); onPointer(event); });
     area.addEventListener("pointermove", onPointer);
+    area.addEventListener("pointerup", onPointerUp);
     area.addEventListener("keydown", onKey);
     area.addEventListener("wheel", (event) => { event.preventDefault(); zoom(event.deltaY < 0 ? 1.2 : 1 / 1.2); goTo(overview.from); }, { passive: false });
   }
 
   return Object.assign(overview, {
     MOST_SIZE, run, reachOf, incoming, isOn, count, shownRun, follow, show, showUntil, laneOf, stepsUnder, zoom, fit,
-    draw, settled, hitFlags, listenToAll, sizeNow: size,
+    draw, settled, hitFlags, goTo, listenToAll, sizeNow: size,
   });
 })();
 

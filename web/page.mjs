@@ -23,9 +23,11 @@ import Panels from "./panels.mjs";
 import Program from "./program.mjs";
 import Resting from "./resting.mjs";
 import Result from "./result.mjs";
+import Selecting from "./selecting.mjs";
 import Shown from "./shown.mjs";
 import Store from "./store.mjs";
 import Talk from "./talk.mjs";
+import Walking from "./walking.mjs";
 import Welcome from "./welcome.mjs";
 
 const Page = (() => {
@@ -39,6 +41,7 @@ const Page = (() => {
     ["Click", "a step, a goal, a variable, or something that was taken back, and choose. Each click types a line at the console, below, where you see what it is called. A click on a clause of the program lights its steps. `Add goals` adds some while the program runs: write them as a query has them."],
     ["Names", "A variable has the program's name, with the number of its step below the line: `Rel₆` is Rel of step 6. Point at it to see its number, and click it to type that at the console."],
     ["Keys", "`s` steps the first goal that is ready, `r` runs, `u` takes back the last step, `a` asks for more goals, `t` sorts the steps by process, `d` changes between recorded order and chains of causes, `f` finds steps, `y` and `n` answer a question, `b` takes the last answer back, `/` goes to the console, `Escape` closes, and `Ctrl` `Enter` in the program starts it. In the picture `←` `→` go from step to step, `↑` `↓` to a cause or an effect, `Enter` opens what can be done."],
+    ["Move and size", "Drag the picture, or turn the wheel over it, to move it; with `Ctrl` the wheel sizes it. Drag with `Shift`, in the picture or in the strip above it, to select an area: its steps are lit and counted by predicate. `Shift` `←` `→` do so from the chosen step on."],
     ["Why?", "Click a value that is wrong, or a goal that has failed or waits, then `Find the wrong clause`. You are asked about a few calls: was what each gave right, for what it was given? Then the clause that is wrong is marked, and its step can be taken back."],
     ["Kept", "This browser keeps the last five sessions of your own programs, and what you typed since Start: after a reload the page offers them. `Link` puts program, query and lines into the address. Nothing leaves this browser by itself."],
     ["Texts", "`Save` keeps program, query and all lines in a text; `Open` plays it again. It opens histories (as `save` writes them) and programs, too. All that is described in docs/LANGUAGE.md and docs/FORMATS.md."],
@@ -149,9 +152,16 @@ const Page = (() => {
 
   /** Lights the steps that went by a clause, and tells how many there are. */
   function lightClause(number) {
-    const { count } = Canvas.showClause(number), clause = Talk.run.clauses[number - 1];
+    const { graph, clauses } = Talk.run, clause = clauses[number - 1], isIn = new Uint8Array(graph.count), places = [];
+    for (let index = 0; index < graph.count; index++) {
+      if (graph.clauses.at(index) !== number) continue;
+      isIn[index] = 1;
+      places.push(index);
+    }
+    Canvas.showFlags(isIn, places.length);
     Program.markClause(clause);
-    Answers.put(false, `Clause ${number} of ${clause.predicate}: `, count === 0 ? "no step went by it." : `${count} step${count === 1 ? "" : "s"} went by it (lit).`);
+    const numberAt = (at) => graph.numbers.at(places[at]), told = places.length === 1 ? "1 step went by it" : `${places.length.toLocaleString("en")} steps went by it`;
+    Answers.put(false, `Clause ${number} of ${clause.predicate}: `, ...(places.length === 0 ? ["no step went by it."] : [`${told} (lit). `, Walking.along(places.length, numberAt)]));
   }
 
   function leaveWelcome() {
@@ -330,6 +340,7 @@ const Page = (() => {
     ["[data-fold]", closing(({ dataset }) => Looking.fold(dataset.fold, true))],
     ["[data-unfold]", closing(({ dataset }) => Looking.fold(dataset.unfold, false))],
     ["[data-go-on]", ({ dataset }) => Keeping.goOn(Number(dataset.goOn))],
+    ["[data-visit]", closing(({ dataset }) => Canvas.visit(Number(dataset.visit)))],
     ["[data-goto]", ({ dataset }) => goToStep(Number(dataset.goto))],
     ["button[data-tab]", closing(({ dataset }) => showTab(dataset.tab))],
     [Object.keys(BUTTONS).map((id) => `button#${id}`).join(","), closing(({ id }) => BUTTONS[id]())],
@@ -382,6 +393,10 @@ const Page = (() => {
     if (event.key === "Tab" && event.target.closest("#menu")) Menus.onTab(event);
     if (event.target.closest("input, textarea, select")) return;
     const does = KEYS[event.key], isInCanvas = event.target === find("canvas");
+    if (isInCanvas && event.shiftKey && Selecting.onKey(event.key)) {
+      event.preventDefault();
+      return;
+    }
     if ((isInCanvas && Canvas.onKey(event.key)) || does) event.preventDefault();
     if (does) does();
   }
@@ -425,6 +440,7 @@ const Page = (() => {
     Overview.listenToAll();
     Program.listenToAll();
     Looking.listenToAll();
+    Selecting.listenToAll();
     Keeping.listenToAll();
     window.addEventListener("hashchange", () => Keeping.beginOther(() => { Guide.end(); return fromAddress(); }));
     setInterval(() => { if (Talk.busy) Panels.showBusy(); }, 100);
@@ -470,7 +486,7 @@ const Page = (() => {
   Deeds.give({
     begin, beginOther: Keeping.beginOther, typed, isChanged, setTyped,
     showTab, setOrder, showNow: Looking.showNow, showTime: () => { Result.show(); Panels.showTime(); }, timeRows: Panels.timeRows, showNote: Panels.showNote, showDetail: Panels.showDetail,
-    draw: Canvas.draw, choose: Canvas.choose, scrollTo: Canvas.scrollTo, markClause: Program.markClause, markLit: Program.markLit, lightClause,
+    draw: Canvas.draw, choose: Canvas.choose, scrollTo: Canvas.scrollTo, markClause: Program.markClause, markLit: Program.markLit, lightClause, size: (by) => setZoom(Shown.zoom * by), selectRange: Selecting.selectRange,
     resultOf: Result.ofKept, tell: Answers.put, tellSlice: Resting.tell, openMenu: Menus.open, openMenuWith: Menus.openWith, closeMenu: Menus.close,
     pointAgain: Guide.pointAgain, savePicture: Files.savePicture,
   });

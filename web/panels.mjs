@@ -15,6 +15,7 @@ import Resting from "./resting.mjs";
 import Shown from "./shown.mjs";
 import StepWords from "./step_words.mjs";
 import Store from "./store.mjs";
+import Summing from "./summing.mjs";
 import Talk from "./talk.mjs";
 
 const Panels = (() => {
@@ -24,6 +25,7 @@ const Panels = (() => {
   const MOST_KEPT = 1000000; // steps that the program keeps
   const LONGEST_LINE = 4000; // letters of a reply's line that are shown
   const MOST_TOLD = 100; // lines that were typed at once, and are shown
+  const LEAST_SUMMED = 4; // causes or consequences of a step that are summed
   const MOST_LINKED = 60; // lines of a reply in which numbers are links
   const plural = (count, word) => `${count} ${word}${count === 1 ? "" : "s"}`;
   const isRefusal = (line) => Replies.isRefusal(line) || /^(program|query|history|session): /.test(line);
@@ -103,6 +105,13 @@ const Panels = (() => {
     find("redo-all").hidden = !isNow || shelf.length < 2;
   }
 
+  /** On how many steps one rests, and how many rest on it, by predicate: where they are more than one reads one by one. */
+  function tellReached(run, step) {
+    const { causes, effects } = Overview.reachOf(step.number), own = run.graph.indexOf(step.number);
+    const told = ({ isIn, count }, words) => (count - 1 < LEAST_SUMMED ? "" : `\n${(count - 1).toLocaleString("en")} ${words}: ${Summing.words(run, isIn.map((flag, at) => (at === own ? 0 : flag)))}`);
+    return told(causes, "causes") + told(effects, "consequences");
+  }
+
   /** What the panel says of the step that is chosen. */
   function showDetail(chosen) {
     const run = Overview.run(), area = find("detail"), step = chosen && run.graph.byNumber.get(chosen.step);
@@ -114,8 +123,9 @@ const Panels = (() => {
     const effects = run.graph.effects.get(step.number).map((edge) => edge.to);
     const isTold = run.texts.has(step.goal);
     Resting.withGoalText(step, () => { if (!isTold && Shown.chosen && Shown.chosen.step === step.number) showDetail(Shown.chosen); });
+    const reached = tellReached(run, step);
     const because = causes.flatMap((edge) => ["\nbecause step ", goTo(edge.from), ` ${StepWords.causeOf(edge)}`]);
-    area.replaceChildren(Picture.tellStep(run, step), ...because,
+    area.replaceChildren(Picture.tellStep(run, step), reached, ...because,
       ...effects.slice(0, 20).flatMap((number, index) => [index === 0 ? "\nneeded by " : ", ", goTo(number, String(number))]));
     Names.dress(area);
   }
