@@ -20,6 +20,7 @@ const Files = (() => {
   const { find, make } = Elements;
 
   const MOST_PIXELS = 60e6; // of a PNG
+  const ROOM_ON_PAPER = 1100; // points
 
   function saveBlob(name, blob) {
     const link = make("a", { href: URL.createObjectURL(blob), download: name });
@@ -42,6 +43,12 @@ const Files = (() => {
   /** The run, or a part of it, as an SVG that stands alone. */
   function pictureText({ theme = "light", from, to } = {}) {
     return Picture.draw(partOf(from, to), { by: Shown.by, theme, room: find("canvas").clientWidth * Shown.zoom, legend: true, title: Talk.given.query, shown: Names.shown }).svg;
+  }
+
+  /** The whole run, as far as a picture can show it, for paper. */
+  function wholePicture() {
+    const { graph } = Talk.run, last = graph.count - 1, run = last < 0 ? Overview.shownRun() : partOf(graph.numbers.at(0), graph.numbers.at(last));
+    return Picture.draw(run, { by: Shown.by, theme: "light", room: ROOM_ON_PAPER, legend: true, shown: Names.shown, scope: "paper-run" }).svg;
   }
 
   /** A picture in pixels, two for each point. */
@@ -179,7 +186,7 @@ const Files = (() => {
   }
 
   return {
-    savePicture, saveSession, sessionText, pictureText, pngOf, openText, openBytes, listenToAll,
+    savePicture, saveSession, sessionText, pictureText, wholePicture, pngOf, openText, openBytes, listenToAll,
   };
 })();
 

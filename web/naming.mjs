@@ -13,11 +13,20 @@ const Naming = (() => {
   /** Of a graph's steps, by their numbers, what a name needs: the clause. No step is read for it. */
   const stepsOf = (graph) => ({ get: (number) => { const at = graph.indexOf(number); return at < 0 ? undefined : { clause: graph.clauses.at(at) }; } });
 
-  /** The names for the variables of a run: of a long program there are none. */
+  /** What program and query tell of names; null where they are too long, or no texts of the language. */
+  function readTexts({ program, query }, graph) {
+    if (program.length + query.length > MOST_LETTERS) return null;
+    try {
+      return new Run(Reader.readProgram(program), query, { steps: stepsOf(graph), texts: new Map(), changes: 0 });
+    } catch {
+      return null;
+    }
+  }
+
+  /** The names for the variables of a run: of a program that is long or refused there are none. */
   class Naming {
-    constructor({ program, query }, graph) {
-      const isLong = program.length + query.length > MOST_LETTERS;
-      this.run = isLong ? null : new Run(Reader.readProgram(program), query, { steps: stepsOf(graph), texts: new Map(), changes: 0 });
+    constructor(given, graph) {
+      this.run = readTexts(given, graph);
     }
 
     /** The name that the text gives to a variable; undefined where it gives none. */

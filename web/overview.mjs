@@ -29,7 +29,7 @@ const Overview = (() => {
   /** As many steps as have room side by side, with numbers in them that can be read. */
   function usualSize() {
     const room = find("canvas").clientWidth, wide = count() < 10000 ? 27.5 : 37;
-    return between(LEAST_SIZE, Math.floor((room - (room < 600 ? 190 : 360)) / wide), 60);
+    return between(LEAST_SIZE, Math.floor((room - (room < 600 ? 70 : 360)) / wide), 60);
   }
   const size = () => Math.min(overview.size === null ? usualSize() : overview.size, Math.max(1, count()));
   const setFrom = (from) => { overview.from = between(0, Math.round(from), Math.max(0, count() - size())); };

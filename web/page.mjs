@@ -19,6 +19,7 @@ import Links from "./links.mjs";
 import Looking from "./looking.mjs";
 import Menus from "./menus.mjs";
 import Overview from "./overview.mjs";
+import Paper from "./paper.mjs";
 import Panels from "./panels.mjs";
 import Program from "./program.mjs";
 import Resting from "./resting.mjs";
@@ -27,6 +28,7 @@ import Selecting from "./selecting.mjs";
 import Shown from "./shown.mjs";
 import Store from "./store.mjs";
 import Talk from "./talk.mjs";
+import Trail from "./trail.mjs";
 import Walking from "./walking.mjs";
 import Welcome from "./welcome.mjs";
 
@@ -40,7 +42,7 @@ const Page = (() => {
     ["Picture", "A line is a process, and time goes right. `●` reduces a goal by a clause, `◆` binds a variable, `■` computes, a flag is an input. A grey line leads from a step to a goal that it made, a blue arrow to a step that read what it bound; an orange dashed one says that this woke a goal that waited. A green ring is a goal that is ready, a dashed one waits, and its dotted arc points at a goal that has its variable. A hexagon is an ask, which no goal was there for; a line of dashes and dots leads to it from a step that made a variable that it names."],
     ["Click", "a step, a goal, a variable, or something that was taken back, and choose. Each click types a line at the console, below, where you see what it is called. A click on a clause of the program lights its steps. `Add goals` adds some while the program runs: write them as a query has them."],
     ["Names", "A variable has the program's name, with the number of its step below the line: `Rel₆` is Rel of step 6. Point at it to see its number, and click it to type that at the console."],
-    ["Keys", "`s` steps the first goal that is ready, `r` runs, `u` takes back the last step, `a` asks for more goals, `t` sorts the steps by process, `d` changes between recorded order and chains of causes, `f` finds steps, `y` and `n` answer a question, `b` takes the last answer back, `/` goes to the console, `Escape` closes, and `Ctrl` `Enter` in the program starts it. In the picture `←` `→` go from step to step, `↑` `↓` to a cause or an effect, `Enter` opens what can be done."],
+    ["Keys", "`s` steps the first goal that is ready, `r` runs, `u` takes back the last step, `a` asks for more goals, `t` sorts the steps by process, `d` changes between recorded order and chains of causes, `f` finds steps, `y` and `n` answer a question, `b` takes the last answer back, `p` goes back to what you looked at before, `/` goes to the console, `Escape` closes, and `Ctrl` `Enter` in the program starts it. In the picture `←` `→` go from step to step, `↑` `↓` to a cause or an effect, `Enter` opens what can be done."],
     ["Move and size", "Drag the picture, or turn the wheel over it, to move it; with `Ctrl` the wheel sizes it. Drag with `Shift`, in the picture or in the strip above it, to select an area: its steps are lit and counted by predicate. `Shift` `←` `→` do so from the chosen step on."],
     ["Why?", "Click a value that is wrong, or a goal that has failed or waits, then `Find the wrong clause`. You are asked about a few calls: was what each gave right, for what it was given? Then the clause that is wrong is marked, and its step can be taken back."],
     ["Kept", "This browser keeps the last five sessions of your own programs, and what you typed since Start: after a reload the page offers them. `Link` puts program, query and lines into the address. Nothing leaves this browser by itself."],
@@ -174,7 +176,7 @@ const Page = (() => {
 
   /** What shows a change, in its order. */
   const parts = () => [
-    leaveWelcome, Overview.follow, Beside.follow, Result.show, redraw, showNewSteps, Looking.follow, ...Panels.PARTS, Blaming.show, Guide.onChange, tellCause,
+    leaveWelcome, Overview.follow, Beside.follow, Result.show, redraw, showNewSteps, Looking.follow, ...Panels.PARTS, Trail.follow, Blaming.show, Guide.onChange, tellCause,
     Keeping.keep,
   ];
 
@@ -268,7 +270,7 @@ const Page = (() => {
     "save-session": () => Files.saveSession(), "save-picture": () => Menus.open({ picture: true }, find("save-picture")),
     "ask-more": () => Menus.open({ ask: true }, find("ask-more")),
     "redo-all": () => Talk.sendAll(Talk.run.shelf.map((step) => `redo ${step.number}`)),
-    stop: () => Talk.stop(),
+    stop: () => Talk.stop(), "trail-back": Trail.back,
     theme: () => setTheme(Shown.theme === "light" ? "dark" : "light"), tidy,
     "by-record": () => setOrder("record"), "by-depth": () => setOrder("depth"),
     smaller: () => setZoom(Shown.zoom / 1.4), larger: () => setZoom(Shown.zoom * 1.4), fit: () => setFit(!Shown.isFit),
@@ -339,7 +341,9 @@ const Page = (() => {
     ["[data-kept]", closing(({ dataset }) => Beside.onClick(Number(dataset.kept)))],
     ["[data-fold]", closing(({ dataset }) => Looking.fold(dataset.fold, true))],
     ["[data-unfold]", closing(({ dataset }) => Looking.fold(dataset.unfold, false))],
+    ["[data-note-away]", ({ dataset }) => Trail.setNote(Number(dataset.noteAway), "")],
     ["[data-go-on]", ({ dataset }) => Keeping.goOn(Number(dataset.goOn))],
+    ["[data-clause]", closing(({ dataset }) => lightClause(Number(dataset.clause)))],
     ["[data-visit]", closing(({ dataset }) => Canvas.visit(Number(dataset.visit)))],
     ["[data-goto]", ({ dataset }) => goToStep(Number(dataset.goto))],
     ["button[data-tab]", closing(({ dataset }) => showTab(dataset.tab))],
@@ -370,7 +374,7 @@ const Page = (() => {
 
   const KEYS = {
     s: () => find("step").click(), r: () => find("leap").click(), u: () => find("undo-last").click(), t: () => find("tidy").click(),
-    y: () => Blaming.press("right"), n: () => Blaming.press("wrong"), b: () => Blaming.press("back"),
+    y: () => Blaming.press("right"), n: () => Blaming.press("wrong"), b: () => Blaming.press("back"), p: Trail.back,
     f: () => { showTab("run"); find("search").focus(); },
     a: () => { showTab("run"); find("ask-more").click(); }, d: () => setOrder(Shown.by === "record" ? "depth" : "record"), "/": () => { showTab("console"); find("line").focus(); }, "?": showHelp,
   };
@@ -419,8 +423,16 @@ const Page = (() => {
     Talk.send(line);
   }
 
+  /** The console's drawer opens where somebody writes a line, or comes into it by a key; it stays as it is while one is within. */
+  function listenToDrawer() {
+    const talk = find("talk");
+    talk.addEventListener("focusin", ({ target }) => { if (target === find("line") || target.matches(":focus-visible")) talk.classList.add("open"); });
+    talk.addEventListener("focusout", ({ relatedTarget }) => { if (!talk.contains(relatedTarget)) talk.classList.remove("open"); });
+  }
+
   function listenToAll() {
     document.addEventListener("click", onClick);
+    listenToDrawer();
     document.addEventListener("keydown", onKey);
     find("type").addEventListener("submit", onType);
     find("line").addEventListener("keydown", onLineKey);
@@ -441,6 +453,8 @@ const Page = (() => {
     Program.listenToAll();
     Looking.listenToAll();
     Selecting.listenToAll();
+    Trail.listenToAll();
+    Paper.listenToAll();
     Keeping.listenToAll();
     window.addEventListener("hashchange", () => Keeping.beginOther(() => { Guide.end(); return fromAddress(); }));
     setInterval(() => { if (Talk.busy) Panels.showBusy(); }, 100);
@@ -461,6 +475,15 @@ const Page = (() => {
     }
   }
 
+  /** The trail and the notes in the letters of an address; null where there are none, or none can be read. */
+  async function readNotes(letters) {
+    try {
+      return letters === null ? null : JSON.parse(await Links.unpack(letters));
+    } catch {
+      return null;
+    }
+  }
+
   /** Does what an address asks for, as `#example=primes&query=primes(30,Ps)&lines=leap&by=depth&theme=dark&step=90`; says whether it holds a session. */
   async function fromAddress() {
     const asked = new URLSearchParams(location.hash.slice(1)), name = asked.get("example"), letters = asked.get("s");
@@ -469,6 +492,7 @@ const Page = (() => {
       begin(session);
       if (session.lines.length > 0) Talk.sendAll(session.lines);
       await Talk.settled();
+      Trail.takeUp(await readNotes(asked.get("n")));
       return true;
     }
     const example = EXAMPLES.some((other) => other.name === name) ? name : FIRST_EXAMPLE;
@@ -484,8 +508,8 @@ const Page = (() => {
   }
 
   Deeds.give({
-    begin, beginOther: Keeping.beginOther, typed, isChanged, setTyped,
-    showTab, setOrder, showNow: Looking.showNow, showTime: () => { Result.show(); Panels.showTime(); }, timeRows: Panels.timeRows, showNote: Panels.showNote, showDetail: Panels.showDetail,
+    begin, beginOther: Keeping.beginOther, typed, isChanged, setTyped, keepSoon: Keeping.keepSoon,
+    showTab, setOrder, showNow: Looking.showNow, showTime: () => { Result.show(); Panels.showTime(); }, timeRows: Panels.timeRows, showNote: Panels.showNote, showDetail: (chosen) => { Panels.showDetail(chosen); Trail.look(chosen); },
     draw: Canvas.draw, choose: Canvas.choose, scrollTo: Canvas.scrollTo, markClause: Program.markClause, markLit: Program.markLit, lightClause, size: (by) => setZoom(Shown.zoom * by), selectRange: Selecting.selectRange,
     resultOf: Result.ofKept, tell: Answers.put, tellSlice: Resting.tell, openMenu: Menus.open, openMenuWith: Menus.openWith, closeMenu: Menus.close,
     pointAgain: Guide.pointAgain, savePicture: Files.savePicture,

@@ -80,7 +80,7 @@ const Picture = (() => {
     const y = view.top - 12;
     const name = view.by === "depth" ? "chain of causes" : "recorded order";
     const ticks = view.ticks.filter((tick) => tick.x - String(tick.text).length * 3 > view.left - 8).map((tick) => `<text x="${round(tick.x)}" y="${y}" text-anchor="middle" font-size="10" fill="${theme.dim}">${tick.text}</text>`);
-    return `<g class="axis"><rect x="0" y="0" width="${round(view.width)}" height="${view.top - 6}" fill="${theme.ground}"/>${ticks.join("")}<text x="${round(view.left - 10)}" y="${y}" text-anchor="end" font-size="10" fill="${theme.dim}">${name}</text></g>`;
+    return `<g class="axis"><rect x="0" y="0" width="${round(view.width)}" height="${view.top - 6}" fill="${theme.ground}"/>${ticks.join("")}<text x="${round(view.isAbove ? 12 : view.left - 10)}" y="${view.isAbove ? y - 12 : y}" text-anchor="${view.isAbove ? "start" : "end"}" font-size="10" fill="${theme.dim}">${name}</text></g>`;
   }
 
   const drawGrid = (view, theme) => view.ticks
@@ -112,8 +112,9 @@ const Picture = (() => {
   }
 
   function drawName(view, lane, theme, colour) {
-    const first = lane.predicates[0];
-    return `<text x="12" y="${round(lane.y + view.sizes.font * 0.35)}" font-size="${view.sizes.font}"><tspan fill="${theme.dim}">${lane.name}</tspan> <tspan font-weight="600" fill="${first ? colour(first) : theme.ink}">${escaped(lane.text)}</tspan></text>`;
+    const first = lane.predicates[0], { sizes, isAbove } = view, y = isAbove ? lane.y - sizes.radius - (sizes.kind === "roomy" ? 5 : 15) : lane.y + sizes.font * 0.35;
+    const clear = isAbove ? ` paint-order="stroke" stroke="${theme.ground}" stroke-width="3"` : "";
+    return `<text x="12" y="${round(y)}" font-size="${sizes.font}"${clear}><tspan fill="${theme.dim}">${lane.name}</tspan> <tspan font-weight="600" fill="${first ? colour(first) : theme.ink}">${escaped(lane.text)}</tspan></text>`;
   }
 
   /** The lanes that have room for a name: where they stand closer than letters are high, not each of them. */
@@ -128,7 +129,7 @@ const Picture = (() => {
 
   function drawNames(view, theme, colour) {
     const names = lanesWithRoom(view).map((lane) => drawName(view, lane, theme, colour)).join("");
-    return `<g class="names"><rect x="0" y="${view.top - 6}" width="${round(view.left - 8)}" height="${round(view.bottom - view.top + 6)}" fill="${theme.ground}"/>${names}</g>`;
+    return `<g class="names"><rect x="0" y="${view.top - 6}" width="${view.isAbove ? 0 : round(view.left - 8)}" height="${round(view.bottom - view.top + 6)}" fill="${theme.ground}"/>${names}</g>`;
   }
 
   /** The way of a line by which a step made what another one took; lanes and forks show it for processes, so this is for the small ones. */
@@ -267,7 +268,7 @@ const Picture = (() => {
   /** The ends of arrows from steps outside the window, each with the number of the step that it comes from where there is room. */
   function drawComing(view, edges, theme) {
     const counts = new Map(), { sizes } = view, parts = [], ends = edges.map((edge) => view.marks.get(edge.to)).filter(Boolean);
-    const hasRoom = (mark, wide) => sizes.kind === "roomy" && mark.x - wide > view.left - sizes.radius && !ends.some((other) => other.y === mark.y && other.x < mark.x && other.x > mark.x - wide);
+    const hasRoom = (mark, wide) => sizes.kind === "roomy" && !view.isAbove && mark.x - wide > view.left - sizes.radius && !ends.some((other) => other.y === mark.y && other.x < mark.x && other.x > mark.x - wide);
     for (const edge of edges) {
       const mark = view.marks.get(edge.to), at = counts.get(edge.to) || 0;
       if (!mark || (edge.kind === "made" && mark.row === 0) || at >= MOST_COMING) continue;

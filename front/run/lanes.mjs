@@ -9,7 +9,8 @@ const Lanes = (() => {
   const MOST_CLEAR_ROWS = 5;
   const MANY = 1024; // steps between two places where one may pause
   const MOST_ARCS = 40;
-  const NARROW = 600; // the room below which names are short
+  const NARROW = 600; // the room below which names are short, and stand above their lanes where the picture is not made to fit
+  const LEAST_LEFT = 22; // points beside the first step where names stand above
   const BOLD_LETTER = 0.62, LETTER = 0.56; // the width of a letter, as a part of the font's size
 
   const SORTS = ["call", "unification", "assignment", "stream", "stream"]; // of the goal of a step, by the step's kind
@@ -429,7 +430,7 @@ const Lanes = (() => {
   function bestSizes(run, options, columns, lanes, letters) {
     const large = leastLarge(run), isAs = (sizes, kind) => RANKS[sizes.kind] >= RANKS[kind] && (kind !== "roomy" || sizes.radius >= large - 0.01);
     const looks = LOOKS.map(([kind, labels]) => {
-      const sides = letters * 7.4 + roomForGoals(run, labels), sizes = sizesFor(options.room, columns, lanes, sides, options.high !== undefined);
+      const sides = (isAbove(options) ? 0 : letters * 7.4) + roomForGoals(run, labels), sizes = sizesFor(options.room, columns, lanes, sides, options.high !== undefined);
       return { isLarge: isAs(sizes, kind), fits: sides + columns * sizes.dx < options.room + 1, sizes: { ...sizes, labels } };
     });
     const scrolled = looks.filter(({ isLarge, sizes }) => isLarge && sizes.labels !== "long"); // where nothing fits, one scrolls
@@ -477,6 +478,9 @@ const Lanes = (() => {
     const edges = Stuck.edgesOf(run.goals).slice(0, MOST_ARCS);
     return 70 + Math.max(...widths) + Math.min(3, edges.length) * arcWidth(run, edges);
   }
+
+  /** Do the names of lanes stand above them? Beside them they would take too much of a narrow window. */
+  const isAbove = ({ room, high }) => room < NARROW && high === undefined;
 
   /** The numbers above the columns; `before` is how many columns of the run stand before the first one. */
   function axis(columns, dx, x, before) {
@@ -537,8 +541,8 @@ const Lanes = (() => {
   function placeLanes(view, top) {
     let y = top;
     for (const lane of view.lanes) {
-      lane.y = y + view.sizes.row / 2;
-      y += view.sizes.row + (lane.rows - 1) * view.sizes.leafRow + ((lane.rows > 1 && view.sizes.kind === "roomy" ? 8 : 0) + 2) * (view.sizes.gap || 1);
+      lane.y = y + view.nameRoom + view.sizes.row / 2;
+      y += view.nameRoom + view.sizes.row + (lane.rows - 1) * view.sizes.leafRow + ((lane.rows > 1 && view.sizes.kind === "roomy" ? 8 : 0) + 2) * (view.sizes.gap || 1);
     }
     return y;
   }
@@ -567,10 +571,12 @@ const Lanes = (() => {
     }
     const letters = Math.max(8, ...lanes.map((lane) => lane.name.length + lane.text.length + 2));
     const sizes = bestSizes(run, options, columns, lanes.length, letters);
-    const left = 24 + letters * sizes.font * BOLD_LETTER;
+    const left = isAbove(options) ? LEAST_LEFT : 24 + letters * sizes.font * BOLD_LETTER;
     const x = (column) => left + column * sizes.dx + sizes.dx / 2;
     const view = { by: options.by, lanes, laneOf, kinds, rows, makerOf, sizes, left, columns, store, marks: new Map(), goals: new Map(), taken: [], waits: [] };
     view.yOf = (lane, row) => lane.y + row * sizes.leafRow;
+    view.nameRoom = isAbove(options) ? sizes.font + (sizes.kind === "roomy" ? 3 : 13) : 0;
+    view.isAbove = isAbove(options);
     view.thereX = left + columns * sizes.dx + sizes.radius + 6;
     view.bottom = placeLanes(view, options.top);
     if (options.high !== undefined && view.bottom > options.high) {

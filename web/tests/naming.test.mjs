@@ -22,6 +22,14 @@ test("a name that a call has already is taken by no other variable", () => {
   assert.equal(naming.asQuery("q(_1_3,_0_1)"), "q(V,V2)");
 });
 
+test("of a text that is refused there are no names, and nothing fails", () => {
+  for (const given of [{ program: PROGRAM, query: "qs(ä" }, { program: "p(X :- ä", query: "p(X)" }]) {
+    const naming = new Naming(given, Graph.graphOf([]));
+    assert.equal(naming.shown("f(_1_1)"), "f(_1_1)");
+    assert.equal(naming.variableOf("M₁"), undefined);
+  }
+});
+
 test("a text is taken apart into texts and names, and a name leads back to its variable", () => {
   const graph = Graph.graphOf(["1 0.1 by 2 reads - binds - makes 1.1,1.2,1.3"]);
   const naming = new Naming({ program: PROGRAM, query: "qs([5,2],R,[])" }, graph);

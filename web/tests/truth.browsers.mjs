@@ -26,27 +26,43 @@ async function slideTo(page, steps) {
 
 inBrowsers("the slider shows one time: all that is said is that of a session of the first steps", async (page) => {
   await open(page, "#example=quicksort&query=quicksort([3,1,2],R)", WIDE);
+  const told = await compareTimes(page, 27);
+  assert.equal(told[27].result, "done: R = [1,2,3]");
+  await page.value('(document.getElementById("play").click(), true)');
+  await until(page, "Overview.until === 3 && Overview.earlier.graph.count === 3");
+  await page.value('Talk.send("undo 27")');
+  assert.equal(await page.value(text("count")), told[26].count, "a line leads back to the present");
+  for (const [address, steps] of TIMES) {
+    await open(page, address, WIDE);
+    await compareTimes(page, steps);
+  }
+});
+
+const TIMES = [
+  ["#example=bill&query=bill(12,3,T)", 6], ["#example=append&query=append([1,2],[3],R)", 6], ["#example=merge&query=merge([1,2],[a],Z)", 6],
+  ["#example=deadlock&query=after(A,B), after(B,C), A = done", 5], ["#example=reverse&query=reverse([1,2],R)", 10],
+];
+
+/** Steps to the end, and compares what is said of each time then with what the slider shows of it; gives what is said. */
+async function compareTimes(page, steps) {
   const told = [await page.value(SCREEN)];
   while (await page.value("Talk.run.goals.length > 0")) {
     await page.value('Talk.send(document.getElementById("step").dataset.line)');
     told.push(await page.value(SCREEN));
   }
   const all = told.length - 1;
-  assert.equal(all, 27);
-  for (let steps = 0; steps < all; steps++) {
-    await slideTo(page, steps);
-    const count = told[steps].count.replace(/^(\d+) steps?/, `$1 of ${all} steps`);
-    assert.deepEqual(await page.value(SCREEN), { ...told[steps], count });
+  assert.equal(all, steps);
+  for (let at = 0; at < all; at++) {
+    await slideTo(page, at);
+    const count = told[at].count.replace(/^(\d+) steps?/, `$1 of ${all} steps`);
+    assert.deepEqual(await page.value(SCREEN), { ...told[at], count });
   }
   const offered = await page.value("document.querySelectorAll('#goals [data-line^=step]').length");
   assert.equal(offered, 0, "no step is offered at an earlier time");
   await page.click("#show-all-steps");
   assert.deepEqual(await page.value(SCREEN), told[all]);
-  await page.value('(document.getElementById("play").click(), true)');
-  await until(page, "Overview.until === 3 && Overview.earlier.graph.count === 3");
-  await page.value('Talk.send("undo 27")');
-  assert.equal(await page.value(text("count")), told[all - 1].count, "a line leads back to the present");
-});
+  return told;
+}
 
 inBrowsers("of a run of more than 3,000 steps the slider moves the picture, and the page says so", async (page) => {
   const goals = 'document.querySelectorAll("#goals .row").length';
@@ -95,7 +111,7 @@ inBrowsers("a menu asks what clauses say: one that says yes can be clicked, othe
 const CHOICE = "c(R) :- true | R = 1.\nc(R) :- true | w(R).\nc(R) :- true | R = 2, R = 3.\nw(X) :- wait(X) | true.\n";
 const ENDS = [
   [2, "stuck: 3.1 w(R) waits", /Nothing is ready, and a goal waits\. \d+\.1 waits for R: nobody can bind it/],
-  [3, "failed: R = 2; 3.2 2 = 3", /Goal \d+\.\d has failed: .* are two different things/],
+  [3, "failed: R = 3; 3.1 3 = 2", /Goal \d+\.\d has failed: .* are two different things/],
 ];
 
 inBrowsers("beside a run that is kept a deadlock and a failure are told, too", async (page) => {
@@ -119,7 +135,7 @@ const CIRCLES = [
   ["p(1) :- true | true.\nr(1,2) :- true | true.\ns(2,X) :- true | true.\n", "p(X), r(X,Y), s(Y,X)", ["0.2", "0.3"],
     "A deadlock: s waits for r to bind Y; r waits for s to bind X. Show these lanes alone"],
   ["p(a,_) :- true | true.\np(_,b) :- true | true.\n", "p(X,Y), p(Y,X)", ["0.1", "0.2"],
-    "A deadlock: p 1 waits for p 2 to bind X; p 2 waits for p 1 to bind Y. Show these lanes alone"],
+    "A deadlock: p 1 waits for p 2 to bind X; p 2 waits for p 1 to bind X. Show these lanes alone"],
 ];
 
 inBrowsers("`F1 = 2` is a value and no refusal; a circle is one on the page as at the terminal", async (page) => {
