@@ -112,6 +112,9 @@ const Menus = (() => {
     return steps < 2 ? null : make("button", { "data-fold": lane.name, title: `${lane.name} and all that came of it as one bar; nothing is taken back` }, `Fold ${plural(steps, "step")}`);
   }
 
+  /** Lights all steps that went by the clause of one. */
+  const clauseButtonOf = ({ clause }) => (clause ? make("button", { "data-clause": clause, title: "As a click on the clause in the program does" }, `All steps by clause ${clause}`) : null);
+
   /** The menu of a kept step. */
   function ofStep(number) {
     const { graph, clauses } = Talk.run, step = graph.byNumber.get(number);
@@ -122,7 +125,7 @@ const Menus = (() => {
     Resting.withGoalText(step, (text) => { goal.textContent = `${text}\n`; Names.dress(goal); });
     return [title(`Step ${number}`, StepWords.of(step)),
       code(goal, step.goal === null ? step.act : "", clause, ...step.binds.map((binding) => `${binding.variable} = ${Terms.cut(binding.term, 300)}`)),
-      buttons(lineButton("Why?", `why ${number}`), undo, rollButton(number, gone), foldButton({ step: number })), why, ...otherClauses(step)];
+      buttons(lineButton("Why?", `why ${number}`), undo, rollButton(number, gone), foldButton({ step: number }), clauseButtonOf(step)), why, ...otherClauses(step)];
   }
 
   function spyButton(goal) {

@@ -11,6 +11,7 @@ const Program = (() => {
   const MOST_LINES = 3000, MOST_LETTERS = 500000; // of a longer program no numbers are shown
   const MOST_BYTES = 1048576; // of a program that ghcdb takes
   const MOST_COLOURED = 1000; // lines
+  const LEAST_WIDE = 220, LEAST_VIEW = 420; // points of the column, and of the picture beside it
   let marked = null, lit = "", shown = []; // the clause of the chosen step; those of all that is lit; the lines behind the field
 
   const text = () => find("program").value;
@@ -59,6 +60,14 @@ const Program = (() => {
     lines.style.width = isWrapped() ? `${field.clientWidth}px` : "";
     lines.style.transform = `translate(${-field.scrollLeft}px, ${-field.scrollTop}px)`;
   }
+
+  /** Tells those who do not see it how wide the column of the program is. */
+  function tellWidth() {
+    find("divider").setAttribute("aria-valuemax", String(mostWide()));
+    find("divider").setAttribute("aria-valuenow", String(Math.round(width())));
+  }
+
+  const mostWide = () => Math.max(LEAST_WIDE, window.innerWidth - LEAST_VIEW);
 
   const isWrapped = () => find("program").wrap === "soft";
 
@@ -149,9 +158,9 @@ const Program = (() => {
 
   /** Makes the column of program and console so many points wide. */
   function setWidth(wide) {
-    const most = window.innerWidth - 420, now = Math.round(Math.max(220, Math.min(wide, most)));
+    const now = Math.round(Math.max(LEAST_WIDE, Math.min(wide, mostWide())));
     document.documentElement.style.setProperty("--side", `${now}px`);
-    find("divider").setAttribute("aria-valuenow", String(now));
+    tellWidth();
     Canvas.draw();
   }
 
@@ -174,7 +183,7 @@ const Program = (() => {
     field.addEventListener("input", showLines);
     field.addEventListener("scroll", follow, { passive: true });
     field.addEventListener("click", onClick);
-    new ResizeObserver(follow).observe(field);
+    new ResizeObserver(() => { follow(); tellWidth(); }).observe(field);
     divider.addEventListener("pointerdown", (event) => divider.setPointerCapture(event.pointerId));
     divider.addEventListener("pointermove", (event) => { if (event.buttons === 1) setWidth(event.clientX); });
     divider.addEventListener("keydown", (event) => {
