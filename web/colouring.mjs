@@ -1,9 +1,11 @@
-// A line of a program in parts: comments, variables, integers and the rest, as they are coloured; and a part of it underlined. Pure.
+// A line of a program in parts: comments, variables, integers and the rest, as they are coloured; and a part of it
+// underlined. Pure.
 import Tokens from "../front/text/tokens.mjs";
 
 const Colouring = (() => {
   const PLAIN = "";
-  const kindOf = ({ kind, text }) => (kind === "variable" || kind === "integer" ? kind : text === ":-" || text === "|" ? "mark" : PLAIN);
+  const COLOURED = ["variable", "integer"], MARKS = [":-", "|"];
+  const kindOf = ({ kind, text }) => (COLOURED.includes(kind) ? kind : MARKS.includes(text) ? "mark" : PLAIN);
 
   /** Adds a part; parts of one kind become one. */
   function add(parts, kind, text) {
@@ -37,11 +39,11 @@ const Colouring = (() => {
     const end = Math.min(line.length, start + length), parts = [];
     let at = 0;
     for (const { kind, text } of partsOf(line)) {
-      const cuts = [at, Math.max(at, Math.min(start, at + text.length)), Math.max(at, Math.min(end, at + text.length)), at + text.length];
-      add(parts, kind, line.slice(cuts[0], cuts[1]));
-      add(parts, "wrong-word", line.slice(cuts[1], cuts[2]));
-      add(parts, kind, line.slice(cuts[2], cuts[3]));
-      at += text.length;
+      const after = at + text.length, within = (place) => Math.max(at, Math.min(place, after));
+      add(parts, kind, line.slice(at, within(start)));
+      add(parts, "wrong-word", line.slice(within(start), within(end)));
+      add(parts, kind, line.slice(within(end), after));
+      at = after;
     }
     return parts;
   }

@@ -1,4 +1,5 @@
-// The names of the variables of the run, wherever the page shows some: what one points at tells the number, and a click types it at the console.
+// The names of the variables of the run, wherever the page shows some: what one points at tells the number, and a click
+// types it at the console.
 import Elements from "./elements.mjs";
 import Naming from "./naming.mjs";
 import Talk from "./talk.mjs";
@@ -15,14 +16,19 @@ const Names = (() => {
 
   const isKept = (node) => node.data.includes("_") && node.parentElement.closest(".cause, .typed, .variable") === null;
 
-  /** The texts below an element in which a variable may stand. The place of a cause and a typed line stay as they are. */
+  /**
+   * The texts below an element in which a variable may stand. The place of a cause and a typed line stay as they are.
+   */
   function textsIn(area) {
     const walker = document.createTreeWalker(area, NodeFilter.SHOW_TEXT), found = [];
     while (walker.nextNode()) if (isKept(walker.currentNode)) found.push(walker.currentNode);
     return found;
   }
 
-  /** A variable by its name. Within a button the click is the button's; in a list the key Tab passes it, for its menu has it, too. */
+  /**
+   * A variable by its name. Within a button the click is the button's; in a list the key Tab passes it, for its menu
+   * has it, too.
+   */
   function nameFor({ variable, name }, isInButton, isInList) {
     if (isInButton) return make("span", { class: "variable", title: variable }, name);
     const how = { title: `${variable}: a click types it`, "data-types": variable, tabindex: isInList ? "-1" : null };

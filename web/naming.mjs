@@ -1,4 +1,5 @@
-// Goals as the console prints them, with the names that program and query give to variables: for people, and as a query. Pure.
+// Goals as the console prints them, with the names that program and query give to variables: for people, and as a
+// query. Pure.
 import Printed from "../front/text/printed.mjs";
 import Reader from "../front/text/reader.mjs";
 import Run from "../front/run/run.mjs";
@@ -11,7 +12,10 @@ const Naming = (() => {
   const subscript = (number) => [...String(number)].map((digit) => String.fromCodePoint(SUBSCRIPT + Number(digit))).join("");
 
   /** Of a graph's steps, by their numbers, what a name needs: the clause. No step is read for it. */
-  const stepsOf = (graph) => ({ get: (number) => { const at = graph.indexOf(number); return at < 0 ? undefined : { clause: graph.clauses.at(at) }; } });
+  function stepsOf(graph) {
+    const stepAt = (at) => (at < 0 ? undefined : { clause: graph.clauses.at(at) });
+    return { get: (number) => stepAt(graph.indexOf(number)) };
+  }
 
   /** What program and query tell of names; null where they are too long, or no texts of the language. */
   function readTexts({ program, query }, graph) {
@@ -34,7 +38,9 @@ const Naming = (() => {
       return this.run === null ? undefined : this.run.nameOf(variable);
     }
 
-    /** The same for people: of a clause's variable with the number of the step below the line, so that no two are alike. */
+    /**
+     * The same for people: of a clause's variable with the number of the step below the line, so that no two are alike.
+     */
     shownName(variable) {
       const name = this.nameOf(variable), [step] = Printed.numbersOf(variable);
       if (name === undefined) return variable;
@@ -61,12 +67,17 @@ const Naming = (() => {
     variableOf(shown) {
       const [, name, below] = /^([A-Z_]\w*?)([₀-₉]*)$/.exec(shown) || [];
       if (this.run === null || name === undefined) return undefined;
-      const step = Number([...below].map((digit) => digit.codePointAt(0) - SUBSCRIPT).join("")), { clause } = this.run.kept.steps.get(step) || { clause: 0 };
-      const names = step === 0 ? this.run.query.variables : this.run.clauses[clause - 1]?.news || [], place = names.indexOf(name);
+      const step = Number([...below].map((digit) => digit.codePointAt(0) - SUBSCRIPT).join(""));
+      const { clause } = this.run.kept.steps.get(step) || { clause: 0 };
+      const names = step === 0 ? this.run.query.variables : this.run.clauses[clause - 1]?.news || [];
+      const place = names.indexOf(name);
       return place < 0 ? undefined : `_${step}_${place + 1}`;
     }
 
-    /** A goal's text as a query: no `_1_2` may stand there, so each variable has a name of its own, the text's where no other has it. */
+    /**
+     * A goal's text as a query: no `_1_2` may stand there, so each variable has a name of its own, the text's where no
+     * other has it.
+     */
     asQuery(text) {
       const names = new Map();
       for (const variable of Printed.variablesIn(text)) names.set(variable, this.freshName(variable, new Set(names.values())));

@@ -1,4 +1,5 @@
-// What came of a run: whether it is done, has failed, is stuck or goes on, and who waits for whom in a circle, by names of processes. Pure.
+// What came of a run: whether it is done, has failed, is stuck or goes on, and who waits for whom in a circle, by names
+// of processes. Pure.
 import Printed from "../front/text/printed.mjs";
 import Graph from "../front/run/graph.mjs";
 import Lanes from "../front/run/lanes.mjs";
@@ -17,7 +18,10 @@ const Outcome = (() => {
     return isThere("stream") ? "waits for an input" : "stuck";
   }
 
-  /** The goals from which one came, the query's first and itself last, by the keys that lists of numbers give: maker and place. */
+  /**
+   * The goals from which one came, the query's first and itself last, by the keys that lists of numbers give: maker and
+   * place.
+   */
   function wayTo(graph, name) {
     const way = [];
     for (let [maker, place] = Printed.nameParts(name); ; ) {
@@ -53,7 +57,10 @@ const Outcome = (() => {
     return alike.length > 1 ? `${word} ${alike.indexOf(name) + 1}` : word;
   }
 
-  /** The names of the processes to which some goals belong, by the goals' names; where two would be alike, with the goal's own. */
+  /**
+   * The names of the processes to which some goals belong, by the goals' names; where two would be alike, with the
+   * goal's own.
+   */
   function processNames(run, goals) {
     const kinds = new Lanes.GoalKinds(run), ways = goals.map((goal) => wayTo(run.graph, goal)), first = partings(ways);
     const words = ways.map((way) => processName(run, kinds, first.get(way)));
@@ -61,33 +68,42 @@ const Outcome = (() => {
     return new Map(goals.map((goal, at) => [goal, isAlone(words[at]) ? words[at] : `${words[at]} (${goal})`]));
   }
 
-  /** Is a variable an argument of a call itself, and does not stand within one, as in a request that is not served yet? */
+  /**
+   * Is a variable an argument of a call itself, and does not stand within one, as in a request that is not served yet?
+   */
   function isHeld(goal, variable) {
     const open = goal.text.indexOf("(");
-    return goal.sort === "call" && open >= 0 && Printed.splitOutside(goal.text.slice(open + 1, -1), ",").includes(variable);
+    if (goal.sort !== "call" || open < 0) return false;
+    return Printed.splitOutside(goal.text.slice(open + 1, -1), ",").includes(variable);
   }
 
   /** The circle's waits, in its order: a goal, for which variable it waits, and the goal that has it. */
   function waitsIn(run, circle) {
-    const byName = new Map(run.goals.map((goal) => [goal.name, goal])), edges = Stuck.edgesOf(run.goals, circle.map((name) => byName.get(name)));
+    const byName = new Map(run.goals.map((goal) => [goal.name, goal]));
+    const edges = Stuck.edgesOf(run.goals, circle.map((name) => byName.get(name)));
     return circle.map((from, at) => {
-      const to = circle[(at + 1) % circle.length], { variable } = edges.find((edge) => edge.from === from && edge.to === to);
+      const to = circle[(at + 1) % circle.length];
+      const { variable } = edges.find((edge) => edge.from === from && edge.to === to);
       return { from, to, variable, isHeld: isHeld(byName.get(to), variable) };
     });
   }
 
   /**
-   * The circle in which a run is stuck, as sentences: `holds` is the goal that waits for what `who` has, and null where that is not told,
-   * and `waitsFor` the goal for which `who` waits. Where some have what they were given and others a request for it, the first are told.
-   * Null where there is none.
+   * The circle in which a run is stuck, as sentences: `holds` is the goal that waits for what `who` has, and null
+   * where that is not told, and `waitsFor` the goal for which `who` waits. Where some have what they were given and
+   * others a request for it, the first are told. Null where there is no circle.
    */
   function circleOf(run) {
     const circle = Stuck.circleOf(run.goals);
     if (circle.length === 0 || circle.length > MOST_IN_CIRCLE) return null;
-    const waits = waitsIn(run, circle), names = processNames(run, circle), isMixed = waits.some((wait) => wait.isHeld) && waits.some((wait) => !wait.isHeld);
+    const waits = waitsIn(run, circle), names = processNames(run, circle);
+    const isMixed = waits.some((wait) => wait.isHeld) && waits.some((wait) => !wait.isHeld);
     const before = (at) => waits[(at + waits.length - 1) % waits.length];
-    const all = waits.map(({ from, to, variable }, at) => ({ who: from, holds: isMixed ? before(at).from : null, waitsFor: to, variable, isTold: !isMixed || before(at).isHeld }));
-    return { goals: circle, names, sentences: all.filter((one) => one.isTold).map(({ who, holds, waitsFor, variable }) => ({ who, holds, waitsFor, variable })) };
+    const sentences = waits.map(({ from, to, variable }, at) => {
+      const holds = isMixed ? before(at).from : null;
+      return { who: from, holds, waitsFor: to, variable };
+    });
+    return { goals: circle, names, sentences: sentences.filter((none, at) => !isMixed || before(at).isHeld) };
   }
 
   return { wordOf, circleOf };

@@ -10,7 +10,8 @@ const Paper = (() => {
   /** Which steps the picture shows. */
   function stepsTold() {
     const { count } = Talk.run.graph, most = Overview.MOST_SIZE, told = (number) => number.toLocaleString("en");
-    return count > most ? `The first ${told(most)} of ${told(count)} steps` : count === 1 ? "1 step" : `All ${told(count)} steps`;
+    if (count > most) return `The first ${told(most)} of ${told(count)} steps`;
+    return count === 1 ? "1 step" : `All ${told(count)} steps`;
   }
 
   /** The rows of the values, as texts. */
@@ -20,9 +21,14 @@ const Paper = (() => {
   function fill() {
     const { program, query } = Talk.given, isThere = Talk.session && !Talk.refusal, picture = make("div");
     if (isThere) picture.innerHTML = Files.wholePicture();
-    find("paper").replaceChildren(make("h1", null, "ghcdb"), make("h2", null, "Program"), make("pre", null, program), make("h2", null, "Query"), make("pre", null, query),
-      make("h2", null, "Result"), make("p", null, find("result").textContent), make("h2", null, "Values"), make("div", { class: "paper-values" }, ...values()),
-      make("h2", null, isThere ? stepsTold() : "No run"), picture);
+    const parts = [
+      ["Program", make("pre", null, program)], ["Query", make("pre", null, query)],
+      ["Result", make("p", null, find("result").textContent)],
+      ["Values", make("div", { class: "paper-values" }, ...values())],
+      [isThere ? stepsTold() : "No run", picture],
+    ];
+    const all = parts.flatMap(([name, part]) => [make("h2", null, name), part]);
+    find("paper").replaceChildren(make("h1", null, "ghcdb"), ...all);
   }
 
   const empty = () => find("paper").replaceChildren();

@@ -1,4 +1,5 @@
-// Wheel and drag in the picture: they move and size it, and with Shift a drag selects an area, whose steps are lit and summed by predicate.
+// Wheel and drag in the picture: they move and size it, and with Shift a drag selects an area, whose steps are lit and
+// summed by predicate.
 import Answers from "./answers.mjs";
 import Canvas from "./canvas.mjs";
 import Deeds from "./deeds.mjs";
@@ -10,7 +11,9 @@ import Talk from "./talk.mjs";
 
 const Selecting = (() => {
   const { find, make } = Elements;
-  const LEAST_DRAG = 4, SIZED = 1.2, SAME = 30; // points from which on a press is a drag; by how much a turn of the wheel sizes; milliseconds
+  const LEAST_DRAG = 4; // points from which on a press is a drag
+  const SAME = 30; // milliseconds within which a click belongs to a drag
+  const SIZED = 1.2; // by how much a turn of the wheel sizes
   const OTHERS = ".mark, .goal, .taken, .bar, .coming, [data-types]"; // what a press chooses, and drags nothing
   let drag = null; // where one began, and what it does
   let draggedAt = -1; // when the last drag ended
@@ -22,20 +25,23 @@ const Selecting = (() => {
     if (count === 0) return;
     const first = numbers.at(isIn.indexOf(1)), last = numbers.at(isIn.lastIndexOf(1));
     Canvas.showFlags(isIn, count);
-    Answers.put(false, `${count.toLocaleString("en")} step${count === 1 ? "" : "s"}, ${count === 1 ? first : `from ${first} to ${last}`}: `, make("b", null, Summing.words(Talk.run, isIn)), ".");
+    const steps = count === 1 ? `1 step, ${first}` : `${count.toLocaleString("en")} steps, from ${first} to ${last}`;
+    Answers.put(false, `${steps}: `, make("b", null, Summing.words(Talk.run, isIn)), ".");
   }
 
   /** Selects the steps between two places of the record, both with them. */
   function selectRange(one, other) {
-    const isIn = new Uint8Array(Talk.run.graph.count), most = isIn.length - 1, place = (at) => Math.max(0, Math.min(most, Math.round(at)));
+    const isIn = new Uint8Array(Talk.run.graph.count), most = isIn.length - 1;
+    const place = (at) => Math.max(0, Math.min(most, Math.round(at)));
     isIn.fill(1, place(Math.min(one, other)), place(Math.max(one, other)) + 1);
     tell(isIn);
   }
 
   /** Selects the steps whose marks stand between two places of the picture. */
   function selectAcross(one, other) {
-    const { graph } = Talk.run, isIn = new Uint8Array(graph.count), [left, right] = [Math.min(one, other), Math.max(one, other)];
-    for (const [number, mark] of Canvas.view.marks) if (mark.x >= left && mark.x <= right) isIn[graph.indexOf(number)] = 1;
+    const { graph } = Talk.run, isIn = new Uint8Array(graph.count);
+    const [left, right] = [Math.min(one, other), Math.max(one, other)];
+    for (const [number, { x }] of Canvas.view.marks) if (x >= left && x <= right) isIn[graph.indexOf(number)] = 1;
     tell(isIn);
   }
 
@@ -50,12 +56,17 @@ const Selecting = (() => {
     const isSelecting = event.shiftKey && canSelect();
     if (!isSelecting && event.target.closest(OTHERS)) return;
     const area = find("canvas");
-    drag = { x: event.clientX, y: event.clientY, left: area.scrollLeft, top: area.scrollTop, from: Overview.from, across: acrossAt(event), isSelecting, hasMoved: false };
+    const where = { x: event.clientX, y: event.clientY, left: area.scrollLeft, top: area.scrollTop };
+    drag = { ...where, from: Overview.from, across: acrossAt(event), isSelecting, hasMoved: false };
   }
 
-  /** Moves the picture with the pointer; of a long run the window, where the picture has nothing more to show on that side. */
+  /**
+   * Moves the picture with the pointer; of a long run the window, where the picture has nothing more to show on that
+   * side.
+   */
   function pan(event) {
-    const area = find("canvas"), by = event.clientX - drag.x, wanted = drag.left - by, most = area.scrollWidth - area.clientWidth;
+    const area = find("canvas"), by = event.clientX - drag.x, wanted = drag.left - by;
+    const most = area.scrollWidth - area.clientWidth;
     area.scrollTo(Math.max(0, Math.min(wanted, most)), drag.top - (event.clientY - drag.y));
     const over = wanted < 0 ? wanted : Math.max(0, wanted - most);
     if (Overview.isOn()) Overview.goTo(drag.from + over / Canvas.view.sizes.dx);
@@ -65,7 +76,8 @@ const Selecting = (() => {
   function band(event) {
     const area = find("canvas"), now = acrossAt(event);
     const shown = area.querySelector(".band") || area.appendChild(make("div", { class: "band" }));
-    Object.assign(shown.style, { left: `${Math.min(drag.across, now)}px`, width: `${Math.abs(now - drag.across)}px`, height: `${area.scrollHeight}px` });
+    const left = Math.min(drag.across, now), wide = Math.abs(now - drag.across);
+    Object.assign(shown.style, { left: `${left}px`, width: `${wide}px`, height: `${area.scrollHeight}px` });
   }
 
   function onMove(event) {
@@ -90,7 +102,10 @@ const Selecting = (() => {
     if (isSelecting) selectAcross(across, acrossAt(event));
   }
 
-  /** With Ctrl the wheel sizes the picture; else it moves it, of a long run that is not higher than the window from left to right. */
+  /**
+   * With Ctrl the wheel sizes the picture; else it moves it, of a long run that is not higher than the window from left
+   * to right.
+   */
   function onWheel(event) {
     const area = find("canvas"), { deltaX, deltaY } = event, isHigher = area.scrollHeight > area.clientHeight + 1;
     if (event.ctrlKey || event.metaKey) {
@@ -106,14 +121,21 @@ const Selecting = (() => {
 
   /** With Shift the arrows select from the chosen step on; says whether they did. */
   function onKey(key) {
-    const by = { ArrowLeft: -1, ArrowRight: 1 }[key], { graph } = Talk.run, chosen = Shown.chosen?.step ?? Shown.visited;
+    const by = { ArrowLeft: -1, ArrowRight: 1 }[key], { graph } = Talk.run;
+    const chosen = Shown.chosen?.step ?? Shown.visited;
     if (by === undefined || !canSelect()) return false;
-    if (keys === null || Shown.slice !== keys.slice) keys = chosen ? { from: graph.indexOf(chosen), to: graph.indexOf(chosen) } : null;
+    const begin = () => (chosen ? { from: graph.indexOf(chosen), to: graph.indexOf(chosen) } : null);
+    if (keys === null || Shown.slice !== keys.slice) keys = begin();
     if (keys === null) return false;
     keys.to = Math.max(0, Math.min(graph.count - 1, keys.to + by));
     selectRange(keys.from, keys.to);
     keys.slice = Shown.slice;
     return true;
+  }
+
+  /** A drag is no click. */
+  function onClick(event) {
+    if (event.timeStamp - draggedAt < SAME) event.stopPropagation();
   }
 
   function listenToAll() {
@@ -122,7 +144,7 @@ const Selecting = (() => {
     area.addEventListener("pointermove", onMove);
     area.addEventListener("pointerup", onUp);
     area.addEventListener("pointercancel", () => { drag = null; });
-    area.addEventListener("click", (event) => { if (event.timeStamp - draggedAt < SAME) event.stopPropagation(); }, { capture: true }); // a drag is no click
+    area.addEventListener("click", onClick, { capture: true });
     area.addEventListener("wheel", onWheel, { passive: false });
   }
 

@@ -20,7 +20,10 @@ const StepWords = (() => {
   const SIGNS = { reduce: ({ clause }) => `clause ${clause}`, unify: () => "=", assign: () => ":=" };
 
   /** The same in few letters. */
-  const shortOf = (step) => `${step.number} ${step.goal || "-"} ${SIGNS[step.kind] === undefined ? step.act : SIGNS[step.kind](step)}`;
+  function shortOf(step) {
+    const sign = SIGNS[step.kind];
+    return `${step.number} ${step.goal || "-"} ${sign === undefined ? step.act : sign(step)}`;
+  }
 
   /** What another step did for it, behind that one's number. */
   const causeOf = (edge) => CAUSES[edge.kind](edge);

@@ -1,4 +1,5 @@
-// Steps of a run summed by what they did: how many reduced goals of each predicate, how many bound, computed, and came from outside. Pure.
+// Steps of a run summed by what they did: how many reduced goals of each predicate, how many bound, computed, and came
+// from outside. Pure.
 import Lanes from "../front/run/lanes.mjs";
 
 const Summing = (() => {
@@ -21,8 +22,10 @@ const Summing = (() => {
 
   /** The same in words, as `part 6, sort 4, = 5`; predicates of one name have their arities. */
   function words(run, isIn) {
-    const all = sums(run, isIn), names = all.map(([name]) => Lanes.shortName(name)), isAlone = (name) => names.filter((other) => other === name).length === 1;
-    const told = all.slice(0, MOST_NAMED).map(([name, count], at) => `${isAlone(names[at]) ? names[at] : name} ${count.toLocaleString("en")}`);
+    const all = sums(run, isIn), names = all.map(([name]) => Lanes.shortName(name));
+    const isAlone = (name) => names.filter((other) => other === name).length === 1;
+    const nameOf = ([name], at) => (isAlone(names[at]) ? names[at] : name);
+    const told = all.slice(0, MOST_NAMED).map((sum, at) => `${nameOf(sum, at)} ${sum[1].toLocaleString("en")}`);
     return `${told.join(", ")}${all.length > MOST_NAMED ? `, and ${all.length - MOST_NAMED} more` : ""}`;
   }
 

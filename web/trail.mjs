@@ -1,4 +1,5 @@
-// What was looked at: a trail of steps and goals on which one goes back, and notes on steps. Both are kept with the session, and stand in its link.
+// What was looked at: a trail of steps and goals on which one goes back, and notes on steps. Both are kept with the
+// session, and stand in its link.
 import Canvas from "./canvas.mjs";
 import Deeds from "./deeds.mjs";
 import Elements from "./elements.mjs";
@@ -12,16 +13,19 @@ const Trail = (() => {
   let trail = [], notes = new Map(), isGoingBack = false;
 
   const isSame = (one, other) => one !== undefined && one.step === other.step && one.goal === other.goal;
-  const isThere = ({ step, goal }) => (step !== undefined ? Talk.run.graph.byNumber.has(step) : Talk.run.goals.some(({ name }) => name === goal));
+  const isGoal = (goal) => Talk.run.goals.some(({ name }) => name === goal);
+  const isThere = ({ step, goal }) => (step !== undefined ? Talk.run.graph.byNumber.has(step) : isGoal(goal));
   const isNote = (one) => Array.isArray(one) && Number.isInteger(one[0]) && typeof one[1] === "string";
-  const isPlace = (one) => one !== null && typeof one === "object" && (Number.isInteger(one.step) || typeof one.goal === "string");
+  const isObject = (one) => one !== null && typeof one === "object";
+  const isPlace = (one) => isObject(one) && (Number.isInteger(one.step) || typeof one.goal === "string");
 
   /** What is chosen now: a step or a goal, or the step to which one has come among those that are lit. */
   const now = () => Shown.chosen ?? (Shown.visited === null ? null : { step: Shown.visited });
 
   /** Notes that something is looked at. */
   function look(place) {
-    if (place !== null && !isGoingBack && !isSame(trail[trail.length - 1], place)) trail = [...trail, place].slice(-MOST);
+    const isNew = place !== null && !isGoingBack && !isSame(trail[trail.length - 1], place);
+    if (isNew) trail = [...trail, place].slice(-MOST);
     show();
   }
 
@@ -41,12 +45,14 @@ const Trail = (() => {
 
   /** The note of a step, with what takes it away. */
   function noteRow([step, words]) {
-    const away = make("button", { class: "small", "data-note-away": step, "aria-label": `Take away the note on step ${step}`, title: "Takes the note away" }, "×");
+    const how = { class: "small", "data-note-away": step, title: "Takes the note away" };
+    const away = make("button", { ...how, "aria-label": `Take away the note on step ${step}` }, "×");
     return make("li", null, goTo(step, `step ${step}`), `: ${words} `, away);
   }
 
   function show() {
-    const before = trail.filter(isThere).slice(-MOST_SHOWN), place = now(), shown = [...notes].filter(([step]) => isThere({ step }));
+    const before = trail.filter(isThere).slice(-MOST_SHOWN), place = now();
+    const shown = [...notes].filter(([step]) => isThere({ step }));
     find("trail").hidden = before.length < 2;
     find("trail").replaceChildren("Looked at: ", ...before.flatMap((one, at) => [at > 0 ? " → " : "", linkTo(one)]));
     find("trail-back").disabled = before.length < (place === null ? 1 : 2);
@@ -73,13 +79,17 @@ const Trail = (() => {
   }
 
   /** What is kept of it with a session; null where there is nothing. */
-  const saved = () => (trail.length === 0 && notes.size === 0 ? null : { trail: trail.slice(-MOST_SHOWN), notes: [...notes] });
+  function saved() {
+    return trail.length === 0 && notes.size === 0 ? null : { trail: trail.slice(-MOST_SHOWN), notes: [...notes] };
+  }
 
   /** Takes up what was kept, once the session's lines are played. What is no trail and no note is left out. */
   function takeUp(kept) {
-    const list = (part) => (kept !== null && typeof kept === "object" && Array.isArray(kept[part]) ? kept[part] : []);
-    trail = list("trail").filter(isPlace).slice(-MOST).map(({ step, goal }) => (step !== undefined ? { step } : { goal }));
-    notes = new Map(list("notes").filter(isNote).slice(0, MOST_NOTES).map(([step, words]) => [step, words.slice(0, LONGEST)]));
+    const list = (part) => (isObject(kept) && Array.isArray(kept[part]) ? kept[part] : []);
+    const short = ([step, words]) => [step, words.slice(0, LONGEST)];
+    const placeOf = ({ step, goal }) => (step !== undefined ? { step } : { goal });
+    trail = list("trail").filter(isPlace).slice(-MOST).map(placeOf);
+    notes = new Map(list("notes").filter(isNote).slice(0, MOST_NOTES).map(short));
     show();
   }
 

@@ -1,4 +1,5 @@
-// Goes from one step to the next of some that are lit, and keeps the light: two buttons, the step, and what is said of it.
+// Goes from one step to the next of some that are lit, and keeps the light: two buttons, the step, and what is said of
+// it.
 import Canvas from "./canvas.mjs";
 import Elements from "./elements.mjs";
 import Names from "./names.mjs";
@@ -7,7 +8,10 @@ const Walking = (() => {
   const { make } = Elements;
 
   /** The step as a link that keeps the light, and what is said of it. */
-  const stepParts = (number, tell) => [make("button", { class: "link", type: "button", "data-visit": number, title: `goes to step ${number}` }, `step ${number}`), ...tell(number)];
+  function stepParts(number, tell) {
+    const how = { class: "link", type: "button", "data-visit": number, title: `goes to step ${number}` };
+    return [make("button", how, `step ${number}`), ...tell(number)];
+  }
 
   /** A row that goes along `count` steps; `numberAt` gives the number of each, and `tell` what stands behind it. */
   function along(count, numberAt, tell = () => []) {
@@ -29,7 +33,8 @@ const Walking = (() => {
       return made;
     };
     show();
-    return make("span", { class: "walking" }, ...(count > 1 ? [button("◀", "Previous step", -1), button("▶", "Next step", 1)] : []), place, words);
+    const ways = count > 1 ? [button("◀", "Previous step", -1), button("▶", "Next step", 1)] : [];
+    return make("span", { class: "walking" }, ...ways, place, words);
   }
 
   return { along };

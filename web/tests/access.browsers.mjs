@@ -75,6 +75,20 @@ inBrowsers("in each state all has a name, roles have what they need, headings an
   }
 });
 
+const BAD = [["<button></button>", "no name: "], ["<h2>a<button>b</button></h2>", "a heading that does not stand alone: "], ["<h4>a</h4>", "a heading's level is passed: "],
+  ["<div role='slider' aria-label='a' tabindex='0'>a</div>", "aria-valuenow lacks: "], ["<div id='told'>a</div>", "an id that stands twice: "], ["<div aria-hidden='true'><button>a</button></div>", "hidden from readers"],
+  ["<ul><b>a</b></ul>", "a list with something else: "], ["<span tabindex='3' title='a'>a</span>", "a tabindex above 0"]];
+
+inBrowsers("what this test looks for it finds", async (page) => {
+  await open(page, QUICKSORT, WIDE);
+  for (const [html, told] of BAD) {
+    await page.value(`(document.querySelector("main").insertAdjacentHTML("beforeend", ${JSON.stringify(`<div id="bad">${html}</div>`)}), true)`);
+    const wrong = await page.value(WRONG);
+    assert.ok(wrong.some((one) => one.startsWith(told)), `${html}: ${wrong}`);
+    await page.value('(document.getElementById("bad").remove(), true)');
+  }
+});
+
 inBrowsers("the log says nothing by itself; the result, the answer and the step are said in one piece", async (page) => {
   await open(page, `${QUICKSORT}leap`, WIDE);
   const live = (id, name) => page.value(`document.getElementById("${id}").getAttribute("${name}")`);
