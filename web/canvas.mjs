@@ -20,6 +20,12 @@ const Canvas = (() => {
 
   const marks = () => find("canvas").querySelectorAll(".mark");
 
+  /** The height into which a picture is to fit; undefined where it is as high as it is. Two runs share what there is. */
+  function highOf(area) {
+    if (Beside.isOn()) return Math.max(LEAST_OF_TWO, (area.clientHeight + find("beside").offsetHeight) / 2 - LEGEND);
+    return Shown.isFit ? Math.max(120, area.clientHeight - LEGEND) : undefined;
+  }
+
   /** Draws the run anew, as wide as the window and the zoom say. */
   function draw() {
     if (Talk.refusal || !Talk.session) {
@@ -30,7 +36,7 @@ const Canvas = (() => {
     if (!Talk.run.isWhole) return; // when all of a change is read, it is drawn
     const area = find("canvas"), isScrolled = area.scrollLeft > 0 || area.scrollTop > 0;
     const room = Math.max(320, area.clientWidth - 8) * (Overview.isOn() || Shown.isFit ? 1 : Shown.zoom);
-    const high = Beside.isOn() ? Math.max(LEAST_OF_TWO, (area.clientHeight + find("beside").offsetHeight) / 2 - LEGEND) : Shown.isFit ? Math.max(120, area.clientHeight - LEGEND) : undefined;
+    const high = highOf(area);
     Overview.draw();
     const drawn = Picture.draw(Overview.shownRun(), { by: Shown.by, theme: Shown.theme, room, high, leastColumns: Shown.by === "depth" ? Beside.columns() : 0, legend: true, titles: false, shown: Names.shown });
     area.innerHTML = drawn.svg;

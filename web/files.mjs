@@ -47,7 +47,8 @@ const Files = (() => {
 
   /** The whole run, as far as a picture can show it, for paper. */
   function wholePicture() {
-    const { graph } = Talk.run, last = graph.count - 1, run = last < 0 ? Overview.shownRun() : partOf(graph.numbers.at(0), graph.numbers.at(last));
+    const { graph } = Talk.run, last = graph.count - 1;
+    const run = last < 0 ? Overview.shownRun() : partOf(graph.numbers.at(0), graph.numbers.at(last));
     return Picture.draw(run, { by: Shown.by, theme: "light", room: ROOM_ON_PAPER, legend: true, shown: Names.shown, scope: "paper-run" }).svg;
   }
 

@@ -32,7 +32,8 @@ const Looking = (() => {
   /** Looks for what stands in the field, and goes to the first hit. */
   async function seek() {
     sought += 1;
-    const own = sought, hits = [], { version } = Talk.run, words = find("search").value.trim(), text = Names.now().variableOf(words) ?? words;
+    const own = sought, hits = [], { version } = Talk.run, words = find("search").value.trim();
+    const text = Names.now().variableOf(words) ?? words;
     at = -1;
     Overview.hits = hits;
     showHits(false);

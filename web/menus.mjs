@@ -113,7 +113,10 @@ const Menus = (() => {
   }
 
   /** Lights all steps that went by the clause of one. */
-  const clauseButtonOf = ({ clause }) => (clause ? make("button", { "data-clause": clause, title: "As a click on the clause in the program does" }, `All steps by clause ${clause}`) : null);
+  function clauseButtonOf({ clause }) {
+    const title = "As a click on the clause in the program does";
+    return clause ? make("button", { "data-clause": clause, title }, `All steps by clause ${clause}`) : null;
+  }
 
   /** The menu of a kept step. */
   function ofStep(number) {
@@ -217,7 +220,8 @@ const Menus = (() => {
     const svg = find("canvas").querySelector("svg"), bottom = svg ? svg.getBoundingClientRect().top + Canvas.view.bottom : box.bottom;
     const right = box.right + OFFSET, left = box.left - width - OFFSET, below = box.bottom + OFFSET, above = box.top - height - OFFSET;
     const all = [{ x: right, y: below }, { x: right, y: above }, { x: left, y: below }, { x: left, y: above }, { x: box.left, y: bottom + 6 }, { x: right, y: bottom + 6 }];
-    const area = find("view").getBoundingClientRect(), inside = (least, value, most) => Math.max(least, Math.min(value, most));
+    const area = find("view").getBoundingClientRect();
+    const inside = (least, value, most) => Math.max(least, Math.min(value, most));
     return all.map((place) => ({ x: inside(area.left + 8, place.x, area.right - width - 8), y: inside(area.top + 8, place.y, area.bottom - height - 8) }));
   }
 

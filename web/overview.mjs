@@ -17,7 +17,8 @@ const Overview = (() => {
   const MOST_AT_ONCE = 5000, DOTS = 1024, SLICE = 8; // steps whose dots are drawn at once; dots between two looks at the clock; milliseconds
   const LEVELS = { leaf: 1, reduction: 2, lit: 3, hit: 4, chosen: 5 };
   // `size` is null until somebody sets it; `until` is how many steps of the record are shown, null for all of them;
-  // `earlier` is the run as it was after these, null where the present one stands for it; `only` are goals whose lanes alone
+  // `earlier` is the run as it was after these, null where the present one stands for it; `only` are goals whose lanes
+  // alone
   // are shown, null for all.
   const overview = { from: 0, size: null, until: null, earlier: null, only: null, hits: [], folded: new Set(), wasCount: 0 };
 
@@ -77,7 +78,8 @@ const Overview = (() => {
   /** What the picture shows: the whole run, or the steps in the window, with the goals that are there where it reaches the end. */
   function shownRun() {
     const whole = run(), { graph } = whole;
-    if (!isOn() && overview.until === null && whole.goals.length <= MOST_GOALS && overview.folded.size === 0 && overview.only === null) return whole;
+    const isAll = overview.until === null && overview.folded.size === 0 && overview.only === null;
+    if (!isOn() && isAll && whole.goals.length <= MOST_GOALS) return whole;
     setFrom(overview.from);
     const from = isOn() ? overview.from : 0, to = isOn() ? Math.min(count(), from + size()) : count();
     const foldOf = Lanes.foldsOf(whole.lanes, overview.folded), laneOf = (goal) => whole.lanes.ofGoal(graph, goal.name);
@@ -90,15 +92,26 @@ const Overview = (() => {
     return overview.only === null ? shown : lanesAlone(shown, from, to);
   }
 
+  /** The graph of those steps of a part of the run that are in some lanes. */
+  function graphOfLanes(only, from, to) {
+    const { graph, lanes } = run(), part = new Graph.RunGraph();
+    for (let index = from; index < to; index++) {
+      if (only.has(lanes.ofStep[index])) part.push(graph.stepAt(index), graph.waysAt(index));
+    }
+    return part;
+  }
+
   /** Of what is to be shown the lanes of some goals alone, with their steps. */
   function lanesAlone(shown, from, to) {
-    const { graph, lanes } = run(), only = new Set([...overview.only].map((goal) => lanes.ofGoal(graph, goal))), part = new Graph.RunGraph();
-    for (let index = from; index < to; index++) if (only.has(lanes.ofStep[index])) part.push(graph.stepAt(index), graph.waysAt(index));
-    const isHere = (step) => step !== null && part.indexOf(step.number) >= 0, names = new Set([...only].map((lane) => lane && lane.name));
-    const kept = shown.placed.lanes.filter((lane) => names.has(lane.name)).map((lane) => ({ ...lane, parent: isHere(lane.parent) ? lane.parent : null }));
-    const byName = new Map(kept.map((lane) => [lane.name, lane])), laneOf = new Map([...shown.placed.laneOf].map(([key, lane]) => [key, byName.get(lane.name)]));
-    const goals = shown.goals.filter((goal) => only.has(lanes.ofGoal(graph, goal.name)));
-    return { ...shown, graph: part, goals, shelf: [], incoming: [], placed: { ...shown.placed, lanes: kept, laneOf } };
+    const { graph, lanes } = run(), laneOfGoal = (goal) => lanes.ofGoal(graph, goal);
+    const only = new Set([...overview.only].map(laneOfGoal).filter(Boolean));
+    const names = new Set([...only].map((lane) => lane.name)), part = graphOfLanes(only, from, to);
+    const parentOf = ({ parent }) => (parent !== null && part.indexOf(parent.number) >= 0 ? parent : null);
+    const kept = shown.placed.lanes.filter((lane) => names.has(lane.name)).map((lane) => ({ ...lane, parent: parentOf(lane) }));
+    const byName = new Map(kept.map((lane) => [lane.name, lane]));
+    const laneOf = new Map([...shown.placed.laneOf].map(([key, lane]) => [key, byName.get(lane.name)]));
+    const goals = shown.goals.filter((goal) => only.has(laneOfGoal(goal.name))), placed = { ...shown.placed, lanes: kept, laneOf };
+    return { ...shown, graph: part, goals, shelf: [], incoming: [], placed };
   }
 
   /** After lines: where steps came, or the window stands beyond the end, it goes to the end. */

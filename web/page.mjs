@@ -162,8 +162,10 @@ const Page = (() => {
     }
     Canvas.showFlags(isIn, places.length);
     Program.markClause(clause);
-    const numberAt = (at) => graph.numbers.at(places[at]), told = places.length === 1 ? "1 step went by it" : `${places.length.toLocaleString("en")} steps went by it`;
-    Answers.put(false, `Clause ${number} of ${clause.predicate}: `, ...(places.length === 0 ? ["no step went by it."] : [`${told} (lit). `, Walking.along(places.length, numberAt)]));
+    const numberAt = (at) => graph.numbers.at(places[at]);
+    const told = places.length === 1 ? "1 step went by it" : `${places.length.toLocaleString("en")} steps went by it`;
+    const parts = places.length === 0 ? ["no step went by it."] : [`${told} (lit). `, Walking.along(places.length, numberAt)];
+    Answers.put(false, `Clause ${number} of ${clause.predicate}: `, ...parts);
   }
 
   function leaveWelcome() {
@@ -423,11 +425,18 @@ const Page = (() => {
     Talk.send(line);
   }
 
-  /** The console's drawer opens where somebody writes a line, or comes into it by a key; it stays as it is while one is within. */
+  /**
+   * The console's drawer opens where somebody writes a line, or comes into it by a key; it stays as it is while one is
+   * within.
+   */
   function listenToDrawer() {
     const talk = find("talk");
-    talk.addEventListener("focusin", ({ target }) => { if (target === find("line") || target.matches(":focus-visible")) talk.classList.add("open"); });
-    talk.addEventListener("focusout", ({ relatedTarget }) => { if (!talk.contains(relatedTarget)) talk.classList.remove("open"); });
+    talk.addEventListener("focusin", ({ target }) => {
+      if (target === find("line") || target.matches(":focus-visible")) talk.classList.add("open");
+    });
+    talk.addEventListener("focusout", ({ relatedTarget }) => {
+      if (!talk.contains(relatedTarget)) talk.classList.remove("open");
+    });
   }
 
   function listenToAll() {

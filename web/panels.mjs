@@ -63,8 +63,12 @@ const Panels = (() => {
   function goalRow(goal) {
     const waits = goal.waitsFor.length > 0 ? make("span", { class: "dim" }, ` waits for ${goal.waitsFor.join(", ")}`) : null;
     const failed = goal.refusal ? make("span", { class: "dim" }, ` ${goal.refusal}`) : null;
-    const name = make("button", { class: "goal-name", "data-goal": goal.name, title: "What can be done with it" }, make("span", { class: `status ${goal.status}` }, goal.status), make("span", { class: "dim" }, goal.name), " ");
-    const text = make("div", { class: "row", "data-goal": goal.name }, name, make("span", { title: goal.text.length > LONGEST_GOAL ? Terms.cut(goal.text, 2000) : null }, Terms.cut(goal.text, LONGEST_GOAL)), waits, failed);
+    const how = { class: "goal-name", "data-goal": goal.name, title: "What can be done with it" };
+    const status = make("span", { class: `status ${goal.status}` }, goal.status);
+    const name = make("button", how, status, make("span", { class: "dim" }, goal.name), " ");
+    const title = goal.text.length > LONGEST_GOAL ? Terms.cut(goal.text, 2000) : null;
+    const written = make("span", { title }, Terms.cut(goal.text, LONGEST_GOAL));
+    const text = make("div", { class: "row", "data-goal": goal.name }, name, written, waits, failed);
     Names.dress(text, { isInList: true });
     const step = lineButton("Step", `step ${goal.name}`, { class: "small" });
     return make("div", { class: "line-row" }, text, goal.status === "ready" && Overview.until === null ? step : null);
@@ -86,7 +90,8 @@ const Panels = (() => {
 
   const showGoals = () => {
     const { goals, goalsRefused } = Overview.run(), isNow = Overview.until === null;
-    const keyOf = ({ name, status, waitsFor, refusal, text }) => Names.shown([isNow, name, status, waitsFor, refusal, Terms.cut(text, LONGEST_GOAL)].join());
+    const partsOf = ({ name, status, waitsFor, refusal }) => [isNow, name, status, waitsFor, refusal];
+    const keyOf = (goal) => Names.shown([...partsOf(goal), Terms.cut(goal.text, LONGEST_GOAL)].join());
     const rows = goals.slice(0, MOST_ROWS).map((goal) => ({ key: keyOf(goal), does: () => goalRow(goal) }));
     const empty = Talk.refusal ? "none" : goalsRefused ? "They are too long to be told." : "none: all is done";
     fill("goals", rows, empty, goals.length, timeRows());
@@ -105,10 +110,17 @@ const Panels = (() => {
     find("redo-all").hidden = !isNow || shelf.length < 2;
   }
 
-  /** On how many steps one rests, and how many rest on it, by predicate: where they are more than one reads one by one. */
+  /**
+   * On how many steps one rests, and how many rest on it, by predicate: where they are more than one reads one by one.
+   */
   function tellReached(run, step) {
     const { causes, effects } = Overview.reachOf(step.number), own = run.graph.indexOf(step.number);
-    const told = ({ isIn, count }, words) => (count - 1 < LEAST_SUMMED ? "" : `\n${(count - 1).toLocaleString("en")} ${words}: ${Summing.words(run, isIn.map((flag, at) => (at === own ? 0 : flag)))}`);
+    const told = ({ isIn, count }, words) => {
+      if (count - 1 < LEAST_SUMMED) return "";
+      const others = isIn.slice();
+      others[own] = 0;
+      return `\n${(count - 1).toLocaleString("en")} ${words}: ${Summing.words(run, others)}`;
+    };
     return told(causes, "causes") + told(effects, "consequences");
   }
 
@@ -148,11 +160,21 @@ const Panels = (() => {
   /** The circle in which a run is stuck, as sentences of the names of its processes, and their lanes alone. */
   function tellCircle(circle) {
     const told = Outcome.circleOf(Talk.run);
-    if (told === null) return [`Nothing is ready: ${Terms.cut([...circle, circle[0]].join(" waits for "), 400)}, in a circle.`];
-    const link = (goal) => make("button", { class: "link", type: "button", "data-go-goal": goal, title: `goal ${goal}` }, told.names.get(goal));
-    const words = told.sentences.flatMap(({ who, holds, waitsFor, variable }, at) => [at > 0 ? "; " : "", link(who), ...(holds === null ? [] : [" holds ", link(holds), " and"]), " waits for ", link(waitsFor), ...(holds === null ? [` to bind ${variable}`] : [])]);
-    const [id, label] = Overview.only === null ? ["lanes-alone", "Show these lanes alone"] : ["lanes-all", "Show all lanes"];
-    return ["A deadlock: ", ...words, ". ", make("button", { class: "small", id }, label)];
+    if (told === null) {
+      return [`Nothing is ready: ${Terms.cut([...circle, circle[0]].join(" waits for "), 400)}, in a circle.`];
+    }
+    const words = told.sentences.flatMap((one, at) => [at > 0 ? "; " : "", ...sentenceOf(told, one)]);
+    const isAlone = Overview.only !== null, id = isAlone ? "lanes-all" : "lanes-alone";
+    const lanes = make("button", { class: "small", id }, isAlone ? "Show all lanes" : "Show these lanes alone");
+    return ["A deadlock: ", ...words, ". ", lanes];
+  }
+
+  /** What a process of a circle holds and waits for, with links to the goals. */
+  function sentenceOf({ names }, { who, holds, waitsFor, variable }) {
+    const how = (goal) => ({ class: "link", type: "button", "data-go-goal": goal, title: `goal ${goal}` });
+    const link = (goal) => make("button", how(goal), names.get(goal));
+    if (holds === null) return [link(who), " waits for ", link(waitsFor), ` to bind ${variable}`];
+    return [link(who), " holds ", link(holds), " and waits for ", link(waitsFor)];
   }
 
   /** Shows the lanes of the goals alone that wait for each other in a circle. */
@@ -248,7 +270,8 @@ const Panels = (() => {
 
   /** Makes a panel anew; what had the focus in it has it afterwards, or what stands in its place. */
   function keepFocus(name, does) {
-    const panel = find(name), buttons = () => [...panel.querySelectorAll("button:not(.variable)")], before = buttons(), at = before.indexOf(document.activeElement), was = at < 0 ? "" : nameOf(before[at]);
+    const panel = find(name), buttons = () => [...panel.querySelectorAll("button:not(.variable)")], before = buttons();
+    const at = before.indexOf(document.activeElement), was = at < 0 ? "" : nameOf(before[at]);
     does();
     if (at < 0) return;
     const after = buttons(), same = after.find((button) => nameOf(button) === was);

@@ -1,4 +1,5 @@
-// The pane of the program: line numbers and colours, the clauses of the steps that are lit, the place of an error with its cause, lines that wrap
+// The pane of the program: line numbers and colours, the clauses of the steps that are lit, the place of an error with
+// its cause, lines that wrap
 // or not, and its width. A click on a clause lights its steps.
 import Canvas from "./canvas.mjs";
 import Colouring from "./colouring.mjs";
@@ -32,9 +33,12 @@ const Program = (() => {
 
   /** Shows the lines behind the field; those that stand there stay. */
   function showLines() {
-    const all = text().split("\n"), isLong = all.length > MOST_LINES || text().length > MOST_LETTERS, lines = isLong ? [] : all;
-    const area = find("program-lines"), isColoured = !isLong && lines.length <= MOST_COLOURED, { from, end } = changedIn(lines);
-    const fresh = lines.slice(from, lines.length - end).map((line) => lineBehind(line, isColoured ? Colouring.partsOf(line) : [{ kind: "", text: line }]));
+    const all = text().split("\n"), isLong = all.length > MOST_LINES || text().length > MOST_LETTERS;
+    const lines = isLong ? [] : all;
+    const area = find("program-lines"), isColoured = !isLong && lines.length <= MOST_COLOURED;
+    const { from, end } = changedIn(lines);
+    const partsOf = (line) => (isColoured ? Colouring.partsOf(line) : [{ kind: "", text: line }]);
+    const fresh = lines.slice(from, lines.length - end).map((line) => lineBehind(line, partsOf(line)));
     for (const gone of [...area.children].slice(from, shown.length - end)) gone.remove();
     const next = area.children[from] || null;
     for (const line of fresh) area.insertBefore(line, next);
@@ -74,7 +78,8 @@ const Program = (() => {
   /** Of a program that is not seen whole, the comment above its first clause is scrolled out of sight. */
   function passComment() {
     const field = find("program"), first = find("program-lines").children[Colouring.firstClauseLine(shown)];
-    if (first !== undefined && field.scrollHeight > field.clientHeight + 2) field.scrollTop = Math.max(0, first.offsetTop - 9);
+    const isCut = field.scrollHeight > field.clientHeight + 2;
+    if (first !== undefined && isCut) field.scrollTop = Math.max(0, first.offsetTop - 9);
     follow();
   }
 
@@ -91,7 +96,9 @@ const Program = (() => {
   function paint(name, clauses) {
     const lines = find("program-lines").children;
     for (const line of find("program-lines").querySelectorAll(`.${name}`)) line.classList.remove(name);
-    for (const { from, to } of clauses) for (let at = from; at <= to && at <= lines.length; at++) lines[at - 1].classList.add(name);
+    for (const { from, to } of clauses) {
+      for (const line of [...lines].slice(from - 1, to)) line.classList.add(name);
+    }
   }
 
   /** Brings a line into sight. */
@@ -113,7 +120,8 @@ const Program = (() => {
 
   /** Marks the clauses of all steps that are lit, by their numbers. */
   function markLit(numbers) {
-    const clauses = text() === Talk.given.program ? numbers.map((number) => Talk.run.clauses[number - 1]).filter(Boolean) : [], key = clauses.map(({ from }) => from).join();
+    const clauses = text() === Talk.given.program ? numbers.map((number) => Talk.run.clauses[number - 1]).filter(Boolean) : [];
+    const key = clauses.map(({ from }) => from).join();
     if (key === lit) return;
     lit = key;
     paint("lit", clauses);
@@ -123,12 +131,17 @@ const Program = (() => {
   function underline(number, letter, length, words) {
     const line = find("program-lines").children[number - 1];
     if (line === undefined || !find("program-pane").classList.contains("coloured")) return;
-    const parts = Colouring.partsWithWrong(shown[number - 1], letter - 1, length).map(partOf), isLow = number > 3 && number > shown.length - 3;
+    const parts = Colouring.partsWithWrong(shown[number - 1], letter - 1, length).map(partOf);
+    const isLow = number > 3 && number > shown.length - 3;
     const cause = words === "" ? null : make("div", { class: `cause-here${isLow ? " above" : ""}` }, words);
-    line.replaceChildren(...[...(shown[number - 1] === "" ? ["\u200b"] : parts), cause].filter((part) => part !== null));
+    const all = [...(shown[number - 1] === "" ? ["\u200b"] : parts), cause];
+    line.replaceChildren(...all.filter((part) => part !== null));
   }
 
-  /** Selects the place at which a text was refused, by line and letter, so many letters, and marks its line, with the cause in `words`. */
+  /**
+   * Selects the place at which a text was refused, by line and letter, so many letters, and marks its line, with the
+   * cause in `words`.
+   */
   function showPlace(name, line, letter, length, words = "") {
     const field = find(name), lines = field.value.split("\n");
     const start = lines.slice(0, line - 1).reduce((sum, other) => sum + other.length + 1, 0) + letter - 1;
@@ -150,7 +163,8 @@ const Program = (() => {
 
   /** A click on a clause lights its steps, where the run is of this text. */
   function onClick() {
-    const { value, selectionStart, selectionEnd } = find("program"), line = value.slice(0, selectionStart).split("\n").length;
+    const { value, selectionStart, selectionEnd } = find("program");
+    const line = value.slice(0, selectionStart).split("\n").length;
     if (selectionStart !== selectionEnd || value !== Talk.given.program || Talk.refusal) return;
     const at = Talk.run.clauses.findIndex(({ from, to }) => from <= line && line <= to);
     if (at >= 0) Deeds.lightClause(at + 1);

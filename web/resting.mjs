@@ -18,7 +18,9 @@ const Resting = (() => {
   /** By which clause a step went, and by which others it could go: each with this run beside. */
   function choiceParts(others, number) {
     const [, clauses] = others.find(([step]) => step === number), { clause } = Talk.run.graph.byNumber.get(number);
-    const tries = clauses.flatMap((other, at) => [at > 0 ? ", " : "", make("button", { class: "link", type: "button", "data-try": `${number} ${other}`, title: `keeps this run beside; roll ${number}, then the goal by clause ${other}` }, `try clause ${other}`)]);
+    const titleOf = (other) => `keeps this run beside; roll ${number}, then the goal by clause ${other}`;
+    const how = (other) => ({ class: "link", type: "button", "data-try": `${number} ${other}`, title: titleOf(other) });
+    const tries = clauses.flatMap((other, at) => [at > 0 ? ", " : "", make("button", how(other), `try clause ${other}`)]);
     return [` went by clause ${clause}; `, ...tries, "."];
   }
 
@@ -26,7 +28,9 @@ const Resting = (() => {
   function tell(name, slice) {
     const { head, numbers, others, last } = slice, rests = Asking.clausesTold(slice, Talk.run.clauses.length);
     Canvas.showSlice(numbers, others.map(([step]) => step));
-    const decided = others.length === 0 ? [] : [`${plural(others.length, "step")} decided, for another clause was open (ringed): `, Walking.along(others.length, (at) => others[at][0], (number) => choiceParts(others, number)), " "];
+    const words = `${plural(others.length, "step")} decided, for another clause was open (ringed): `;
+    const walk = () => Walking.along(others.length, (at) => others[at][0], (number) => choiceParts(others, number));
+    const decided = others.length === 0 ? [] : [words, walk(), " "];
     Answers.put(false, make("code", null, `explain ${name}`), " ", ...head.slice(0, MOST_LINKS).flatMap((line, index) => [index > 0 ? ", " : "", ...Elements.linkedLine(Terms.cut(line, 160))]), `, ${last}. `, rests === undefined ? "" : `It ${rests}. `,
       ...decided, ...(numbers.length > 0 ? [Elements.lineButton("Find the wrong clause", `blame ${name}`, { class: "small" }), GoalRows.of({ numbers, isIn: Shown.slice.isIn }, withGoalText)] : []));
   }

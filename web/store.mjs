@@ -13,7 +13,8 @@ import Talk from "./talk.mjs";
 
 const Store = (() => {
   const { find, make, lineButton, goTo, fillRows } = Elements;
-  const MOST_ROWS = 100, MOST_LOOKED_AT = 2000, MOST_PARTS = 40, MOST_DEEP = 6, LONGEST_ATOM = 60, LONGEST_BINDING = 160;
+  const MOST_ROWS = 100, MOST_LOOKED_AT = 2000, MOST_PARTS = 40, MOST_DEEP = 6, LONGEST_ATOM = 60;
+  const LONGEST_BINDING = 160;
   const { isVariable, argumentsOf } = Explain;
 
   /** A part of a value as a button; `path` leads to it from the row's variable. */
@@ -49,7 +50,10 @@ const Store = (() => {
     return [part(root, path, `${end.slice(0, end.indexOf("("))}(`), ...inner, ")"];
   }
 
-  const nameButton = (variable) => make("button", { class: "name", "data-variable": variable, title: "show, who, what it rests on" }, make("b", null, variable));
+  function nameButton(variable) {
+    const how = { class: "name", "data-variable": variable, title: "show, who, what it rests on" };
+    return make("button", how, make("b", null, variable));
+  }
 
   /** A row of the panel, with names in the place of variables. */
   const valueRow = (...parts) => Names.dress(make("div", { class: "row value" }, ...parts), { isInList: true });
@@ -57,11 +61,15 @@ const Store = (() => {
   /** What a variable of the query is bound to, as far as it is known. */
   function row(name, variable, room) {
     const isBound = endOf(variable) !== variable;
-    return valueRow(nameButton(name), ...(isBound ? [" = ", ...termParts(variable, [], variable, room)] : [make("span", { class: "dim" }, " is not bound")]));
+    if (!isBound) return valueRow(nameButton(name), make("span", { class: "dim" }, " is not bound"));
+    return valueRow(nameButton(name), " = ", ...termParts(variable, [], variable, room));
   }
 
   /** A variable of the query and its value, for the result of a run. */
-  const resultOf = (name, variable) => [make("code", { class: "value" }, nameButton(name), " = ", ...termParts(variable, [], variable, { parts: MOST_PARTS }))];
+  function resultOf(name, variable) {
+    const parts = termParts(variable, [], variable, { parts: MOST_PARTS });
+    return [make("code", { class: "value" }, nameButton(name), " = ", ...parts)];
+  }
 
   /** The value of a variable in a graph as a text, as far as it is known and a line holds it. */
   function textOf(graph, variable) {
@@ -101,7 +109,8 @@ const Store = (() => {
   /** A binding as it was made, with no binding followed. */
   function bindingRow(variable, by) {
     const term = Overview.run().graph.termOf(variable);
-    return valueRow(nameButton(variable), " = ", part(variable, [], Terms.cut(term, LONGEST_BINDING)), make("span", { class: "dim" }, "  by ", goTo(by)));
+    const value = part(variable, [], Terms.cut(term, LONGEST_BINDING));
+    return valueRow(nameButton(variable), " = ", value, make("span", { class: "dim" }, "  by ", goTo(by)));
   }
 
   /** Where a part of a value stands, for a question about it: the variable nearest above it, where that is not the value's own. */
