@@ -6,6 +6,7 @@ import Canvas from "./canvas.mjs";
 import Deeds from "./deeds.mjs";
 import Elements from "./elements.mjs";
 import Holes from "./holes.mjs";
+import Names from "./names.mjs";
 import Shown from "./shown.mjs";
 import Talk from "./talk.mjs";
 
@@ -20,7 +21,7 @@ const Answers = (() => {
 
   function put(isBad, ...parts) {
     const area = find("answer"), close = make("button", { class: "small", id: "close-answer", title: "Closes this line", "aria-label": "Close the answer" }, "×");
-    area.replaceChildren(make("span", { class: "answer-words" }, ...parts), close);
+    area.replaceChildren(Names.dress(make("span", { class: "answer-words" }, ...parts)), close);
     area.classList.toggle("refused", isBad);
     area.hidden = false;
   }
@@ -79,7 +80,7 @@ const Answers = (() => {
   /** Of another line: the limit that it met. */
   function partsOfLimit({ line, reply }) {
     const words = Replies.limitIn(reply[0], line);
-    return words === undefined ? [] : [`${words}. ${reply[0].endsWith("print") ? "The store shows how each value begins." : ""}`];
+    return words === undefined ? [] : [`${words}. ${reply[0].endsWith("print") ? "Values shows how each one begins." : ""}`];
   }
 
   /** A line that was not taken, or was stopped. */

@@ -1,12 +1,13 @@
 // Two runs side by side: one that was kept, above the one that goes on, both by causal depth; the steps that the other has not are ringed.
-import Replies from "../front/protocol/replies.mjs";
 import Compare from "../front/run/compare.mjs";
 import Graph from "../front/run/graph.mjs";
 import Terms from "../front/run/terms.mjs";
 import Deeds from "./deeds.mjs";
 import Elements from "./elements.mjs";
+import Naming from "./naming.mjs";
 import Picture from "./picture.mjs";
 import Shown from "./shown.mjs";
+import StepWords from "./step_words.mjs";
 import Talk from "./talk.mjs";
 
 const Beside = (() => {
@@ -18,7 +19,8 @@ const Beside = (() => {
   /** The run as it is now, which goes on no more. */
   function frozen() {
     const { graph, goals, shelf, texts, clauses, values } = Talk.run;
-    return { graph: Graph.partOf(graph, 0, graph.count), goals, shelf, texts: new Map(texts), clauses, values, given: Talk.given, lines: Talk.typedLines() };
+    const own = Graph.partOf(graph, 0, graph.count), naming = new Naming(Talk.given, own);
+    return { graph: own, goals, shelf, texts: new Map(texts), clauses, values, given: Talk.given, lines: Talk.typedLines(), shown: (text) => naming.shown(text) };
   }
 
   /** Keeps the run beside; says whether it did. */
@@ -76,8 +78,10 @@ const Beside = (() => {
       area.textContent = "";
       return;
     }
-    const drawn = Picture.draw(beside.kept, { ...options, by: "depth", scope: "kept", leastColumns: columns(), legend: false, high: undefined });
-    area.innerHTML = drawn.svg.replace(/ data-step="/g, ' data-kept="').replace(/ data-(goal|taken|goto|unfold|from-goal|to-goal)="/g, ' data-kept-$1="');
+    const drawn = Picture.draw(beside.kept, { ...options, by: "depth", scope: "kept", leastColumns: columns(), legend: false, shown: beside.kept.shown });
+    const picture = drawn.svg.replace(/ data-step="/g, ' data-kept="').replace(/ data-(goal|taken|goto|unfold|from-goal|to-goal)="/g, ' data-kept-$1="');
+    area.replaceChildren(Deeds.resultOf(beside.kept));
+    area.insertAdjacentHTML("beforeend", picture);
     if (!isComparable()) return;
     const { pairs } = told(), others = new Set(pairs.values());
     ringAlone(area, "kept", (number) => !pairs.has(number));
@@ -92,9 +96,9 @@ const Beside = (() => {
     const drops = make("button", { class: "small", id: "drop-run" }, "Drop it");
     if (!isComparable()) return [`Above is the run that you kept. This one has more than ${MOST_STEPS} steps: too many to be compared. `, drops];
     const { pairs, alone, otherAlone, first, instead } = told(), step = first === null ? null : beside.kept.graph.byNumber.get(first);
-    const words = first === null ? "" : ` The first that differs: step ${first} above (${Replies.wordsOf(step)})`;
+    const words = first === null ? "" : ` The first that differs: step ${first} above (${StepWords.of(step)})`;
     return [`Above is the run that you kept. ${plural(pairs.size, "step")} in both, ${alone} in that one alone, ${otherAlone} in this one (ringed).${words}`,
-      ...(instead === null ? [] : [", here step ", goTo(instead), ` (${Replies.wordsOf(Talk.run.graph.byNumber.get(instead))})`]), first === null ? "" : ".", " ",
+      ...(instead === null ? [] : [", here step ", goTo(instead), ` (${StepWords.of(Talk.run.graph.byNumber.get(instead))})`]), first === null ? "" : ".", " ",
       make("button", { class: "small", id: "swap-runs" }, "Swap"), " ", drops];
   }
 
@@ -104,7 +108,7 @@ const Beside = (() => {
     if (pairs.has(number)) {
       Deeds.choose({ step: pairs.get(number) });
       Deeds.scrollTo(Shown.chosen);
-    } else Deeds.tell(false, `Only in the run that was kept: ${Terms.cut(Picture.tellStep(beside.kept, beside.kept.graph.byNumber.get(number)).split("\n").join(", "), 300)}`);
+    } else Deeds.tell(false, `Only in the run that was kept: ${Terms.cut(beside.kept.shown(Picture.tellStep(beside.kept, beside.kept.graph.byNumber.get(number))).split("\n").join(", "), 300)}`);
   }
 
   return Object.assign(beside, {

@@ -61,6 +61,7 @@ const Blaming = (() => {
     const parts = asked !== null ? askedParts() : left !== null ? aloneParts() : [];
     area.hidden = parts.length === 0;
     area.replaceChildren(...parts);
+    Names.dress(area);
     if (had === null || area.hidden) return;
     const same = had === "" ? null : find(had);
     (same && !same.disabled ? same : area.querySelector("button:not([disabled])")).focus({ preventScroll: true });
@@ -69,7 +70,7 @@ const Blaming = (() => {
   const closeButton = () => make("button", { class: "small", id: "blame-close", title: "Closes this", "aria-label": "Close the question" }, "×");
   const titleRow = (...words) => make("div", { class: "blame-title" }, make("span", { role: "status" }, ...words), closeButton());
   const buttons = (...all) => make("div", { class: "buttons", role: "group", "aria-label": "Your answer" }, ...all.filter(Boolean));
-  const inCode = (text) => make("code", null, Names.now().shown(Terms.cut(text, MOST_IN_LINE)));
+  const inCode = (text) => make("code", null, Terms.cut(text, MOST_IN_LINE));
 
   function askedParts() {
     const { told, isRolled } = asked;
@@ -85,7 +86,7 @@ const Blaming = (() => {
 
   /** A call as one of two sides: an argument in which the other side differs stands out. */
   function side(words, text, other) {
-    const { name, terms } = apart(text), others = apart(other).terms, mark = (term, at) => make(term === others[at] ? "span" : "mark", null, Names.now().shown(Terms.cut(term, MOST_LETTERS)));
+    const { name, terms } = apart(text), others = apart(other).terms, mark = (term, at) => make(term === others[at] ? "span" : "mark", null, Terms.cut(term, MOST_LETTERS));
     const inner = terms.flatMap((term, at) => [at > 0 ? "," : "(", mark(term, at)]);
     return make("div", { class: "side" }, make("b", null, words), make("div", { class: "call" }, name, ...inner, terms.length > 0 ? ")" : ""));
   }
@@ -97,7 +98,7 @@ const Blaming = (() => {
     return make("div", { class: "sides" }, side("The call was given", given, gave === null ? given : gave), right);
   }
 
-  const standing = ({ status, waitsFor, refusal }) => (status === "failed" ? `it has failed (${refusal})` : status === "waits" ? `it waits for ${waitsFor.map((one) => Names.now().shownName(one)).join(", ")}` : status);
+  const standing = ({ status, waitsFor, refusal }) => (status === "failed" ? `it has failed (${refusal})` : status === "waits" ? `it waits for ${waitsFor.join(", ")}` : status);
 
   /** What makes a question harder than its two sides tell: an order, goals that were asked for, a goal that is left. */
   function warnings({ asked: asks, inTurns, left: goal, ask, fault }) {

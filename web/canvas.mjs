@@ -3,6 +3,7 @@ import Graph from "../front/run/graph.mjs";
 import Beside from "./beside.mjs";
 import Deeds from "./deeds.mjs";
 import Elements from "./elements.mjs";
+import Names from "./names.mjs";
 import Overview from "./overview.mjs";
 import Picture from "./picture.mjs";
 import Shown from "./shown.mjs";
@@ -12,11 +13,18 @@ const Canvas = (() => {
   const { find } = Elements;
   const canvas = { way: new Set(), others: new Set(), view: null, get chosen() { return Shown.chosen; } };
   const LEGEND = 70; // points below the lanes
+  const LEAST_OF_TWO = 150; // points that each of two runs is high
   const TICK_LETTER = 3.2; // points, half the width of a letter of the axis
   const OWN_SCROLL = 250; // milliseconds in which the browser tells of a scrolling that the page did
   let scrolledAt = -OWN_SCROLL;
 
   const marks = () => find("canvas").querySelectorAll(".mark");
+
+  /** The height into which a picture is to fit; undefined where it is as high as it is. Two runs share what there is. */
+  function highOf(area) {
+    if (Beside.isOn()) return Math.max(LEAST_OF_TWO, (area.clientHeight + find("beside").offsetHeight) / 2 - LEGEND);
+    return Shown.isFit ? Math.max(120, area.clientHeight - LEGEND) : undefined;
+  }
 
   /** Draws the run anew, as wide as the window and the zoom say. */
   function draw() {
@@ -28,11 +36,11 @@ const Canvas = (() => {
     if (!Talk.run.isWhole) return; // when all of a change is read, it is drawn
     const area = find("canvas"), isScrolled = area.scrollLeft > 0 || area.scrollTop > 0;
     const room = Math.max(320, area.clientWidth - 8) * (Overview.isOn() || Shown.isFit ? 1 : Shown.zoom);
-    const high = Shown.isFit ? Math.max(120, area.clientHeight - LEGEND) : undefined;
+    const high = highOf(area);
     Overview.draw();
-    const drawn = Picture.draw(Overview.shownRun(), { by: Shown.by, theme: Shown.theme, room, high, leastColumns: Shown.by === "depth" ? Beside.columns() : 0, legend: true, titles: false });
+    const drawn = Picture.draw(Overview.shownRun(), { by: Shown.by, theme: Shown.theme, room, high, leastColumns: Shown.by === "depth" ? Beside.columns() : 0, legend: true, titles: false, shown: Names.shown });
     area.innerHTML = drawn.svg;
-    Beside.draw({ theme: Shown.theme, room, titles: false });
+    Beside.draw({ theme: Shown.theme, room, high, titles: false });
     canvas.view = drawn.view;
     if (Shown.chosen && !isThere(Shown.chosen)) Shown.chosen = null;
     if (isScrolled) stayInSight();
@@ -68,7 +76,7 @@ const Canvas = (() => {
     svg.classList.toggle("looking", Boolean(lit));
     for (const mark of marks()) {
       const number = Number(mark.dataset.step);
-      mark.classList.toggle("chosen", number === step);
+      mark.classList.toggle("chosen", number === step || number === Shown.visited);
       mark.classList.toggle("cause", causes.has(number) && number !== step);
       mark.classList.toggle("effect", effects.has(number) && number !== step);
       mark.classList.toggle("way", canvas.way.has(number));
@@ -79,6 +87,15 @@ const Canvas = (() => {
     for (const goal of svg.querySelectorAll(".goal")) goal.classList.toggle("chosen", Boolean(chosen) && goal.dataset.goal === chosen.goal);
     markEdges(causes, effects);
     markAsked(svg, graph);
+    Deeds.markLit(lit ? clausesIn(lit, graph) : []);
+  }
+
+  /** The numbers of the clauses by which flagged steps went. */
+  function clausesIn({ isIn }, graph) {
+    const clauses = new Set();
+    for (let index = 0; index < isIn.length; index++) if (isIn[index] === 1) clauses.add(graph.clauses.at(index));
+    clauses.delete(0);
+    return [...clauses].sort((one, other) => one - other);
   }
 
   /** Lights the part of the call that is asked about, and dims what was told right. */
@@ -116,6 +133,24 @@ const Canvas = (() => {
     Overview.draw();
   }
 
+  /** Lights the flagged steps. */
+  function showFlags(isIn, count) {
+    choose(null);
+    Shown.slice = { isIn, count };
+    showChosen();
+    Overview.draw();
+  }
+
+  /** Goes to one of the steps that are lit, tells of it, and keeps the light. */
+  function visit(step) {
+    if (!Talk.run.graph.byNumber.has(step)) return;
+    Shown.visited = step;
+    scrollTo({ step });
+    showChosen();
+    Deeds.showDetail({ step });
+    Deeds.markClause(clauseOf({ step }));
+  }
+
   /** Lights the part of a call, also in the strip. */
   function showAsked(asked) {
     Shown.asked = asked;
@@ -128,6 +163,7 @@ const Canvas = (() => {
     canvas.way = new Set();
     canvas.others = new Set();
     Shown.slice = null;
+    Shown.visited = null;
     Shown.asked = null;
   }
 
@@ -144,6 +180,7 @@ const Canvas = (() => {
     Overview.draw();
     Deeds.showDetail(chosen);
     Deeds.markClause(clauseOf(chosen));
+    if (chosen === null) Deeds.markLit([]);
   }
 
   /** Lane names, the axis and what all stands for stay where one sees them while the picture is scrolled. */
@@ -203,7 +240,8 @@ const Canvas = (() => {
 
   /** What the picture says of a step or of an arrow. */
   function wordsFor(element) {
-    const run = Overview.run(), { graph } = run, { step, from, to } = element.dataset;
+    const run = Overview.run(), { graph } = run, { step, from, to, types } = element.dataset;
+    if (types !== undefined) return `${types}: a click types it`;
     if (step !== undefined) return Picture.tellStep(run, graph.byNumber.get(Number(step)));
     const edge = to === undefined ? undefined : graph.causes.get(Number(to)).find((one) => one.from === Number(from));
     return edge && edge.kind !== "made" ? Picture.tellArrow(run, edge) : "";
@@ -211,10 +249,10 @@ const Canvas = (() => {
 
   /** Puts words on what one points at. A picture that is drawn with all its words takes longer to show. */
   function addTitle(element) {
-    const found = element.closest("[data-step], .edge");
+    const found = element.closest("[data-types], [data-step], .edge");
     if (!found || found.querySelector("title")) return;
     const title = document.createElementNS("http://www.w3.org/2000/svg", "title");
-    title.textContent = wordsFor(found);
+    title.textContent = found.dataset.types === undefined ? Names.shown(wordsFor(found)) : wordsFor(found);
     if (title.textContent) found.append(title);
   }
 
@@ -246,7 +284,7 @@ const Canvas = (() => {
     return true;
   }
 
-  return Object.assign(canvas, { draw, choose, forget, markWay, showSlice, showAsked, elementOf, showThere, isOwnScroll, scrollTo, ring, stayInSight, onKey, addTitle });
+  return Object.assign(canvas, { draw, choose, forget, markWay, showSlice, showFlags, visit, showAsked, elementOf, showThere, isOwnScroll, scrollTo, ring, stayInSight, onKey, addTitle });
 })();
 
 export default Canvas;

@@ -5,6 +5,7 @@ import { fileURLToPath } from "node:url";
 import { parseArgs } from "node:util";
 import Asking from "../front/protocol/asking.mjs";
 import Graph from "../front/run/graph.mjs";
+import Naming from "./naming.mjs";
 import Picture from "./picture.mjs";
 import SessionText from "../front/protocol/session_text.mjs";
 import { engineOfPage } from "../front/session/engine_of_page.mjs";
@@ -47,8 +48,8 @@ async function main() {
   const texts = new Map(goals.map((goal) => [goal.name, goal.text]));
   Asking.completeTexts(texts, steps, session);
   const run = { graph: Graph.graphOf(steps), goals, shelf: Replies.readShelf(told.shelf), texts, clauses: Graph.readClauses(play.program) };
-  const room = given.room === undefined ? 1100 : Number(given.room);
-  const { svg } = Picture.draw(run, { by: given.by, theme: given.theme, room, title: given.title === undefined ? play.query : given.title, legend: true });
+  const room = given.room === undefined ? 1100 : Number(given.room), naming = new Naming(play, run.graph);
+  const { svg } = Picture.draw(run, { by: given.by, theme: given.theme, room, title: given.title === undefined ? play.query : given.title, legend: true, shown: (words) => naming.shown(words) });
   process.stdout.write(`${svg}\n`);
 }
 

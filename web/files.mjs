@@ -9,6 +9,7 @@ import Deeds from "./deeds.mjs";
 import Elements from "./elements.mjs";
 import ExampleNotes from "./example_notes.mjs";
 import Holes from "./holes.mjs";
+import Names from "./names.mjs";
 import Overview from "./overview.mjs";
 import Picture from "./picture.mjs";
 import Program from "./program.mjs";
@@ -19,6 +20,7 @@ const Files = (() => {
   const { find, make } = Elements;
 
   const MOST_PIXELS = 60e6; // of a PNG
+  const ROOM_ON_PAPER = 1100; // points
 
   function saveBlob(name, blob) {
     const link = make("a", { href: URL.createObjectURL(blob), download: name });
@@ -40,7 +42,14 @@ const Files = (() => {
 
   /** The run, or a part of it, as an SVG that stands alone. */
   function pictureText({ theme = "light", from, to } = {}) {
-    return Picture.draw(partOf(from, to), { by: Shown.by, theme, room: find("canvas").clientWidth * Shown.zoom, legend: true, title: Talk.given.query }).svg;
+    return Picture.draw(partOf(from, to), { by: Shown.by, theme, room: find("canvas").clientWidth * Shown.zoom, legend: true, title: Talk.given.query, shown: Names.shown }).svg;
+  }
+
+  /** The whole run, as far as a picture can show it, for paper. */
+  function wholePicture() {
+    const { graph } = Talk.run, last = graph.count - 1;
+    const run = last < 0 ? Overview.shownRun() : partOf(graph.numbers.at(0), graph.numbers.at(last));
+    return Picture.draw(run, { by: Shown.by, theme: "light", room: ROOM_ON_PAPER, legend: true, shown: Names.shown, scope: "paper-run" }).svg;
   }
 
   /** A picture in pixels, two for each point. */
@@ -178,7 +187,7 @@ const Files = (() => {
   }
 
   return {
-    savePicture, saveSession, sessionText, pictureText, pngOf, openText, openBytes, listenToAll,
+    savePicture, saveSession, sessionText, pictureText, wholePicture, pngOf, openText, openBytes, listenToAll,
   };
 })();
 

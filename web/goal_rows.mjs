@@ -44,7 +44,7 @@ const GoalRows = (() => {
   /** A row, whose goal stands there when the console has told it. */
   function rowOf({ step, depth, below, store }, withGoalText) {
     const goal = make("span"), more = below > 0 ? make("span", { class: "dim" }, ` and ${told(below)} below`) : null;
-    withGoalText(step, (text) => { goal.textContent = `${Names.now().shown(GoalTree.goalText(text, store))} `; });
+    withGoalText(step, (text) => { goal.textContent = `${GoalTree.goalText(text, store)} `; Names.dress(goal); });
     return make("li", { style: `padding-left: ${Math.min(depth, MOST_INDENTS) * INDENT}px` }, goTo(step.number, `step ${step.number}`), ": ", goal, step.act, more);
   }
 

@@ -8,6 +8,7 @@ import Elements from "./elements.mjs";
 import Guide from "./guide.mjs";
 import Links from "./links.mjs";
 import Talk from "./talk.mjs";
+import Trail from "./trail.mjs";
 
 const Keeping = (() => {
   const { find, make } = Elements;
@@ -38,7 +39,7 @@ const Keeping = (() => {
   /** What there is to be kept: the session, and what was typed since its Start; null where all of it stands in an example. */
   function now() {
     const typed = Deeds.typed(), draft = Deeds.isChanged() ? { program: typed.program, query: typed.query } : null;
-    if (Talk.entries.length > 0) return { text: linesText(), draft };
+    if (Talk.entries.length > 0) return { text: linesText(), draft, looked: Trail.saved() };
     return typed.program.trim() === "" || isExample(typed.program) ? null : { text: SessionText.write({ ...Talk.given, ...typed, entries: [] }), draft: null };
   }
 
@@ -46,9 +47,9 @@ const Keeping = (() => {
   function read(key) {
     try {
       const kept = localStorage.getItem(key), found = kept.startsWith("{") ? JSON.parse(kept) : { text: kept };
-      const { text, draft = null, at = 0, isOwn: own, of = key } = found;
+      const { text, draft = null, at = 0, isOwn: own, of = key, looked = null } = found;
       const session = SessionText.read(text, () => undefined);
-      return session === null ? null : { ...session, draft, at, key, of, isOwn: own ?? !isExample(session.program) };
+      return session === null ? null : { ...session, draft, at, key, of, looked, isOwn: own ?? !isExample(session.program) };
     } catch {
       return null;
     }
@@ -211,13 +212,14 @@ const Keeping = (() => {
 
   /** Plays a session that was kept, and puts there what was typed since its Start. */
   async function goOn(index) {
-    const { program, query, history, lines, draft, key, of } = before[index];
+    const { program, query, history, lines, draft, key, of, looked } = before[index];
     leave();
     Deeds.begin({ program, query, history });
     if (lines.length > 0) Talk.sendAll(lines);
     await Talk.settled();
     if (!isOfGiven(before[index])) return;
     if (draft !== null) Deeds.setTyped(draft);
+    Trail.takeUp(looked);
     source = key;
     origin = of;
     keep();
@@ -228,7 +230,8 @@ const Keeping = (() => {
     const text = linesText(), told = (number) => number.toLocaleString("en"), { MOST, MOST_READ, MOST_LINES } = Links;
     const isLong = text.length > MOST_READ || Talk.entries.length > MOST_LINES;
     if (isLong) return { tooLong: `${told(MOST_READ)} bytes and ${told(MOST_LINES)} lines at most` };
-    const letters = await Links.pack(text);
+    const looked = Trail.saved(), notes = looked === null ? "" : `&n=${await Links.pack(JSON.stringify(looked))}`;
+    const letters = `${await Links.pack(text)}${notes}`;
     if (letters.length > MOST) return { tooLong: `${told(letters.length)} letters, ${told(MOST)} at most` };
     return { link: `${location.href.split("#")[0]}#s=${letters}` };
   }
@@ -266,7 +269,7 @@ const Keeping = (() => {
     window.addEventListener("pagehide", keep);
   }
 
-  return { keep, leaveDone, offer, goOn, forget, beginOther, goWithout, makeLink, copyLink, listenToAll };
+  return { keep, keepSoon, leaveDone, offer, goOn, forget, beginOther, goWithout, makeLink, copyLink, listenToAll };
 })();
 
 export default Keeping;

@@ -3,6 +3,7 @@ import Search from "../front/run/search.mjs";
 import Deeds from "./deeds.mjs";
 import Earlier from "./earlier.mjs";
 import Elements from "./elements.mjs";
+import Names from "./names.mjs";
 import Overview from "./overview.mjs";
 import Shown from "./shown.mjs";
 import Talk from "./talk.mjs";
@@ -31,11 +32,12 @@ const Looking = (() => {
   /** Looks for what stands in the field, and goes to the first hit. */
   async function seek() {
     sought += 1;
-    const own = sought, hits = [], { version } = Talk.run;
+    const own = sought, hits = [], { version } = Talk.run, words = find("search").value.trim();
+    const text = Names.now().variableOf(words) ?? words;
     at = -1;
     Overview.hits = hits;
     showHits(false);
-    for (const count of Search.find(Talk.run, find("search").value, hits)) {
+    for (const count of Search.find(Talk.run, text, hits)) {
       if (count % 4096 === 0) await Talk.pause();
       if (own !== sought || version !== Talk.run.version) return;
     }

@@ -8,8 +8,10 @@ import Beside from "./beside.mjs";
 import Canvas from "./canvas.mjs";
 import Deeds from "./deeds.mjs";
 import Elements from "./elements.mjs";
+import Names from "./names.mjs";
 import Overview from "./overview.mjs";
 import Resting from "./resting.mjs";
+import StepWords from "./step_words.mjs";
 import Talk from "./talk.mjs";
 
 const Menus = (() => {
@@ -18,6 +20,7 @@ const Menus = (() => {
   const MOST_HOLDERS = 20; // goals that are named because they have a variable
   const MOST_NAMED = 100; // steps that are named before a roll
   const OFFSET = 14, MOST_LOOKED_AT = 400;
+  const FIRST = "input, button:not([disabled]):not(.variable)"; // what has the focus in a menu that opens
 
   const title = (words, dim) => make("div", { class: "menu-title" }, make("b", null, words), " ", make("span", { class: "dim" }, dim));
   const code = (first, ...lines) => make("div", { class: "code" }, ...(typeof first === "string" ? [[first, ...lines].filter(Boolean).join("\n")] : [first, lines.filter(Boolean).join("\n")]));
@@ -64,7 +67,7 @@ const Menus = (() => {
   /** A button for a clause. One that says yes can be clicked: `does` gives what it does then, as attributes. */
   function clauseButton({ clause, number }, told, does) {
     const how = told?.says === "yes" ? does(number) : { disabled: true };
-    return make("button", { class: "clause", ...how }, `by ${number}:  ${clause.text}`, wordsOfClause(told));
+    return make("button", { class: "clause", ...how }, `clause ${number}:  ${clause.text}`, wordsOfClause(told));
   }
 
   const RANKS = ["yes", "waits", "no"];
@@ -75,7 +78,7 @@ const Menus = (() => {
    */
   function clauseButtons(clauses, asked, does) {
     const area = make("div", { class: "clauses" });
-    const fill = (told) => area.replaceChildren(...told.map(([one, says]) => clauseButton(one, says, does)));
+    const fill = (told) => area.replaceChildren(...told.map(([one, says]) => Names.dress(clauseButton(one, says, does))));
     fill(clauses.map((one) => [one, undefined]));
     asked.then((reply) => {
       if (reply === null || !area.isConnected) return;
@@ -109,6 +112,12 @@ const Menus = (() => {
     return steps < 2 ? null : make("button", { "data-fold": lane.name, title: `${lane.name} and all that came of it as one bar; nothing is taken back` }, `Fold ${plural(steps, "step")}`);
   }
 
+  /** Lights all steps that went by the clause of one. */
+  function clauseButtonOf({ clause }) {
+    const title = "As a click on the clause in the program does";
+    return clause ? make("button", { "data-clause": clause, title }, `All steps by clause ${clause}`) : null;
+  }
+
   /** The menu of a kept step. */
   function ofStep(number) {
     const { graph, clauses } = Talk.run, step = graph.byNumber.get(number);
@@ -116,10 +125,10 @@ const Menus = (() => {
     const undo = first ? make("button", { disabled: true }, "Undo") : lineButton("Undo", `undo ${number}`);
     const why = first ? make("p", { class: "dim" }, `Undo alone is not lawful: step ${first.to} depends on it.`) : null;
     const clause = step.clause && clauses[step.clause - 1] ? clauses[step.clause - 1].text : "", goal = make("span");
-    Resting.withGoalText(step, (text) => { goal.textContent = `${text}\n`; });
-    return [title(`Step ${number}`, step.goal === null ? "asked for goals" : `goal ${step.goal}, ${step.act}`),
+    Resting.withGoalText(step, (text) => { goal.textContent = `${text}\n`; Names.dress(goal); });
+    return [title(`Step ${number}`, StepWords.of(step)),
       code(goal, step.goal === null ? step.act : "", clause, ...step.binds.map((binding) => `${binding.variable} = ${Terms.cut(binding.term, 300)}`)),
-      buttons(lineButton("Why?", `why ${number}`), undo, rollButton(number, gone), foldButton({ step: number })), why, ...otherClauses(step)];
+      buttons(lineButton("Why?", `why ${number}`), undo, rollButton(number, gone), foldButton({ step: number }), clauseButtonOf(step)), why, ...otherClauses(step)];
   }
 
   function spyButton(goal) {
@@ -147,7 +156,7 @@ const Menus = (() => {
   }
 
   /** The menu in which one asks for more goals. */
-  const ofAsk = () => [title("Ask for more goals", "as a query has them"), lineForm("ask", "Goals to ask for", "p(R,X), X = 1", "Ask"),
+  const ofAsk = () => [title("Add goals", "as a query has them"), lineForm("ask", "Goals to add", "p(R,X), X = 1", "Add"),
     make("p", { class: "dim" }, "The query's variables go by their names, others of the run as _1_1; all else is new. It is a step, which can be taken back.")];
 
   /** The clauses of a call: those that it can be reduced by, and for what the others wait. */
@@ -167,7 +176,10 @@ const Menus = (() => {
   /** Begins the questions that lead to the clause by which a value, or how a goal stands, is wrong. */
   const blameButton = (name) => lineButton("Find the wrong clause", `blame ${name}`);
 
-  const isBound = (name) => Talk.run.graph.store.has(Asking.queryVariables(Talk.given.query).get(name) ?? name);
+  /** A variable as the console prints it. */
+  const numberOf = (name) => Asking.queryVariables(Talk.given.query).get(name) ?? name;
+
+  const isBound = (name) => Talk.run.graph.store.has(numberOf(name));
 
   /** The menu of a goal that is there. */
   function ofGoal(name) {
@@ -189,13 +201,13 @@ const Menus = (() => {
   }
 
   /** The menu of a variable in the store. */
-  const ofVariable = (name) => [title(name, "a variable"), buttons(lineButton("Show", `show ${name}`), lineButton("Who bound it?", `who ${name}`), isBound(name) ? blameButton(name) : null),
+  const ofVariable = (name) => [title(Names.shown(name), make("span", null, "a variable, ", make("span", { class: "typed" }, numberOf(name)), " at the console")), buttons(lineButton("Show", `show ${name}`), lineButton("Who bound it?", `who ${name}`), isBound(name) ? blameButton(name) : null),
     buttons(lineButton("What it rests on", `explain ${name}`),
-      make("button", { "data-keep": name, title: "Takes back all steps on which this value does not rest; asks first" }, "Keep that alone …"))];
+      make("button", { "data-keep": name, title: "Takes back all steps on which this value does not rest; asks first" }, "Keep that alone …"), make("button", { "data-types": numberOf(name) }, "Type its number"))];
 
   const ofTaken = (number) => {
     const step = Talk.run.shelf.find((other) => other.number === number);
-    return [title(`Step ${number}`, "was taken back"), code(`${step.goal || "-"} ${step.act}`), buttons(lineButton("Redo", `redo ${number}`, { class: "main-button" }))];
+    return [title(`Step ${number}`, "is undone"), code(StepWords.of(step)), buttons(lineButton("Redo", `redo ${number}`, { class: "main-button" }))];
   };
 
   /** How many of some boxes a menu would cover that has its upper left corner at a place. */
@@ -208,7 +220,8 @@ const Menus = (() => {
     const svg = find("canvas").querySelector("svg"), bottom = svg ? svg.getBoundingClientRect().top + Canvas.view.bottom : box.bottom;
     const right = box.right + OFFSET, left = box.left - width - OFFSET, below = box.bottom + OFFSET, above = box.top - height - OFFSET;
     const all = [{ x: right, y: below }, { x: right, y: above }, { x: left, y: below }, { x: left, y: above }, { x: box.left, y: bottom + 6 }, { x: right, y: bottom + 6 }];
-    const area = find("run").getBoundingClientRect(), inside = (least, value, most) => Math.max(least, Math.min(value, most));
+    const area = find("view").getBoundingClientRect();
+    const inside = (least, value, most) => Math.max(least, Math.min(value, most));
     return all.map((place) => ({ x: inside(area.left + 8, place.x, area.right - width - 8), y: inside(area.top + 8, place.y, area.bottom - height - 8) }));
   }
 
@@ -248,13 +261,14 @@ const Menus = (() => {
 
   /** Opens the menu of `{ step }`, `{ goal }`, `{ variable }` or `{ taken }`, or of `{ ask: true }`, beside an element. */
   function open(chosen, anchor) {
-    openWith(partsFor(chosen).filter(Boolean), anchor, chosen.picture ? "button" : "input, button:not([disabled])");
+    openWith(partsFor(chosen).filter(Boolean), anchor, chosen.picture ? "button" : FIRST);
   }
 
   /** Opens a menu of these parts beside an element; what a selector finds first has the focus. */
-  function openWith(parts, anchor, focus = "input, button:not([disabled])") {
+  function openWith(parts, anchor, focus = FIRST) {
     const menu = find("menu");
     menu.replaceChildren(...parts);
+    Names.dress(menu);
     menu.setAttribute("aria-label", menu.querySelector(".menu-title").textContent);
     menu.hidden = false;
     place(anchor);

@@ -17,8 +17,10 @@ const Overview = (() => {
   const MOST_AT_ONCE = 5000, DOTS = 1024, SLICE = 8; // steps whose dots are drawn at once; dots between two looks at the clock; milliseconds
   const LEVELS = { leaf: 1, reduction: 2, lit: 3, hit: 4, chosen: 5 };
   // `size` is null until somebody sets it; `until` is how many steps of the record are shown, null for all of them;
-  // `earlier` is the run as it was after these, null where the present one stands for it.
-  const overview = { from: 0, size: null, until: null, earlier: null, hits: [], folded: new Set(), wasCount: 0 };
+  // `earlier` is the run as it was after these, null where the present one stands for it; `only` are goals whose lanes
+  // alone
+  // are shown, null for all.
+  const overview = { from: 0, size: null, until: null, earlier: null, only: null, hits: [], folded: new Set(), wasCount: 0 };
 
   /** The run at the time that is on the screen. */
   const run = () => overview.earlier || Talk.run;
@@ -28,7 +30,7 @@ const Overview = (() => {
   /** As many steps as have room side by side, with numbers in them that can be read. */
   function usualSize() {
     const room = find("canvas").clientWidth, wide = count() < 10000 ? 27.5 : 37;
-    return between(LEAST_SIZE, Math.floor((room - (room < 600 ? 190 : 360)) / wide), 60);
+    return between(LEAST_SIZE, Math.floor((room - (room < 600 ? 70 : 360)) / wide), 60);
   }
   const size = () => Math.min(overview.size === null ? usualSize() : overview.size, Math.max(1, count()));
   const setFrom = (from) => { overview.from = between(0, Math.round(from), Math.max(0, count() - size())); };
@@ -76,7 +78,8 @@ const Overview = (() => {
   /** What the picture shows: the whole run, or the steps in the window, with the goals that are there where it reaches the end. */
   function shownRun() {
     const whole = run(), { graph } = whole;
-    if (!isOn() && overview.until === null && whole.goals.length <= MOST_GOALS && overview.folded.size === 0) return whole;
+    const isAll = overview.until === null && overview.folded.size === 0 && overview.only === null;
+    if (!isOn() && isAll && whole.goals.length <= MOST_GOALS) return whole;
     setFrom(overview.from);
     const from = isOn() ? overview.from : 0, to = isOn() ? Math.min(count(), from + size()) : count();
     const foldOf = Lanes.foldsOf(whole.lanes, overview.folded), laneOf = (goal) => whole.lanes.ofGoal(graph, goal.name);
@@ -85,12 +88,35 @@ const Overview = (() => {
     const isNow = overview.until === null, shelf = isNow && to >= graph.count ? whole.shelf : [];
     const placed = Lanes.lanesIn(whole, whole.lanes, from, to, goals, foldOf), coming = incoming(from, to);
     const steps = { graph: Graph.partOf(graph, from, to), store: graph.store, before: from, incoming: coming };
-    return { ...whole, ...steps, goals, shelf, placed, isPart: isOn() || isNow };
+    const shown = { ...whole, ...steps, goals, shelf, placed, isPart: isOn() || isNow };
+    return overview.only === null ? shown : lanesAlone(shown, from, to);
+  }
+
+  /** The graph of those steps of a part of the run that are in some lanes. */
+  function graphOfLanes(only, from, to) {
+    const { graph, lanes } = run(), part = new Graph.RunGraph();
+    for (let index = from; index < to; index++) {
+      if (only.has(lanes.ofStep[index])) part.push(graph.stepAt(index), graph.waysAt(index));
+    }
+    return part;
+  }
+
+  /** Of what is to be shown the lanes of some goals alone, with their steps. */
+  function lanesAlone(shown, from, to) {
+    const { graph, lanes } = run(), laneOfGoal = (goal) => lanes.ofGoal(graph, goal);
+    const only = new Set([...overview.only].map(laneOfGoal).filter(Boolean));
+    const names = new Set([...only].map((lane) => lane.name)), part = graphOfLanes(only, from, to);
+    const parentOf = ({ parent }) => (parent !== null && part.indexOf(parent.number) >= 0 ? parent : null);
+    const kept = shown.placed.lanes.filter((lane) => names.has(lane.name)).map((lane) => ({ ...lane, parent: parentOf(lane) }));
+    const byName = new Map(kept.map((lane) => [lane.name, lane]));
+    const laneOf = new Map([...shown.placed.laneOf].map(([key, lane]) => [key, byName.get(lane.name)]));
+    const goals = shown.goals.filter((goal) => only.has(laneOfGoal(goal.name))), placed = { ...shown.placed, lanes: kept, laneOf };
+    return { ...shown, graph: part, goals, shelf: [], incoming: [], placed };
   }
 
   /** After lines: where steps came, or the window stands beyond the end, it goes to the end. */
   function follow(what) {
-    Object.assign(overview, { until: null, earlier: null });
+    Object.assign(overview, { until: null, earlier: null, only: null });
     const now = run().graph.count;
     if (what === "start") {
       overview.size = null;
@@ -338,10 +364,20 @@ const Overview = (() => {
     });
   }
 
+  /** The place of a pointer in the strip, by steps. */
+  const stepsAt = (event) => ((event.offsetX - EDGE) / (find("overview").clientWidth - 2 * EDGE)) * count();
+
+  let selectedFrom = null; // where an area began that is selected in the strip
+
   function onPointer(event) {
     if (event.buttons !== 1) return;
-    const area = find("overview"), part = (event.offsetX - EDGE) / (area.clientWidth - 2 * EDGE);
-    goTo(part * count() - size() / 2);
+    if (event.type === "pointerdown") selectedFrom = event.shiftKey ? stepsAt(event) : null;
+    if (selectedFrom === null) goTo(stepsAt(event) - size() / 2);
+  }
+
+  function onPointerUp(event) {
+    if (selectedFrom !== null && overview.until === null) Deeds.selectRange(selectedFrom, stepsAt(event));
+    selectedFrom = null;
   }
 
   function onKey(event) {
@@ -357,13 +393,14 @@ const Overview = (() => {
     const area = find("overview");
     area.addEventListener("pointerdown", (event) => { area.setPointerCapture(event.pointerId); onPointer(event); });
     area.addEventListener("pointermove", onPointer);
+    area.addEventListener("pointerup", onPointerUp);
     area.addEventListener("keydown", onKey);
     area.addEventListener("wheel", (event) => { event.preventDefault(); zoom(event.deltaY < 0 ? 1.2 : 1 / 1.2); goTo(overview.from); }, { passive: false });
   }
 
   return Object.assign(overview, {
     MOST_SIZE, run, reachOf, incoming, isOn, count, shownRun, follow, show, showUntil, laneOf, stepsUnder, zoom, fit,
-    draw, settled, hitFlags, listenToAll, sizeNow: size,
+    draw, settled, hitFlags, goTo, listenToAll, sizeNow: size,
   });
 })();
 

@@ -19,12 +19,18 @@ import Links from "./links.mjs";
 import Looking from "./looking.mjs";
 import Menus from "./menus.mjs";
 import Overview from "./overview.mjs";
+import Paper from "./paper.mjs";
 import Panels from "./panels.mjs";
 import Program from "./program.mjs";
 import Resting from "./resting.mjs";
+import Result from "./result.mjs";
+import Selecting from "./selecting.mjs";
 import Shown from "./shown.mjs";
 import Store from "./store.mjs";
 import Talk from "./talk.mjs";
+import Trail from "./trail.mjs";
+import Walking from "./walking.mjs";
+import Welcome from "./welcome.mjs";
 
 const Page = (() => {
   const { find, make, withCode } = Elements;
@@ -34,8 +40,10 @@ const Page = (() => {
 
   const HELP = [
     ["Picture", "A line is a process, and time goes right. `●` reduces a goal by a clause, `◆` binds a variable, `■` computes, a flag is an input. A grey line leads from a step to a goal that it made, a blue arrow to a step that read what it bound; an orange dashed one says that this woke a goal that waited. A green ring is a goal that is ready, a dashed one waits, and its dotted arc points at a goal that has its variable. A hexagon is an ask, which no goal was there for; a line of dashes and dots leads to it from a step that made a variable that it names."],
-    ["Click", "a step, a goal, a variable, or something that was taken back, and choose. Each click types a line at the console, where you see what it is called. `ask …`, beside the word Goals, adds goals while the program runs: write them as a query has them."],
-    ["Keys", "`s` steps the first goal that is ready, `r` runs, `u` takes back the last step, `a` asks for more goals, `t` tidies the order, `d` changes between recorded order and causal depth, `f` finds steps, `y` and `n` answer a question, `b` takes the last answer back, `/` goes to the console, `Escape` closes, and `Ctrl` `Enter` in the program starts it. In the picture `←` `→` go from step to step, `↑` `↓` to a cause or an effect, `Enter` opens what can be done."],
+    ["Click", "a step, a goal, a variable, or something that was taken back, and choose. Each click types a line at the console, below, where you see what it is called. A click on a clause of the program lights its steps. `Add goals` adds some while the program runs: write them as a query has them."],
+    ["Names", "A variable has the program's name, with the number of its step below the line: `Rel₆` is Rel of step 6. Point at it to see its number, and click it to type that at the console."],
+    ["Keys", "`s` steps the first goal that is ready, `r` runs, `u` takes back the last step, `a` asks for more goals, `t` sorts the steps by process, `d` changes between recorded order and chains of causes, `f` finds steps, `y` and `n` answer a question, `b` takes the last answer back, `p` goes back to what you looked at before, `/` goes to the console, `Escape` closes, and `Ctrl` `Enter` in the program starts it. In the picture `←` `→` go from step to step, `↑` `↓` to a cause or an effect, `Enter` opens what can be done."],
+    ["Move and size", "Drag the picture, or turn the wheel over it, to move it; with `Ctrl` the wheel sizes it. Drag with `Shift`, in the picture or in the strip above it, to select an area: its steps are lit and counted by predicate. `Shift` `←` `→` do so from the chosen step on."],
     ["Why?", "Click a value that is wrong, or a goal that has failed or waits, then `Find the wrong clause`. You are asked about a few calls: was what each gave right, for what it was given? Then the clause that is wrong is marked, and its step can be taken back."],
     ["Kept", "This browser keeps the last five sessions of your own programs, and what you typed since Start: after a reload the page offers them. `Link` puts program, query and lines into the address. Nothing leaves this browser by itself."],
     ["Texts", "`Save` keeps program, query and all lines in a text; `Open` plays it again. It opens histories (as `save` writes them) and programs, too. All that is described in docs/LANGUAGE.md and docs/FORMATS.md."],
@@ -87,7 +95,7 @@ const Page = (() => {
     const given = { text: name === "program" ? program : query, which: name, isQuery: name === "query", program };
     const isLong = program.length + query.length > MOST_NOTED, cause = isLong ? Answers.placeIn(refusal) : Causes.causeOf(refusal, given);
     const parts = isLong ? Answers.partsOfLong(refusal) : Answers.partsOfRefusal(refusal, given, cause);
-    if (cause) Program.showPlace(name, cause.line, Causes.letterOf(cause, given.text), cause.length);
+    if (cause) Program.showPlace(name, cause.line, Causes.letterOf(cause, given.text), cause.length, cause.title);
     if (parts.length > 0) Answers.put(true, ...parts);
   }
 
@@ -144,13 +152,33 @@ const Page = (() => {
     if (Talk.run.graph.count > wasCount) Canvas.showThere();
   }
 
+  /** Lights the steps that went by a clause, and tells how many there are. */
+  function lightClause(number) {
+    const { graph, clauses } = Talk.run, clause = clauses[number - 1], isIn = new Uint8Array(graph.count), places = [];
+    for (let index = 0; index < graph.count; index++) {
+      if (graph.clauses.at(index) !== number) continue;
+      isIn[index] = 1;
+      places.push(index);
+    }
+    Canvas.showFlags(isIn, places.length);
+    Program.markClause(clause);
+    const numberAt = (at) => graph.numbers.at(places[at]);
+    const told = places.length === 1 ? "1 step went by it" : `${places.length.toLocaleString("en")} steps went by it`;
+    const parts = places.length === 0 ? ["no step went by it."] : [`${told} (lit). `, Walking.along(places.length, numberAt)];
+    Answers.put(false, `Clause ${number} of ${clause.predicate}: `, ...parts);
+  }
+
+  function leaveWelcome() {
+    Welcome.hide();
+  }
+
   function tellCause(what) {
     if (what === "start") showCause();
   }
 
   /** What shows a change, in its order. */
   const parts = () => [
-    Overview.follow, Beside.follow, redraw, showNewSteps, Looking.follow, ...Panels.PARTS, Blaming.show, Guide.onChange, tellCause,
+    leaveWelcome, Overview.follow, Beside.follow, Result.show, redraw, showNewSteps, Looking.follow, ...Panels.PARTS, Trail.follow, Blaming.show, Guide.onChange, tellCause,
     Keeping.keep,
   ];
 
@@ -225,22 +253,32 @@ const Page = (() => {
     const words = HELP.map(([name, text]) => make("p", null, make("b", null, `${name}: `), ...withCode(text)));
     const close = make("button", { class: "main-button" }, "Close");
     close.addEventListener("click", () => find("help").close());
-    find("help").replaceChildren(make("h2", null, "ghcdb in a page"), ...words, make("p", { class: "dim" }, `${Panels.madeWith()}.`), close);
+    find("help").replaceChildren(make("h2", null, "ghcdb in a page"), ...words, Welcome.language(), make("p", { class: "dim" }, `${Panels.madeWith()}.`), close);
     find("help").showModal();
   }
 
+  /** Empties program and query, to be written. */
+  function writeOwn() {
+    Welcome.hide();
+    setTyped({ program: "", query: "" });
+    showTab("program");
+    find("program").focus();
+  }
+
   const BUTTONS = {
-    "begin-tour": () => Keeping.beginOther(Guide.begin), "open-help": showHelp, "open-file": () => find("file").click(),
+    "begin-tour": () => Keeping.beginOther(Guide.begin), "welcome-tour": () => Keeping.beginOther(Guide.begin),
+    "welcome-run": () => { Welcome.hide(); find("leap").click(); }, "welcome-own": writeOwn, "close-welcome": Welcome.hide, "open-help": showHelp, "open-file": () => find("file").click(),
     "larger-query": () => begin({ ...typed(), query: find("larger-query").value }), "start-anew": startTyped,
     "save-session": () => Files.saveSession(), "save-picture": () => Menus.open({ picture: true }, find("save-picture")),
     "ask-more": () => Menus.open({ ask: true }, find("ask-more")),
     "redo-all": () => Talk.sendAll(Talk.run.shelf.map((step) => `redo ${step.number}`)),
-    stop: () => Talk.stop(),
+    stop: () => Talk.stop(), "trail-back": Trail.back,
     theme: () => setTheme(Shown.theme === "light" ? "dark" : "light"), tidy,
     "by-record": () => setOrder("record"), "by-depth": () => setOrder("depth"),
     smaller: () => setZoom(Shown.zoom / 1.4), larger: () => setZoom(Shown.zoom * 1.4), fit: () => setFit(!Shown.isFit),
     "keep-run": () => Beside.keep(), "drop-run": () => Beside.drop(), "swap-runs": () => Beside.swap(),
     play: () => Looking.play(), "show-all-steps": () => Looking.showNow(),
+    "lanes-alone": () => Panels.showLanesAlone(), "lanes-all": () => { Overview.only = null; Canvas.draw(); Panels.showNote(); },
     wrap: () => Program.setWrap(!Program.isWrapped()), again: () => Talk.again(), "close-answer": () => Answers.hide(),
     "go-without": () => Keeping.goWithout(),
     "blame-light": () => Blaming.lightAgain(), "blame-close": () => Blaming.close(), "blame-alone": () => Blaming.tryAlone(), "blame-return": () => Blaming.goBack(),
@@ -284,11 +322,20 @@ const Page = (() => {
     element.classList.add("told");
   }
 
+  /** Types the number of a variable behind what stands in the console's line. */
+  function typeNumber(element) {
+    const line = find("line"), before = line.value.trimEnd();
+    showTab("console");
+    line.value = before === "" ? element.dataset.types : `${before} ${element.dataset.types}`;
+    line.focus();
+  }
+
   const closing = (does) => (element) => { Menus.close(); does(element); };
 
   /** What a click does, by what it hits: the first of these that fits. */
   const CLICKS = [
     ["[data-line]:not(:disabled)", closing(({ dataset }) => Talk.send(dataset.line))],
+    ["[data-types]", closing(typeNumber)],
     ["[data-root]", closing(explainPart)],
     ["[data-keep]", ({ dataset }) => Resting.askKeep(dataset.keep)],
     ["[data-go-goal]", ({ dataset }) => goToGoal(dataset.goGoal)],
@@ -296,7 +343,10 @@ const Page = (() => {
     ["[data-kept]", closing(({ dataset }) => Beside.onClick(Number(dataset.kept)))],
     ["[data-fold]", closing(({ dataset }) => Looking.fold(dataset.fold, true))],
     ["[data-unfold]", closing(({ dataset }) => Looking.fold(dataset.unfold, false))],
+    ["[data-note-away]", ({ dataset }) => Trail.setNote(Number(dataset.noteAway), "")],
     ["[data-go-on]", ({ dataset }) => Keeping.goOn(Number(dataset.goOn))],
+    ["[data-clause]", closing(({ dataset }) => lightClause(Number(dataset.clause)))],
+    ["[data-visit]", closing(({ dataset }) => Canvas.visit(Number(dataset.visit)))],
     ["[data-goto]", ({ dataset }) => goToStep(Number(dataset.goto))],
     ["button[data-tab]", closing(({ dataset }) => showTab(dataset.tab))],
     [Object.keys(BUTTONS).map((id) => `button#${id}`).join(","), closing(({ id }) => BUTTONS[id]())],
@@ -326,7 +376,7 @@ const Page = (() => {
 
   const KEYS = {
     s: () => find("step").click(), r: () => find("leap").click(), u: () => find("undo-last").click(), t: () => find("tidy").click(),
-    y: () => Blaming.press("right"), n: () => Blaming.press("wrong"), b: () => Blaming.press("back"),
+    y: () => Blaming.press("right"), n: () => Blaming.press("wrong"), b: () => Blaming.press("back"), p: Trail.back,
     f: () => { showTab("run"); find("search").focus(); },
     a: () => { showTab("run"); find("ask-more").click(); }, d: () => setOrder(Shown.by === "record" ? "depth" : "record"), "/": () => { showTab("console"); find("line").focus(); }, "?": showHelp,
   };
@@ -338,6 +388,7 @@ const Page = (() => {
       Talk.stop();
       return;
     }
+    if (event.key === "Escape" && event.target === find("line")) find("line").blur();
     if (event.key === "Escape") {
       const wasOpen = !find("menu").hidden;
       Menus.close();
@@ -348,6 +399,10 @@ const Page = (() => {
     if (event.key === "Tab" && event.target.closest("#menu")) Menus.onTab(event);
     if (event.target.closest("input, textarea, select")) return;
     const does = KEYS[event.key], isInCanvas = event.target === find("canvas");
+    if (isInCanvas && event.shiftKey && Selecting.onKey(event.key)) {
+      event.preventDefault();
+      return;
+    }
     if ((isInCanvas && Canvas.onKey(event.key)) || does) event.preventDefault();
     if (does) does();
   }
@@ -370,8 +425,23 @@ const Page = (() => {
     Talk.send(line);
   }
 
+  /**
+   * The console's drawer opens where somebody writes a line, or comes into it by a key; it stays as it is while one is
+   * within.
+   */
+  function listenToDrawer() {
+    const talk = find("talk");
+    talk.addEventListener("focusin", ({ target }) => {
+      if (target === find("line") || target.matches(":focus-visible")) talk.classList.add("open");
+    });
+    talk.addEventListener("focusout", ({ relatedTarget }) => {
+      if (!talk.contains(relatedTarget)) talk.classList.remove("open");
+    });
+  }
+
   function listenToAll() {
     document.addEventListener("click", onClick);
+    listenToDrawer();
     document.addEventListener("keydown", onKey);
     find("type").addEventListener("submit", onType);
     find("line").addEventListener("keydown", onLineKey);
@@ -391,6 +461,9 @@ const Page = (() => {
     Overview.listenToAll();
     Program.listenToAll();
     Looking.listenToAll();
+    Selecting.listenToAll();
+    Trail.listenToAll();
+    Paper.listenToAll();
     Keeping.listenToAll();
     window.addEventListener("hashchange", () => Keeping.beginOther(() => { Guide.end(); return fromAddress(); }));
     setInterval(() => { if (Talk.busy) Panels.showBusy(); }, 100);
@@ -411,6 +484,15 @@ const Page = (() => {
     }
   }
 
+  /** The trail and the notes in the letters of an address; null where there are none, or none can be read. */
+  async function readNotes(letters) {
+    try {
+      return letters === null ? null : JSON.parse(await Links.unpack(letters));
+    } catch {
+      return null;
+    }
+  }
+
   /** Does what an address asks for, as `#example=primes&query=primes(30,Ps)&lines=leap&by=depth&theme=dark&step=90`; says whether it holds a session. */
   async function fromAddress() {
     const asked = new URLSearchParams(location.hash.slice(1)), name = asked.get("example"), letters = asked.get("s");
@@ -419,6 +501,7 @@ const Page = (() => {
       begin(session);
       if (session.lines.length > 0) Talk.sendAll(session.lines);
       await Talk.settled();
+      Trail.takeUp(await readNotes(asked.get("n")));
       return true;
     }
     const example = EXAMPLES.some((other) => other.name === name) ? name : FIRST_EXAMPLE;
@@ -434,10 +517,10 @@ const Page = (() => {
   }
 
   Deeds.give({
-    begin, beginOther: Keeping.beginOther, typed, isChanged, setTyped,
-    showTab, setOrder, showNow: Looking.showNow, showTime: Panels.showTime, timeRows: Panels.timeRows, showNote: Panels.showNote, showDetail: Panels.showDetail,
-    draw: Canvas.draw, choose: Canvas.choose, scrollTo: Canvas.scrollTo, markClause: Program.markClause,
-    tell: Answers.put, tellSlice: Resting.tell, openMenu: Menus.open, openMenuWith: Menus.openWith, closeMenu: Menus.close,
+    begin, beginOther: Keeping.beginOther, typed, isChanged, setTyped, keepSoon: Keeping.keepSoon,
+    showTab, setOrder, showNow: Looking.showNow, showTime: () => { Result.show(); Panels.showTime(); }, timeRows: Panels.timeRows, showNote: Panels.showNote, showDetail: (chosen) => { Panels.showDetail(chosen); Trail.look(chosen); },
+    draw: Canvas.draw, choose: Canvas.choose, scrollTo: Canvas.scrollTo, markClause: Program.markClause, markLit: Program.markLit, lightClause, size: (by) => setZoom(Shown.zoom * by), selectRange: Selecting.selectRange,
+    resultOf: Result.ofKept, tell: Answers.put, tellSlice: Resting.tell, openMenu: Menus.open, openMenuWith: Menus.openWith, closeMenu: Menus.close,
     pointAgain: Guide.pointAgain, savePicture: Files.savePicture,
   });
 
@@ -448,6 +531,7 @@ const Page = (() => {
     setTheme(window.matchMedia("(prefers-color-scheme: dark)").matches ? "dark" : "light");
     showTab("run");
     Keeping.offer(await fromAddress());
+    if (location.hash.length < 2 && find("answer").hidden) Welcome.show();
     document.body.classList.add("started");
   }
 

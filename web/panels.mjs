@@ -1,19 +1,21 @@
 // Fills what stands around the picture: console, goals, store, what was taken back, the chosen step, and how many there are.
-import Asking from "../front/protocol/asking.mjs";
 import Replies from "../front/protocol/replies.mjs";
 import Explain from "../front/run/explain.mjs";
-import Graph from "../front/run/graph.mjs";
 import Stuck from "../front/run/stuck.mjs";
 import Terms from "../front/run/terms.mjs";
 import Answers from "./answers.mjs";
 import Beside from "./beside.mjs";
 import Deeds from "./deeds.mjs";
 import Elements from "./elements.mjs";
+import Names from "./names.mjs";
+import Outcome from "./outcome.mjs";
 import Overview from "./overview.mjs";
 import Picture from "./picture.mjs";
 import Resting from "./resting.mjs";
 import Shown from "./shown.mjs";
+import StepWords from "./step_words.mjs";
 import Store from "./store.mjs";
+import Summing from "./summing.mjs";
 import Talk from "./talk.mjs";
 
 const Panels = (() => {
@@ -23,6 +25,7 @@ const Panels = (() => {
   const MOST_KEPT = 1000000; // steps that the program keeps
   const LONGEST_LINE = 4000; // letters of a reply's line that are shown
   const MOST_TOLD = 100; // lines that were typed at once, and are shown
+  const LEAST_SUMMED = 4; // causes or consequences of a step that are summed
   const MOST_LINKED = 60; // lines of a reply in which numbers are links
   const plural = (count, word) => `${count} ${word}${count === 1 ? "" : "s"}`;
   const isRefusal = (line) => Replies.isRefusal(line) || /^(program|query|history|session): /.test(line);
@@ -60,8 +63,13 @@ const Panels = (() => {
   function goalRow(goal) {
     const waits = goal.waitsFor.length > 0 ? make("span", { class: "dim" }, ` waits for ${goal.waitsFor.join(", ")}`) : null;
     const failed = goal.refusal ? make("span", { class: "dim" }, ` ${goal.refusal}`) : null;
-    const text = make("button", { class: "row", "data-goal": goal.name }, make("span", { class: `status ${goal.status}` }, goal.status),
-      make("span", { class: "dim" }, `${goal.name} `), make("span", { title: goal.text.length > LONGEST_GOAL ? Terms.cut(goal.text, 2000) : null }, Terms.cut(goal.text, LONGEST_GOAL)), waits, failed);
+    const how = { class: "goal-name", "data-goal": goal.name, title: "What can be done with it" };
+    const status = make("span", { class: `status ${goal.status}` }, goal.status);
+    const name = make("button", how, status, make("span", { class: "dim" }, goal.name), " ");
+    const title = goal.text.length > LONGEST_GOAL ? Terms.cut(goal.text, 2000) : null;
+    const written = make("span", { title }, Terms.cut(goal.text, LONGEST_GOAL));
+    const text = make("div", { class: "row", "data-goal": goal.name }, name, written, waits, failed);
+    Names.dress(text, { isInList: true });
     const step = lineButton("Step", `step ${goal.name}`, { class: "small" });
     return make("div", { class: "line-row" }, text, goal.status === "ready" && Overview.until === null ? step : null);
   }
@@ -82,7 +90,8 @@ const Panels = (() => {
 
   const showGoals = () => {
     const { goals, goalsRefused } = Overview.run(), isNow = Overview.until === null;
-    const keyOf = ({ name, status, waitsFor, refusal, text }) => [isNow, name, status, waitsFor, refusal, text].join();
+    const partsOf = ({ name, status, waitsFor, refusal }) => [isNow, name, status, waitsFor, refusal];
+    const keyOf = (goal) => Names.shown([...partsOf(goal), Terms.cut(goal.text, LONGEST_GOAL)].join());
     const rows = goals.slice(0, MOST_ROWS).map((goal) => ({ key: keyOf(goal), does: () => goalRow(goal) }));
     const empty = Talk.refusal ? "none" : goalsRefused ? "They are too long to be told." : "none: all is done";
     fill("goals", rows, empty, goals.length, timeRows());
@@ -92,13 +101,27 @@ const Panels = (() => {
 
   function showShelf() {
     const isNow = Overview.until === null, shelf = isNow ? Talk.run.shelf : [];
-    const rows = shelf.slice(0, MOST_ROWS).map(({ number, goal, act }) => {
-      const words = `${number} ${goal || "-"} ${act}`, line = `redo ${number}`;
+    const rows = shelf.slice(0, MOST_ROWS).map((step) => {
+      const words = StepWords.shortOf(step), line = `redo ${step.number}`;
       const attributes = { class: "chip taken", title: `${line}: puts it there again` };
-      return { key: words, does: () => lineButton(words, line, attributes) };
+      return { key: Names.shown(words), does: () => Names.dress(lineButton(words, line, attributes)) };
     });
     fill("shelf", rows, isNow ? "nothing" : "shown with all steps", shelf.length);
     find("redo-all").hidden = !isNow || shelf.length < 2;
+  }
+
+  /**
+   * On how many steps one rests, and how many rest on it, by predicate: where they are more than one reads one by one.
+   */
+  function tellReached(run, step) {
+    const { causes, effects } = Overview.reachOf(step.number), own = run.graph.indexOf(step.number);
+    const told = ({ isIn, count }, words) => {
+      if (count - 1 < LEAST_SUMMED) return "";
+      const others = isIn.slice();
+      others[own] = 0;
+      return `\n${(count - 1).toLocaleString("en")} ${words}: ${Summing.words(run, others)}`;
+    };
+    return told(causes, "causes") + told(effects, "consequences");
   }
 
   /** What the panel says of the step that is chosen. */
@@ -108,13 +131,15 @@ const Panels = (() => {
       area.replaceChildren(make("span", { class: "dim" }, "Click a step in the picture."));
       return;
     }
-    const causes = Graph.whyLines(run.graph, step.number).filter((line) => line !== "none");
+    const causes = run.graph.causes.get(step.number);
     const effects = run.graph.effects.get(step.number).map((edge) => edge.to);
     const isTold = run.texts.has(step.goal);
     Resting.withGoalText(step, () => { if (!isTold && Shown.chosen && Shown.chosen.step === step.number) showDetail(Shown.chosen); });
-    const because = causes.flatMap((line) => ["\nbecause of ", goTo(line.split(" ")[0], line)]);
-    area.replaceChildren(Picture.tellStep(run, step), ...because,
+    const reached = tellReached(run, step);
+    const because = causes.flatMap((edge) => ["\nbecause step ", goTo(edge.from), ` ${StepWords.causeOf(edge)}`]);
+    area.replaceChildren(Picture.tellStep(run, step), reached, ...because,
       ...effects.slice(0, 20).flatMap((number, index) => [index === 0 ? "\nneeded by " : ", ", goTo(number, String(number))]));
+    Names.dress(area);
   }
 
   /** Why a goal has failed, with links to the steps that brought it there. */
@@ -126,11 +151,37 @@ const Panels = (() => {
 
   /** Where no goal is ready: who waits for what, and who could help. */
   function tellWaiting(goals) {
-    const names = new Map([...Asking.queryVariables(Talk.given.query)].map(([name, variable]) => [variable, name]));
-    const told = Stuck.lineOfOne(goals, (variable) => (names.has(variable) ? `${variable} (${names.get(variable)})` : variable));
+    const told = Stuck.lineOfOne(goals, (variable) => variable);
     const start = `Nothing is ready, and ${goals.length === 1 ? "a goal waits" : `${goals.length} goals wait`}.`;
     if (told === undefined) return [start];
-    return [`${start} ${Terms.cut(told.words, 400)}. `, ...withCode(told.isHelped ? "Click a goal that waits, then `Explain`." : "`ask …` adds a goal that binds it.")];
+    return [`${start} ${Terms.cut(told.words, 400)}. `, ...withCode(told.isHelped ? "Click a goal that waits, then `Explain`." : "`Add goals` adds one that binds it.")];
+  }
+
+  /** The circle in which a run is stuck, as sentences of the names of its processes, and their lanes alone. */
+  function tellCircle(circle) {
+    const told = Outcome.circleOf(Talk.run);
+    if (told === null) {
+      return [`Nothing is ready: ${Terms.cut([...circle, circle[0]].join(" waits for "), 400)}, in a circle.`];
+    }
+    const words = told.sentences.flatMap((one, at) => [at > 0 ? "; " : "", ...sentenceOf(told, one)]);
+    const isAlone = Overview.only !== null, id = isAlone ? "lanes-all" : "lanes-alone";
+    const lanes = make("button", { class: "small", id }, isAlone ? "Show all lanes" : "Show these lanes alone");
+    return ["A deadlock: ", ...words, ". ", lanes];
+  }
+
+  /** What a process of a circle holds and waits for, with links to the goals. */
+  function sentenceOf({ names }, { who, holds, waitsFor, variable }) {
+    const how = (goal) => ({ class: "link", type: "button", "data-go-goal": goal, title: `goal ${goal}` });
+    const link = (goal) => make("button", how(goal), names.get(goal));
+    if (holds === null) return [link(who), " waits for ", link(waitsFor), ` to bind ${variable}`];
+    return [link(who), " holds ", link(holds), " and waits for ", link(waitsFor)];
+  }
+
+  /** Shows the lanes of the goals alone that wait for each other in a circle. */
+  function showLanesAlone() {
+    Overview.only = new Set(Stuck.circleOf(Talk.run.goals));
+    Deeds.draw();
+    showNote();
   }
 
   /** What is said where the record is shown up to an earlier step. */
@@ -161,7 +212,7 @@ const Panels = (() => {
     if (isReady && graph.count === 0) return ["A green ring is a goal that is ready: click it, or press Run."];
     if (isReady) return [];
     const circle = Stuck.circleOf(goals);
-    if (circle.length > 0) return [`Nothing is ready: ${Terms.cut([...circle, circle[0]].join(" waits for "), 400)}, in a circle.`];
+    if (circle.length > 0) return tellCircle(circle);
     if (stream) return [`Nothing is ready. Click the stream ${stream.name} and give it an input.`];
     if (goals.length > 0) return tellWaiting(goals);
     return [];
@@ -177,6 +228,7 @@ const Panels = (() => {
     wasChanged = Deeds.isChanged();
     const parts = [...noteParts(), ...changedParts()];
     find("note").replaceChildren(...parts);
+    Names.dress(find("note"));
     find("note").hidden = parts.length === 0;
     find("note").classList.toggle("refused", Boolean(Talk.refusal || Talk.trouble));
   }
@@ -191,7 +243,7 @@ const Panels = (() => {
     const { until } = Overview, shownReady = Overview.run().goals.filter((goal) => goal.status === "ready");
     const count = Overview.count(), deepest = count === 0 ? 0 : graph.deepest.at(count - 1) + 1;
     const of = until === null ? "" : `${until} of `, chain = `the longest chain of causes has ${deepest}`;
-    find("count").textContent = `${of}${plural(graph.count, "step")}, depth ${deepest}`;
+    find("count").textContent = `${of}${plural(graph.count, "step")}, longest chain ${deepest}`;
     find("count").title = `${plural(count, "kept step")}; ${chain}; ${plural(shownReady.length, "goal")} ready`;
     const last = graph.count > 0 ? graph.numbers.at(graph.count - 1) : undefined;
     const isOver = !Talk.session || Talk.session.hasEnded, isFull = graph.count >= MOST_KEPT;
@@ -218,10 +270,11 @@ const Panels = (() => {
 
   /** Makes a panel anew; what had the focus in it has it afterwards, or what stands in its place. */
   function keepFocus(name, does) {
-    const panel = find(name), before = [...panel.querySelectorAll("button")], at = before.indexOf(document.activeElement), was = at < 0 ? "" : nameOf(before[at]);
+    const panel = find(name), buttons = () => [...panel.querySelectorAll("button:not(.variable)")], before = buttons();
+    const at = before.indexOf(document.activeElement), was = at < 0 ? "" : nameOf(before[at]);
     does();
     if (at < 0) return;
-    const after = [...panel.querySelectorAll("button")], same = after.find((button) => nameOf(button) === was);
+    const after = buttons(), same = after.find((button) => nameOf(button) === was);
     (same || after[Math.min(at, after.length - 1)] || find("step")).focus({ preventScroll: true });
   }
 
@@ -258,7 +311,7 @@ const Panels = (() => {
     find("stop").hidden = !busy.canStop;
   }
 
-  return { PARTS, showTime, timeRows, showBusy, showNote, followText, showDetail, showLookAt, madeWith };
+  return { PARTS, showTime, timeRows, showBusy, showNote, showLanesAlone, followText, showDetail, showLookAt, madeWith };
 })();
 
 export default Panels;

@@ -1,7 +1,7 @@
 // Draws a run that was put into lanes, as the text of an SVG. Pure functions.
-import Replies from "../front/protocol/replies.mjs";
 import Lanes from "../front/run/lanes.mjs";
 import Terms from "../front/run/terms.mjs";
+import StepWords from "./step_words.mjs";
 
 const Picture = (() => {
   const LIGHT = {
@@ -44,7 +44,8 @@ const Picture = (() => {
 .run .number{font-size:${round(sizes.radius * 0.9)}px;fill:${theme.number};font-weight:600;text-anchor:middle;pointer-events:none}
 .run .bound{paint-order:stroke;stroke:${theme.ground};stroke-width:3px}
 .run .halo{fill:none;stroke:none;stroke-width:3;pointer-events:all}
-.run .mark,.run .goal,.run .taken,.run .bar,.run .coming{cursor:pointer}
+.run .mark,.run .goal,.run .taken,.run .bar,.run .coming,.run [data-types]{cursor:pointer}
+.run [data-types]:hover{text-decoration:underline}
 .run .hit .halo{stroke:${theme.named};stroke-width:3;opacity:.9}
 .run .mark:hover .halo,.run .goal:hover .halo,.run .taken:hover .halo{stroke:${theme.held};opacity:.6}
 .run.looking .mark,.run.looking .edge,.run.looking .fork{opacity:.13}
@@ -77,9 +78,9 @@ const Picture = (() => {
 
   function drawAxis(view, theme) {
     const y = view.top - 12;
-    const name = view.by === "depth" ? "causal depth" : "recorded order";
+    const name = view.by === "depth" ? "chain of causes" : "recorded order";
     const ticks = view.ticks.filter((tick) => tick.x - String(tick.text).length * 3 > view.left - 8).map((tick) => `<text x="${round(tick.x)}" y="${y}" text-anchor="middle" font-size="10" fill="${theme.dim}">${tick.text}</text>`);
-    return `<g class="axis"><rect x="0" y="0" width="${round(view.width)}" height="${view.top - 6}" fill="${theme.ground}"/>${ticks.join("")}<text x="${round(view.left - 10)}" y="${y}" text-anchor="end" font-size="10" fill="${theme.dim}">${name}</text></g>`;
+    return `<g class="axis"><rect x="0" y="0" width="${round(view.width)}" height="${view.top - 6}" fill="${theme.ground}"/>${ticks.join("")}<text x="${round(view.isAbove ? 12 : view.left - 10)}" y="${view.isAbove ? y - 12 : y}" text-anchor="${view.isAbove ? "start" : "end"}" font-size="10" fill="${theme.dim}">${name}</text></g>`;
   }
 
   const drawGrid = (view, theme) => view.ticks
@@ -111,8 +112,9 @@ const Picture = (() => {
   }
 
   function drawName(view, lane, theme, colour) {
-    const first = lane.predicates[0];
-    return `<text x="12" y="${round(lane.y + view.sizes.font * 0.35)}" font-size="${view.sizes.font}"><tspan fill="${theme.dim}">${lane.name}</tspan> <tspan font-weight="600" fill="${first ? colour(first) : theme.ink}">${escaped(lane.text)}</tspan></text>`;
+    const first = lane.predicates[0], { sizes, isAbove } = view, y = isAbove ? lane.y - sizes.radius - (sizes.kind === "roomy" ? 5 : 15) : lane.y + sizes.font * 0.35;
+    const clear = isAbove ? ` paint-order="stroke" stroke="${theme.ground}" stroke-width="3"` : "";
+    return `<text x="12" y="${round(y)}" font-size="${sizes.font}"${clear}><tspan fill="${theme.dim}">${lane.name}</tspan> <tspan font-weight="600" fill="${first ? colour(first) : theme.ink}">${escaped(lane.text)}</tspan></text>`;
   }
 
   /** The lanes that have room for a name: where they stand closer than letters are high, not each of them. */
@@ -127,7 +129,7 @@ const Picture = (() => {
 
   function drawNames(view, theme, colour) {
     const names = lanesWithRoom(view).map((lane) => drawName(view, lane, theme, colour)).join("");
-    return `<g class="names"><rect x="0" y="${view.top - 6}" width="${round(view.left - 8)}" height="${round(view.bottom - view.top + 6)}" fill="${theme.ground}"/>${names}</g>`;
+    return `<g class="names"><rect x="0" y="${view.top - 6}" width="${view.isAbove ? 0 : round(view.left - 8)}" height="${round(view.bottom - view.top + 6)}" fill="${theme.ground}"/>${names}</g>`;
   }
 
   /** The way of a line by which a step made what another one took; lanes and forks show it for processes, so this is for the small ones. */
@@ -210,7 +212,7 @@ const Picture = (() => {
   function drawArrow(view, run, edge) {
     const from = view.marks.get(edge.from), to = view.marks.get(edge.to), look = edge.woke ? "woke" : edge.kind;
     const kind = `read${look === "read" ? "" : ` ${look}`}${edge.implied && !edge.woke ? " implied" : ""}`;
-    return `<g class="edge" data-from="${edge.from}" data-to="${edge.to}"><path class="${kind}" d="${pathOf(curveOf(view, from, to))}" marker-end="url(#head-${look})"/>${view.hasTitles ? `<title>${escaped(tellArrow(run, edge))}</title>` : ""}</g>`;
+    return `<g class="edge" data-from="${edge.from}" data-to="${edge.to}"><path class="${kind}" d="${pathOf(curveOf(view, from, to))}" marker-end="url(#head-${look})"/>${view.hasTitles ? `<title>${escaped(view.shown(tellArrow(run, edge)))}</title>` : ""}</g>`;
   }
 
   /** Whether both ends of an edge lie in one bar. */
@@ -223,7 +225,7 @@ const Picture = (() => {
 
   /** What is said of a step where one points at it. */
   function tellStep(run, step) {
-    const lines = [`step ${step.number}: ${Replies.wordsOf(step)}`];
+    const lines = [`step ${step.number}: ${StepWords.of(step)}`];
     if (run.texts.has(step.goal)) lines.push(Terms.cut(run.texts.get(step.goal), 300));
     if (step.clause && run.clauses[step.clause - 1]) lines.push(run.clauses[step.clause - 1].text);
     for (const binding of step.binds) lines.push(`binds ${binding.variable} = ${Terms.cut(binding.term, 200)}`);
@@ -266,7 +268,7 @@ const Picture = (() => {
   /** The ends of arrows from steps outside the window, each with the number of the step that it comes from where there is room. */
   function drawComing(view, edges, theme) {
     const counts = new Map(), { sizes } = view, parts = [], ends = edges.map((edge) => view.marks.get(edge.to)).filter(Boolean);
-    const hasRoom = (mark, wide) => sizes.kind === "roomy" && mark.x - wide > view.left - sizes.radius && !ends.some((other) => other.y === mark.y && other.x < mark.x && other.x > mark.x - wide);
+    const hasRoom = (mark, wide) => sizes.kind === "roomy" && !view.isAbove && mark.x - wide > view.left - sizes.radius && !ends.some((other) => other.y === mark.y && other.x < mark.x && other.x > mark.x - wide);
     for (const edge of edges) {
       const mark = view.marks.get(edge.to), at = counts.get(edge.to) || 0;
       if (!mark || (edge.kind === "made" && mark.row === 0) || at >= MOST_COMING) continue;
@@ -289,7 +291,7 @@ const Picture = (() => {
     const letters = String(step.number).length, letter = Math.min(sizes.radius * 0.9, (sizes.radius * 3) / letters), isRead = sizes.kind === "roomy" && !mark.isLeaf && letter >= LEAST_LETTER;
     const size = letter < sizes.radius * 0.9 ? ` style="font-size:${round(letter)}px"` : "";
     const number = isRead ? `<text class="number"${size} x="${round(mark.x)}" y="${round(mark.y + sizes.radius * 0.33)}">${step.number}</text>` : "";
-    return `<g class="mark" data-step="${step.number}"><circle class="halo" cx="${round(mark.x)}" cy="${round(mark.y)}" r="${round(halo)}"/>${shapeOf(mark, sizes, fill)}${number}${view.hasTitles ? `<title>${escaped(tellStep(run, step))}</title>` : ""}</g>`;
+    return `<g class="mark" data-step="${step.number}"><circle class="halo" cx="${round(mark.x)}" cy="${round(mark.y)}" r="${round(halo)}"/>${shapeOf(mark, sizes, fill)}${number}${view.hasTitles ? `<title>${escaped(view.shown(tellStep(run, step)))}</title>` : ""}</g>`;
   }
 
   /** Above marks that are too small to hold their numbers: as many of these as have room side by side. */
@@ -327,11 +329,11 @@ const Picture = (() => {
     const binding = mark.step.binds[mark.step.binds.length - 1], value = Terms.brief(binding.term, new Map());
     const end = view.goals.size > 0 ? view.thereX - view.sizes.radius : view.width;
     const room = next ? next.x - mark.x : Math.min(150, end - mark.x), letters = Math.floor((room - 4) / 5.6);
-    const isTelling = /[a-z0-9]|\[\]/.test(value);
-    const forms = [`${binding.variable}=${binding.term}`, ...(isTelling ? [`${binding.variable}=${value}`, value] : []), binding.variable];
+    const isTelling = /[a-z0-9]|\[\]/.test(value), name = view.shown(binding.variable);
+    const forms = [`${name}=${view.shown(binding.term)}`, ...(isTelling ? [`${name}=${value}`, value] : []), name];
     const text = forms.find((form) => form.length <= letters);
     if (!text) return "";
-    return `<text class="bound" x="${round(mark.x - view.sizes.leaf)}" y="${round(mark.y + view.sizes.leaf + 10)}" font-size="9" fill="${theme.dim}">${escaped(text)}</text>`;
+    return `<text class="bound" data-types="${binding.variable}" x="${round(mark.x - view.sizes.leaf)}" y="${round(mark.y + view.sizes.leaf + 10)}" font-size="9" fill="${theme.dim}">${escaped(text)}</text>`;
   }
 
   function drawGoal(view, place, theme) {
@@ -339,23 +341,23 @@ const Picture = (() => {
     const colour = goal.status === "stream" ? theme.read : theme[goal.status] || theme.waits; // of a goal that was there once no status is known
     const dashes = goal.status === "waits" || goal.status === "then" ? ' stroke-dasharray="3 2.4"' : "";
     const cross = goal.status === "failed" ? `<path d="M${round(x - 4)} ${round(y - 4)}l8 8m0 -8l-8 8" stroke="${colour}" stroke-width="2"/>` : "";
-    const told = `${goal.name} ${goal.status}${goal.waitsFor.length ? ` for ${goal.waitsFor.join(", ")}` : ""}${goal.refusal ? ` ${goal.refusal}` : ""}\n${Terms.cut(goal.text, 300)}`;
+    const told = view.shown(`${goal.name} ${goal.status}${goal.waitsFor.length ? ` for ${goal.waitsFor.join(", ")}` : ""}${goal.refusal ? ` ${goal.refusal}` : ""}\n${Terms.cut(goal.text, 300)}`);
     const text = label ? `<text x="${round(x + sizes.radius + 6)}" y="${round(y + sizes.font * 0.35)}" font-size="${sizes.font}" fill="${colour}">${escaped(label)}</text>` : "";
     return `<g class="goal" data-goal="${goal.name}"><circle class="halo" cx="${round(x)}" cy="${round(y)}" r="${round(sizes.radius + 4)}"/><circle class="body" cx="${round(x)}" cy="${round(y)}" r="${radius}" fill="${theme.ground}" stroke="${colour}" stroke-width="${sizes.kind === "tiny" ? 1 : 2.2}"${dashes}/>${cross}${text}<title>${escaped(told)}</title></g>`;
   }
 
   function drawTaken(view, place, theme) {
     const { step, x, y } = place, radius = round(view.sizes.radius * 0.9);
-    return `<g class="taken" data-taken="${step.number}"><circle class="halo" cx="${round(x)}" cy="${round(y)}" r="${radius + 3}"/><circle class="body" cx="${round(x)}" cy="${round(y)}" r="${radius}" fill="${theme.ground}" stroke="${theme.taken}" stroke-width="1.5" stroke-dasharray="3 2"/>${view.sizes.kind === "tiny" ? "" : `<text x="${round(x)}" y="${round(y + 3)}" font-size="${round(view.sizes.radius * 0.85)}" text-anchor="middle" fill="${theme.dim}" pointer-events="none">${step.number}</text>`}<title>${escaped(`taken back: step ${step.number}, ${Replies.wordsOf(step)}`)}</title></g>`;
+    return `<g class="taken" data-taken="${step.number}"><circle class="halo" cx="${round(x)}" cy="${round(y)}" r="${radius + 3}"/><circle class="body" cx="${round(x)}" cy="${round(y)}" r="${radius}" fill="${theme.ground}" stroke="${theme.taken}" stroke-width="1.5" stroke-dasharray="3 2"/>${view.sizes.kind === "tiny" ? "" : `<text x="${round(x)}" y="${round(y + 3)}" font-size="${round(view.sizes.radius * 0.85)}" text-anchor="middle" fill="${theme.dim}" pointer-events="none">${step.number}</text>`}<title>${escaped(view.shown(`undone: step ${step.number}, ${StepWords.of(step)}`))}</title></g>`;
   }
 
   /** The arc from a waiting goal to a goal that has its variable. */
-  function drawWait(wait, theme) {
+  function drawWait(view, wait, theme) {
     const { x, fromX, fromY, toX, toY } = wait, sign = Math.sign(toY - fromY) || 1;
     const bend = Math.min(10, Math.abs(toY - fromY) / 2) * sign;
     const path = `M${round(fromX)} ${round(fromY)} H${round(x - 10)} Q${round(x)} ${round(fromY)} ${round(x)} ${round(fromY + bend)} V${round(toY - bend)} Q${round(x)} ${round(toY)} ${round(x - 10)} ${round(toY)} H${round(toX)}`;
     const kind = wait.isInCircle ? "circle" : "held", colour = wait.isInCircle ? theme.failed : theme.held;
-    return `<g class="wait" data-from-goal="${wait.from}" data-to-goal="${wait.to}"><path class="held ${wait.isInCircle ? "circle" : ""}" d="${path}" marker-end="url(#head-${kind})"/><text x="${round(x + 3)}" y="${round((fromY + toY) / 2 + 3)}" font-size="9.5" fill="${colour}">${wait.variable}</text><title>${escaped(`${wait.from} waits for ${wait.variable}, which ${wait.to} has`)}</title></g>`;
+    return `<g class="wait" data-from-goal="${wait.from}" data-to-goal="${wait.to}"><path class="held ${wait.isInCircle ? "circle" : ""}" d="${path}" marker-end="url(#head-${kind})"/><text x="${round(x + 3)}" y="${round((fromY + toY) / 2 + 3)}" font-size="9.5" fill="${colour}" data-types="${wait.variable}">${escaped(view.shown(wait.variable))}</text><title>${escaped(view.shown(`${wait.from} waits for ${wait.variable}, which ${wait.to} has`))}</title></g>`;
   }
 
   /** What the shapes, colours and lines stand for: pairs of a small drawing and its words. */
@@ -406,13 +408,15 @@ const Picture = (() => {
    * The text of an SVG of a run. `options`: `by` is `record` or `depth`, `room` the width that there is, `theme` is `light` or `dark`,
    * `high` the height that all is to fit into (if it is), `title` a line above it, `legend` whether to say below it what all stands for, `titles` whether steps and reads carry words that a
    * browser shows where one points (they do unless it is false), `leastColumns` how many columns there are at least, and `scope` the class
-   * of the picture, by which its styles go. Gives the text and the places of what it shows.
+   * of the picture, by which its styles go, and `shown` what puts names in the place of a text's variables. Gives the text and the places
+   * of what it shows.
    */
-  function draw(run, options) {
+  function draw(given, options) {
+    const run = options.shown === undefined ? given : { ...given, shown: options.shown };
     const theme = THEMES[options.theme || "light"], colour = coloursOf(run, theme), top = options.title ? 62 : 34, first = top + ((run.incoming || []).length > 0 ? ROOM_OF_COMING : 0);
     const room = options.room || 1100;
     const scope = options.scope || "run", { high, leastColumns } = options;
-    const view = { ...Lanes.layout(run, { by: options.by || "record", room, top: first, high, leastColumns }), top, hasTitles: options.titles !== false };
+    const view = { ...Lanes.layout(run, { by: options.by || "record", room, top: first, high, leastColumns }), top, hasTitles: options.titles !== false, shown: options.shown || ((text) => text) };
     const showsImplied = view.sizes.kind !== "tiny" && run.graph.steps.length <= 500;
     const edges = run.graph.edges.filter((edge) => showsImplied || edge.kind === "made" || !edge.implied || edge.woke);
     const legend = options.legend ? drawLegend(view, run, room, theme, colour) : { text: "", bottom: view.bottom + 12, width: 0 };
@@ -426,7 +430,7 @@ const Picture = (() => {
       ...edges.filter((edge) => !isInside(view, edge)).map((edge) => drawEdge(view, run, edge)), drawComing(view, run.incoming || [], theme), ...[...view.goals.values()].map((place) => drawMadeGoal(view, place)),
       ...[...view.marks.values()].map((mark) => drawMark(view, run, mark, theme, colour)), drawBindings(view, theme), drawSmallNumbers(view, theme),
       ...[...view.goals.values()].map((place) => drawGoal(view, place, theme)), ...view.taken.map((place) => drawTaken(view, place, theme)),
-      ...view.waits.map((wait) => drawWait(wait, theme)),
+      ...view.waits.map((wait) => drawWait(view, wait, theme)),
       drawNames(view, theme, colour), drawAxis(view, theme), legend.text,
       options.title ? `<text x="14" y="27" font-size="17" font-weight="600" fill="${theme.ink}">${escaped(options.title)}</text>` : "", "</svg>",
     ];

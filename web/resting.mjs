@@ -8,21 +8,31 @@ import Elements from "./elements.mjs";
 import GoalRows from "./goal_rows.mjs";
 import Shown from "./shown.mjs";
 import Talk from "./talk.mjs";
+import Walking from "./walking.mjs";
 
 const Resting = (() => {
-  const { find, make, goTo } = Elements;
+  const { find, make } = Elements;
   const MOST_LINKS = 12;
   const plural = (count, word) => `${count} ${word}${count === 1 ? "" : "s"}`;
+
+  /** By which clause a step went, and by which others it could go: each with this run beside. */
+  function choiceParts(others, number) {
+    const [, clauses] = others.find(([step]) => step === number), { clause } = Talk.run.graph.byNumber.get(number);
+    const titleOf = (other) => `keeps this run beside; roll ${number}, then the goal by clause ${other}`;
+    const how = (other) => ({ class: "link", type: "button", "data-try": `${number} ${other}`, title: titleOf(other) });
+    const tries = clauses.flatMap((other, at) => [at > 0 ? ", " : "", make("button", how(other), `try clause ${other}`)]);
+    return [` went by clause ${clause}; `, ...tries, "."];
+  }
 
   /** Lights the steps of a reply to `explain`, and tells what stands in front of them, on which clauses it rests, where another one could be chosen, and their goals as a tree. */
   function tell(name, slice) {
     const { head, numbers, others, last } = slice, rests = Asking.clausesTold(slice, Talk.run.clauses.length);
     Canvas.showSlice(numbers, others.map(([step]) => step));
-    const choices = others.slice(0, MOST_LINKS).flatMap(([step, clauses], index) => [index > 0 ? "; " : "", "step ", goTo(step), " by ",
-      ...clauses.flatMap((clause, at) => [at > 0 ? ", " : "", make("button", { class: "link", "data-try": `${step} ${clause}`, title: `keeps this run beside; roll ${step}, then the goal by clause ${clause}` }, String(clause))])]);
+    const words = `${plural(others.length, "step")} decided, for another clause was open (ringed): `;
+    const walk = () => Walking.along(others.length, (at) => others[at][0], (number) => choiceParts(others, number));
+    const decided = others.length === 0 ? [] : [words, walk(), " "];
     Answers.put(false, make("code", null, `explain ${name}`), " ", ...head.slice(0, MOST_LINKS).flatMap((line, index) => [index > 0 ? ", " : "", ...Elements.linkedLine(Terms.cut(line, 160))]), `, ${last}. `, rests === undefined ? "" : `It ${rests}. `,
-      ...(choices.length > 0 ? ["Another clause could be chosen (ringed): ", ...choices, others.length > MOST_LINKS ? ` and ${others.length - MOST_LINKS} more. ` : ". "] : []),
-      ...(numbers.length > 0 ? [Elements.lineButton("Find the wrong clause", `blame ${name}`, { class: "small" }), GoalRows.of({ numbers, isIn: Shown.slice.isIn }, withGoalText)] : []));
+      ...decided, ...(numbers.length > 0 ? [Elements.lineButton("Find the wrong clause", `blame ${name}`, { class: "small" }), GoalRows.of({ numbers, isIn: Shown.slice.isIn }, withGoalText)] : []));
   }
 
   /** Rings all that would go if a value or a goal were to stand alone, and asks once more. */

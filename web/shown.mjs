@@ -6,6 +6,7 @@ const Shown = {
   isFit: false, // whether all of the run is in the window
   chosen: null, // `{ step }` or `{ goal }`
   slice: null, // the steps on which something rests that was explained: `{ isIn, count }`, by their places in the record
+  visited: null, // the step that one has come to among those that are lit
   asked: null, // the part of a call that is asked about, and what was told right: `{ goal, isIn, count, isRight }`, likewise
 };
 

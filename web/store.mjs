@@ -7,22 +7,22 @@ import Answers from "./answers.mjs";
 import Canvas from "./canvas.mjs";
 import Deeds from "./deeds.mjs";
 import Elements from "./elements.mjs";
+import Names from "./names.mjs";
 import Overview from "./overview.mjs";
 import Talk from "./talk.mjs";
 
 const Store = (() => {
   const { find, make, lineButton, goTo, fillRows } = Elements;
   const MOST_ROWS = 100, MOST_LOOKED_AT = 2000, MOST_PARTS = 40, MOST_DEEP = 6, LONGEST_ATOM = 60;
+  const LONGEST_BINDING = 160;
   const { isVariable, argumentsOf } = Explain;
 
   /** A part of a value as a button; `path` leads to it from the row's variable. */
   const part = (root, path, ...words) => make("button", { class: "part", type: "button", "data-root": root, "data-path": path.join("."), title: "lights the step that gave this" }, ...words);
 
   /** The end of a chain of bindings. */
-  function endOf(term) {
-    const { store } = Overview.run().graph;
-    return Printed.endOfChain(term, (end) => (isVariable(end) ? store.get(end) : undefined));
-  }
+  const endIn = ({ store }, term) => Printed.endOfChain(term, (end) => (isVariable(end) ? store.get(end) : undefined));
+  const endOf = (term) => endIn(Overview.run().graph, term);
 
   function listParts(root, path, term, room) {
     const parts = [part(root, path, "[")];
@@ -50,16 +50,58 @@ const Store = (() => {
     return [part(root, path, `${end.slice(0, end.indexOf("("))}(`), ...inner, ")"];
   }
 
-  const row = (name, variable, by, room) => make("div", { class: "row value" }, make("button", { class: "name", "data-variable": name, title: "show, who, what it rests on" }, make("b", null, name)), " = ",
-    ...termParts(variable, [], variable, room), by === undefined ? null : make("span", { class: "dim" }, "  by ", goTo(by)));
+  function nameButton(variable) {
+    const how = { class: "name", "data-variable": variable, title: "show, who, what it rests on" };
+    return make("button", how, make("b", null, variable));
+  }
+
+  /** A row of the panel, with names in the place of variables. */
+  const valueRow = (...parts) => Names.dress(make("div", { class: "row value" }, ...parts), { isInList: true });
+
+  /** What a variable of the query is bound to, as far as it is known. */
+  function row(name, variable, room) {
+    const isBound = endOf(variable) !== variable;
+    if (!isBound) return valueRow(nameButton(name), make("span", { class: "dim" }, " is not bound"));
+    return valueRow(nameButton(name), " = ", ...termParts(variable, [], variable, room));
+  }
+
+  /** A variable of the query and its value, for the result of a run. */
+  function resultOf(name, variable) {
+    const parts = termParts(variable, [], variable, { parts: MOST_PARTS });
+    return [make("code", { class: "value" }, nameButton(name), " = ", ...parts)];
+  }
+
+  /** The value of a variable in a graph as a text, as far as it is known and a line holds it. */
+  function textOf(graph, variable) {
+    const words = [], left = [variable];
+    while (left.length > 0 && words.length < MOST_PARTS * 2) {
+      const end = endIn(graph, left.pop()), isCell = end.startsWith("[") && end !== "[]", terms = argumentsOf(end);
+      words.push(isCell ? "[" : terms.length > 0 ? end.slice(0, end.indexOf("(") + 1) : end);
+      if (isCell) left.push(...inList(graph, end));
+      else if (terms.length > 0) left.push(")", ...terms.reverse().flatMap((term, at) => (at > 0 ? [",", term] : [term])));
+    }
+    return `${words.join("")}${left.length > 0 ? "…" : ""}`;
+  }
+
+  /** What stands within a list's brackets and the closing one, the last first. */
+  function inList(graph, list) {
+    const parts = [];
+    let rest = list;
+    while (rest.startsWith("[") && rest !== "[]" && parts.length < MOST_PARTS * 2) {
+      const [head, tail] = argumentsOf(rest);
+      parts.push(...(parts.length > 0 ? [","] : []), head);
+      rest = endIn(graph, tail);
+    }
+    return [...parts, ...(rest === "[]" ? [] : ["|", rest]), "]"].reverse();
+  }
 
   /** The values of the query's variables, which are made anew each time; then all bindings, the newest first, each of which stays what it is. */
   function rows() {
     const { graph } = Overview.run(), { query } = Talk.given, values = [], bindings = [];
-    for (const [name, variable] of Asking.queryVariables(query)) values.push({ key: null, does: () => row(name, variable, undefined, { parts: MOST_PARTS * 3 }) });
+    for (const [name, variable] of Asking.queryVariables(query)) values.push({ key: null, does: () => row(name, variable, { parts: MOST_PARTS * 3 }) });
     for (let at = graph.count - 1; at >= 0 && at > graph.count - MOST_LOOKED_AT && bindings.length < MOST_ROWS; at--) {
       const step = graph.stepAt(at);
-      for (const { variable, term } of [...step.binds].reverse()) bindings.push({ key: `${variable} ${step.number} ${term}`, does: () => bindingRow(variable, step.number) });
+      for (const { variable, term } of [...step.binds].reverse()) bindings.push({ key: Names.shown(`${variable} ${step.number} ${Terms.cut(term, LONGEST_BINDING)}`), does: () => bindingRow(variable, step.number) });
     }
     return { values, bindings };
   }
@@ -67,8 +109,8 @@ const Store = (() => {
   /** A binding as it was made, with no binding followed. */
   function bindingRow(variable, by) {
     const term = Overview.run().graph.termOf(variable);
-    return make("div", { class: "row value" }, make("button", { class: "name", "data-variable": variable, title: "show, who, what it rests on" }, make("b", null, variable)), " = ",
-      part(variable, [], Terms.cut(term, 160)), make("span", { class: "dim" }, "  by ", goTo(by)));
+    const value = part(variable, [], Terms.cut(term, LONGEST_BINDING));
+    return valueRow(nameButton(variable), " = ", value, make("span", { class: "dim" }, "  by ", goTo(by)));
   }
 
   /** Where a part of a value stands, for a question about it: the variable nearest above it, where that is not the value's own. */
@@ -118,7 +160,7 @@ const Store = (() => {
       ...(shown.length > 0 ? [`. On the way to it: ${before}step `, ...shown.flatMap((step, index) => [index > 0 ? ", " : "", goTo(step)])] : []), ". Its causes are lit. ", blameButton(root, path));
   }
 
-  return { show, explain };
+  return { show, explain, resultOf, textOf };
 })();
 
 export default Store;

@@ -23,10 +23,10 @@ const Tour = (() => {
       click("step 1.2", "A square computes. Now the second price: click 1.2, then `Step`."),
       click("step 4.1", "And its sum: click 4.1, then `Step`."),
       click("step 1.3", "Both prices are there, and the sum has become ready. Click 1.3, then `Step`."),
-      click("show T", "In the store, click `T`, then `Show`."),
+      click("show T", "Among the values, click `T`, then `Show`."),
     ] },
     { name: "Which clause was it?", session: "first", stations: [
-      click("blame T", "T is 150, and should be 126. Which clause is to blame? In the store, click `T`, then `Find the wrong clause`: you are asked about a call, what it was given and what it gave."),
+      click("blame T", "T is 150, and should be 126. Which clause is to blame? Among the values, click `T`, then `Find the wrong clause`: you are asked about a call, what it was given and what it gave."),
       click("blame T -0.1", "Is 150 right for 12 and 3 pieces? No: click `Wrong`. In the console you see how that is typed: `-0.1` says that what goal 0.1 gave is wrong."),
       click("blame T -0.1 -1.1", "Twelve pieces for 120? They cost 96: click `Wrong`."),
     ] },
@@ -40,33 +40,33 @@ const Tour = (() => {
       click("step 1.1 3", "Click 1.1, and choose clause 3, for ten pieces or more."),
       click("step 7.1", "Click 7.1, then `Step`."),
       click("step 1.3", "Click 1.3, then `Step`."),
-      click("show T", "In the store, click `T`, then `Show`."),
-      click("shelf", "126, as it should be; step 5 was used as it stood. What was taken back is not lost: click `shelf`, beside Taken back. Each of these could be redone."),
+      click("show T", "Among the values, click `T`, then `Show`."),
+      click("shelf", "126, as it should be; step 5 was used as it stood. What was taken back is not lost: click `shelf`, beside Undone. Each of these could be redone."),
     ] },
     { name: "Where does a value come from?", session: "again", stations: [
-      click("who T", "The first run stands here once more. Who bound T? In the store, click `T`, then `Who bound it?`"),
+      click("who T", "The first run stands here once more. Who bound T? Among the values, click `T`, then `Who bound it?`"),
       click("why 6", "Step 6 did. In the picture, click step 6: its causes light up. Then `Why?`"),
-      type("explain _1_1", "It read two prices. One line tells on which steps a value rests: type `explain _1_1`. Behind step 2 stands `or 3`: another clause could have been chosen there."),
+      type("explain _1_1", "It read two prices, P₁ and Q₁, which the console calls `_1_1` and `_1_2`. One line tells on which steps a value rests: type `explain _1_1`. Behind step 2 stands `or 3`: another clause could have been chosen there."),
     ] },
     { name: "Try another continuation", session: "asked", stations: [
       click("roll 2", "The first run once more. What would the bill be if twelve pieces cost 7 each? No clause says so. Take step 2 back with what came of it: click it, then `Roll back`."),
-      click("ask _1_1 := 12 * 7", "The sum waits for `_1_1` now. Ask for another price in its place: click `ask …`, beside the word Goals, type `_1_1 := 12 * 7`, and press `Enter`."),
+      click("ask _1_1 := 12 * 7", "The sum waits for P₁ now, which the console calls `_1_1`. Ask for another price in its place: click `Add goals`, type `_1_1 := 12 * 7`, and press `Enter`."),
       click("step 7.1", "The ask is step 7, a hexagon: it consumed no goal, and it depends on step 1, which made `_1_1`. Click 7.1, which it made, then `Step`."),
       click("step 1.3", "Click 1.3, then `Step`."),
-      click("show T", "In the store, click `T`, then `Show`."),
+      click("show T", "Among the values, click `T`, then `Show`."),
       click("why 7", "114. Click step 7, then `Why?`"),
     ] },
     { name: "Mend the program", session: "mended", stations: [
       click("step 0.1", "The run was mended; now the program is, too: clause 2 says `N > 0, N < 10`. Click 0.1, then `Step`."),
       type("step 1.1 2", "The menu of 1.1 does not offer clause 2 any more. Try it all the same: type `step 1.1 2`."),
       type("leap", "It says no now: the choice is no longer free. Let it run on: type `leap`."),
-      click("show T", "In the store, click `T`, then `Show`."),
+      click("show T", "Among the values, click `T`, then `Show`."),
     ] },
   ];
 
   /** All stations in one row, each with its chapter's name and the session in which it stands. */
   const STATIONS = CHAPTERS.flatMap((chapter) => chapter.stations.map((station) => ({ ...station, chapter: chapter.name, session: chapter.session })));
-  const END = "126. That was the tour. Choose an example above, press `Run`, click what you see, and `ask …` for more goals; or type `leap` in the console. The key `?` tells what keys do.";
+  const END = "126. That was the tour. Choose an example above, press `Run`, click what you see, and `Add goals`; or type `leap` in the console. The key `?` tells what keys do.";
 
   /** The lines that lead to a station, from the beginning of its session. */
   function linesBefore(index) {

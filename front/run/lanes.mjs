@@ -9,7 +9,8 @@ const Lanes = (() => {
   const MOST_CLEAR_ROWS = 5;
   const MANY = 1024; // steps between two places where one may pause
   const MOST_ARCS = 40;
-  const NARROW = 600; // the room below which names are short
+  const NARROW = 600; // the room below which names are short, and stand above their lanes where the picture is not made to fit
+  const LEAST_LEFT = 22; // points beside the first step where names stand above
   const BOLD_LETTER = 0.62, LETTER = 0.56; // the width of a letter, as a part of the font's size
 
   const SORTS = ["call", "unification", "assignment", "stream", "stream"]; // of the goal of a step, by the step's kind
@@ -347,12 +348,15 @@ const Lanes = (() => {
   /** The lanes of a run, from the top, each with its steps and the goals that are there. */
   const lanesOf = (run) => lanesIn(run, runLanes(run), 0, run.graph.count, run.goals);
 
+  /** A text as a run's reader knows it: where `shown` is given, with names in the place of numbers of variables. */
+  const shownIn = (run, text) => (run.shown === undefined ? text : run.shown(text));
+
   const shortName = (predicate) => predicate.split("/")[0];
 
   /** What stands at the beginning of an ask's lane: the word, and its first goal with what is known by now. */
   function askText(step, run, store, longest) {
     const [first, ...others] = step.makes, text = (first && (run.texts.get(first) || Printed.splitOutside(step.act.slice(4), ",")[0])) || "true";
-    const told = Printed.sortOfText(text) === "call" ? Terms.briefCall(text, store) : text;
+    const told = Printed.sortOfText(text) === "call" ? Terms.briefCall(text, store) : shownIn(run, text);
     return Terms.cut(`ask ${told}${others.length > 0 ? ", …" : ""}`, longest);
   }
 
@@ -362,7 +366,7 @@ const Lanes = (() => {
     const text = run.texts.get(lane.name) || (lane.goals.find((goal) => goal.name === lane.name) || { text: "" }).text;
     const kind = kinds.get(lane.name);
     if (kind && kind.sort === "stream") return `stream ${text.split(" ")[1] || ""}`;
-    if (isSmall(kind)) return Terms.cut(text, longest);
+    if (isSmall(kind)) return Terms.cut(shownIn(run, text), longest);
     if (lane.predicates.length > 1 || text === "") return Terms.cut(lane.predicates.slice(0, 3).map(shortName).join(" → "), longest);
     return Terms.cut(Terms.briefCall(text, store), longest);
   }
@@ -426,7 +430,7 @@ const Lanes = (() => {
   function bestSizes(run, options, columns, lanes, letters) {
     const large = leastLarge(run), isAs = (sizes, kind) => RANKS[sizes.kind] >= RANKS[kind] && (kind !== "roomy" || sizes.radius >= large - 0.01);
     const looks = LOOKS.map(([kind, labels]) => {
-      const sides = letters * 7.4 + roomForGoals(run, labels), sizes = sizesFor(options.room, columns, lanes, sides, options.high !== undefined);
+      const sides = (isAbove(options) ? 0 : letters * 7.4) + roomForGoals(run, labels), sizes = sizesFor(options.room, columns, lanes, sides, options.high !== undefined);
       return { isLarge: isAs(sizes, kind), fits: sides + columns * sizes.dx < options.room + 1, sizes: { ...sizes, labels } };
     });
     const scrolled = looks.filter(({ isLarge, sizes }) => isLarge && sizes.labels !== "long"); // where nothing fits, one scrolls
@@ -434,15 +438,15 @@ const Lanes = (() => {
   }
 
   /** What stands after a goal that is there: `labels` is `long`, `name` or `none`. */
-  function goalLabel(goal, labels) {
+  function goalLabel(run, goal, labels) {
     if (labels === "none") return "";
     if (labels === "name") return goal.name;
     const told = { waits: ` waits ${goal.waitsFor.join(",")}`, failed: ` failed ${goal.refusal}` }[goal.status] || "";
-    return `${goal.name} ${Terms.cut(goal.text, 26)}${Terms.cut(told, 22)}`;
+    return `${goal.name} ${Terms.cut(shownIn(run, goal.text), 26)}${Terms.cut(shownIn(run, told), 22)}`;
   }
 
   /** The width of a column of arcs, with their variables. */
-  const arcWidth = (edges) => 10 + Math.max(0, ...edges.map((edge) => edge.variable.length)) * 6;
+  const arcWidth = (run, edges) => 10 + Math.max(0, ...edges.map((edge) => shownIn(run, edge.variable).length)) * 6;
 
   const MOST_TAKEN = 3; // steps that are shown beside their goal
   const taken = new WeakMap(); // by lists of steps that were taken back: those of each goal that is there
@@ -470,10 +474,13 @@ const Lanes = (() => {
   /** About how much room the goals that are there take up, with their labels, what was taken back from them, and the arcs of waits. */
   function roomForGoals(run, labels) {
     if (run.goals.length === 0) return 96;
-    const widths = run.goals.map((goal) => goalLabel(goal, labels).length * 7 + takenFrom(run, goal).length * 30);
+    const widths = run.goals.map((goal) => goalLabel(run, goal, labels).length * 7 + takenFrom(run, goal).length * 30);
     const edges = Stuck.edgesOf(run.goals).slice(0, MOST_ARCS);
-    return 70 + Math.max(...widths) + Math.min(3, edges.length) * arcWidth(edges);
+    return 70 + Math.max(...widths) + Math.min(3, edges.length) * arcWidth(run, edges);
   }
+
+  /** Do the names of lanes stand above them? Beside them they would take too much of a narrow window. */
+  const isAbove = ({ room, high }) => room < NARROW && high === undefined;
 
   /** The numbers above the columns; `before` is how many columns of the run stand before the first one. */
   function axis(columns, dx, x, before) {
@@ -492,7 +499,7 @@ const Lanes = (() => {
     for (const lane of view.lanes) {
       for (const goal of lane.goals) {
         const x = view.thereX, y = view.yOf(lane, view.rows.get(goal.name));
-        const label = goalLabel(goal, sizes.labels);
+        const label = goalLabel(run, goal, sizes.labels);
         let end = x + sizes.radius + 6 + label.length * sizes.font * LETTER;
         for (const step of takenFrom(run, goal)) {
           end += sizes.radius * 2 + 8;
@@ -526,7 +533,7 @@ const Lanes = (() => {
       const from = view.goals.get(edge.from), to = view.goals.get(edge.to);
       return { ...edge, fromX: from.end + 4, fromY: from.y + 4, toX: to.end + 6, toY: to.y - 4, isInCircle: isInCircle(edge) };
     });
-    const wide = arcWidth(edges), columns = columnsOfArcs(view.waits);
+    const wide = arcWidth(run, edges), columns = columnsOfArcs(view.waits);
     for (const wait of view.waits) wait.x = right + 22 + wait.column * wide;
     return right + 22 + columns * wide;
   }
@@ -534,8 +541,8 @@ const Lanes = (() => {
   function placeLanes(view, top) {
     let y = top;
     for (const lane of view.lanes) {
-      lane.y = y + view.sizes.row / 2;
-      y += view.sizes.row + (lane.rows - 1) * view.sizes.leafRow + ((lane.rows > 1 && view.sizes.kind === "roomy" ? 8 : 0) + 2) * (view.sizes.gap || 1);
+      lane.y = y + view.nameRoom + view.sizes.row / 2;
+      y += view.nameRoom + view.sizes.row + (lane.rows - 1) * view.sizes.leafRow + ((lane.rows > 1 && view.sizes.kind === "roomy" ? 8 : 0) + 2) * (view.sizes.gap || 1);
     }
     return y;
   }
@@ -564,10 +571,12 @@ const Lanes = (() => {
     }
     const letters = Math.max(8, ...lanes.map((lane) => lane.name.length + lane.text.length + 2));
     const sizes = bestSizes(run, options, columns, lanes.length, letters);
-    const left = 24 + letters * sizes.font * BOLD_LETTER;
+    const left = isAbove(options) ? LEAST_LEFT : 24 + letters * sizes.font * BOLD_LETTER;
     const x = (column) => left + column * sizes.dx + sizes.dx / 2;
     const view = { by: options.by, lanes, laneOf, kinds, rows, makerOf, sizes, left, columns, store, marks: new Map(), goals: new Map(), taken: [], waits: [] };
     view.yOf = (lane, row) => lane.y + row * sizes.leafRow;
+    view.nameRoom = isAbove(options) ? sizes.font + (sizes.kind === "roomy" ? 3 : 13) : 0;
+    view.isAbove = isAbove(options);
     view.thereX = left + columns * sizes.dx + sizes.radius + 6;
     view.bottom = placeLanes(view, options.top);
     if (options.high !== undefined && view.bottom > options.high) {

@@ -24,7 +24,7 @@ inBrowsers("what a value rests on is lit, the other choice is ringed, and a clic
   assert.equal((await page.value(lines)).at(-1), "explain _1_1");
   assert.deepEqual(await page.value(numbers("#canvas .mark.cause")), [1, 2, 3]);
   assert.deepEqual(await page.value(numbers("#canvas .mark.or")), [2]);
-  assert.match(await page.value(text("answer")), /^explain _1_1 _1_1 = 120, steps 3 of 6\. It rests on 2 of 3 clauses: 1, 2\. Another clause could be chosen \(ringed\): step 2 by 3\./);
+  assert.match(await page.value(text("answer")), /^explain P₁ P₁ = 120, steps 3 of 6\. It rests on 2 of 3 clauses: 1, 2\. 1 step decided, for another clause was open \(ringed\): step 2 went by clause 2; try clause 3\./);
   await page.click('#answer [data-goto="2"]');
   assert.deepEqual(await page.value("Canvas.chosen"), { step: 2 });
   assert.deepEqual(await page.value(numbers("#canvas .mark.or")), []);

@@ -37,7 +37,7 @@ inBrowsers("a fault in what shows a change is told, all else is shown, and the n
   await open(page, "#example=append", WIDE);
   await page.value(`(Talk.plain = Looking.follow, Looking.follow = ${faults("one")}, Talk.send("step 0.1"))`);
   assert.ok((await page.value(text("note"))).startsWith(`${told}one. The lines are kept: Save writes them.`));
-  assert.equal(await page.value(text("count")), "1 step, depth 1", "what comes after it is shown");
+  assert.equal(await page.value(text("count")), "1 step, longest chain 1", "what comes after it is shown");
   await page.value('(Looking.follow = Talk.plain, Talk.send("step 1.1"))');
   assert.deepEqual(await page.value(lines), ["step 0.1", "step 1.1"]);
   assert.equal(await page.value(text("note")), "");
@@ -63,13 +63,13 @@ inBrowsers("30,000 goals that wait for one variable freeze nothing: a run, a cli
     await page.value(begin(WAIT, `many(${WAITERS},X)`));
     return 'Talk.send("leap")';
   });
-  const stuck = /^Nothing is ready, and 30000 goals wait\. \d+\.1 waits for _0_1 \(X\): nobody can bind it/;
+  const stuck = /^Nothing is ready, and 30000 goals wait\. \d+\.1 waits for X: nobody can bind it/;
   assert.match(await page.value(text("note")), stuck);
   const name = await page.value('Talk.run.goals.find((goal) => goal.status === "waits").name');
   const opens = `Menus.open({ goal: "${name}" }, document.getElementById("canvas"))`;
   const chooses = `Canvas.choose({ goal: "${name}" })`;
   await flows("a click", page, () => `(Menus.close(), ${chooses}, ${opens}, Promise.resolve())`);
-  assert.ok((await page.value(text("menu"))).startsWith(`Goal ${name} waitsw(_0_1)It waits for _0_1.`));
+  assert.ok((await page.value(text("menu"))).startsWith(`Goal ${name} waitsw(X)It waits for X.`));
   await page.value("Menus.close()");
   const last = await page.value("Talk.run.graph.numbers.at(Talk.run.graph.count - 1)");
   await flows("an undo and a redo", page, () => `(Talk.send("undo ${last}"), Talk.send("redo ${last}"))`);

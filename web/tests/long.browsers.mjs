@@ -27,7 +27,7 @@ inBrowsers("a run of 100,000 steps is drawn while the page goes on; a further st
     await page.value(WATCH);
     return measured(page, 'Talk.send("leap 100000")');
   });
-  assert.equal(await page.value('document.getElementById("count").textContent'), "100000 steps, depth 40003");
+  assert.equal(await page.value('document.getElementById("count").textContent'), "100000 steps, longest chain 40003");
   assert.ok(await page.value('(() => { const count = document.getElementById("count"); return count.scrollWidth <= count.clientWidth + 1; })()'), "the count is not cut");
   assert.ok(await page.value('!document.getElementById("overview").hidden && document.querySelectorAll("#canvas .mark").length > 10'));
   await quickEnough("a step", ({ took, slowness }) => took <= LONGEST_STEP * slowness, async () => {
@@ -51,7 +51,7 @@ inBrowsers("a line that is at work is stopped: the run stands where it stood, th
   await page.value('(Talk.send("leap 1000000"), new Promise((done) => setTimeout(done, 600)))');
   await page.click("#stop");
   await page.value("Talk.settled()");
-  assert.equal(await page.value('document.getElementById("count").textContent'), "20 steps, depth 20");
+  assert.equal(await page.value('document.getElementById("count").textContent'), "20 steps, longest chain 20");
   assert.match(await page.value('document.getElementById("told").textContent'), /stopped by hand after [\d.]+ s: not taken; the run stands where it stood/);
   assert.doesNotMatch(await page.value("Files.sessionText()"), /1000000/);
   await page.value('Talk.send("leap 5")');
@@ -65,12 +65,12 @@ if (process.env.GHCDB_LONG === "1") {
     await page.value(WATCH);
     await page.value('(Talk.send("leap"), new Promise((done) => { const look = () => (Talk.busy && Talk.busy.read > 100000 ? done(true) : setTimeout(look, 5)); look(); }))');
     await page.value("(Talk.stop(), Talk.settled())");
-    assert.equal(await page.value('document.getElementById("count").textContent'), "0 steps, depth 0", "it is stopped while it is read");
+    assert.equal(await page.value('document.getElementById("count").textContent'), "0 steps, longest chain 0", "it is stopped while it is read");
     await quickEnough("the run", ({ freeze, slowness }) => freeze <= LONGEST_FREEZE * slowness, async () => {
       await page.value('(Page.begin({ program: "loop :- true | loop.\\n", query: "loop" }), Talk.settled())');
       return measured(page, 'Talk.send("leap")');
     });
-    assert.equal(await page.value('document.getElementById("count").textContent'), "1000000 steps, depth 1000000");
+    assert.equal(await page.value('document.getElementById("count").textContent'), "1000000 steps, longest chain 1000000");
     assert.match(await page.value('document.getElementById("overview").getAttribute("aria-valuetext")'), /of 1000000/);
     assert.equal(await page.value('document.getElementById("undo-last").dataset.line'), "undo 1000000");
   });

@@ -2,6 +2,7 @@
 // one, no part of the page beyond the window, and enough contrast, on wide and narrow windows, light and dark.
 import assert from "node:assert/strict";
 import { inBrowsers, open } from "./lib/in_browsers.mjs";
+import { CONTRAST } from "./lib/contrast.mjs";
 import { until } from "./lib/using.mjs";
 
 const SIZES = { wide: [1440, 900], phone: [390, 800] };
@@ -27,31 +28,10 @@ const TEXTS = `(() => {
   return wrong;
 })()`;
 
-/** The texts of the page whose contrast with what is behind them is below 4.5; what is switched off does not count. */
-const CONTRAST = `(() => {
-  const light = ([red, green, blue]) => [red, green, blue].map((value) => value / 255).map((part) => (part <= 0.03928 ? part / 12.92 : ((part + 0.055) / 1.055) ** 2.4)).reduce((sum, part, at) => sum + part * [0.2126, 0.7152, 0.0722][at], 0);
-  const parts = (colour) => (colour.match(/[\\d.]+/g) || []).map(Number), ratio = (one, other) => (Math.max(one, other) + 0.05) / (Math.min(one, other) + 0.05);
-  const behind = (element) => { for (let at = element; at; at = at.parentElement) { const found = parts(getComputedStyle(at).backgroundColor); if (found.length === 3 || found[3] === 1) return found; } return [255, 255, 255]; };
-  const wrong = [];
-  for (const element of document.querySelectorAll("body *:not(svg *)")) {
-    const isText = [...element.childNodes].some((node) => node.nodeType === 3 && node.textContent.trim() !== "") || element.matches("input:not([type=range]), textarea, select");
-    if (!isText || element.getClientRects().length === 0 || element.closest(":disabled, option, script, style, #program-lines")) continue;
-    const value = ratio(light(parts(getComputedStyle(element).color)), light(behind(element)));
-    if (value < 4.5) wrong.push(value.toFixed(2) + " " + element.tagName + " " + (element.id || element.className) + " " + element.textContent.slice(0, 20));
-  }
-  const ground = light(parts(getComputedStyle(document.getElementById("canvas")).backgroundColor));
-  for (const text of document.querySelectorAll("#canvas svg text:not([pointer-events]):not(.number)")) for (const part of text.children.length > 0 ? text.children : [text]) {
-    if (part.tagName === "title") continue;
-    const value = ratio(light(parts(getComputedStyle(part).fill)), ground);
-    if (value < 4.5) wrong.push(value.toFixed(2) + " in the picture " + part.textContent);
-  }
-  return wrong;
-})()`;
-
 /** The parts of the page that reach beyond the window's width, and labels of buttons that are cut. */
 const PARTS = `(() => {
   const wrong = [];
-  for (const element of document.querySelectorAll("header *, .tools *, #answer *, #blame *, #note *, #panels h2 *")) {
+  for (const element of document.querySelectorAll("header *, .tools *, #answer *, #blame *, #note *, #panels .heading *")) {
     const box = element.getBoundingClientRect();
     if (box.width === 0 || element.closest("option, select, [hidden]")) continue;
     if (box.right > innerWidth + 1) wrong.push("beyond the window: " + (element.id || element.textContent));
@@ -146,7 +126,8 @@ inBrowsers("of a run of 12,000 steps the numbers can be read, and the arrows fro
 });
 
 inBrowsers("where the picture is scrolled, the axis has no number above the names of lanes, and its name stays", async (page) => {
-  await open(page, "#example=primes&query=primes(30,Ps)&lines=leap 50", SIZES.phone);
+  await open(page, "#example=primes&query=primes(30,Ps)&lines=leap 50", SIZES.wide);
+  await page.value("(Canvas.choose(null), document.getElementById('canvas').scrollTo(200, 0), new Promise((done) => setTimeout(() => done(true), 100)))");
   const told = await page.value(`(() => { const names = document.querySelector("#canvas .names rect").getBoundingClientRect().right, words = [...document.querySelectorAll("#canvas .axis text")].filter((one) => one.getClientRects().length > 0);
     return words.map((one) => { const box = one.getBoundingClientRect(); return [one.textContent, (box.left + box.right) / 2 >= names - 1, box.left >= 0]; }); })()`);
   assert.deepEqual(told.filter(([, isBeyond]) => !isBeyond), [["recorded order", false, true]]);

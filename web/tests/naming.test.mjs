@@ -21,3 +21,20 @@ test("a name that a call has already is taken by no other variable", () => {
   assert.equal(naming.asQuery("q(_1_1,_2_1,_1_2,_3_1)"), "q(M,M2,M22,M3)");
   assert.equal(naming.asQuery("q(_1_3,_0_1)"), "q(V,V2)");
 });
+
+test("of a text that is refused there are no names, and nothing fails", () => {
+  for (const given of [{ program: PROGRAM, query: "qs(ä" }, { program: "p(X :- ä", query: "p(X)" }]) {
+    const naming = new Naming(given, Graph.graphOf([]));
+    assert.equal(naming.shown("f(_1_1)"), "f(_1_1)");
+    assert.equal(naming.variableOf("M₁"), undefined);
+  }
+});
+
+test("a text is taken apart into texts and names, and a name leads back to its variable", () => {
+  const graph = Graph.graphOf(["1 0.1 by 2 reads - binds - makes 1.1,1.2,1.3"]);
+  const naming = new Naming({ program: PROGRAM, query: "qs([5,2],R,[])" }, graph);
+  assert.deepEqual(naming.partsOf("f(_0_1,_9_1) waits for _1_3"), ["f(", { variable: "_0_1", name: "R" }, ",_9_1) waits for ", { variable: "_1_3", name: "M₁" }]);
+  assert.deepEqual(naming.partsOf("qs(a_1_2)"), ["qs(a_1_2)"]);
+  const variables = { R: "_0_1", "M₁": "_1_3", "S₁": "_1_1", M: undefined, "R₁": undefined, "M₂": undefined, part: undefined };
+  for (const [name, variable] of Object.entries(variables)) assert.equal(naming.variableOf(name), variable, name);
+});

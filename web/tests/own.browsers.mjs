@@ -86,7 +86,7 @@ inBrowsers("a line is told not to be taken where nothing runs; a limit is told i
   assert.ok(!(await page.value("Files.sessionText()")).includes("> goals"), "and is not saved");
   await startOwn(page, "n(0,L) :- true | L = [].\nn(N,L) :- N > 0 | L = [123456789|M], N1 := N - 1, n(N1,M).\n", "n(120000,L)");
   await page.value('Talk.send("leap", "show L")');
-  assert.equal(await page.value(text("answer")), "show L was refused: F6 limit: printthe bytes of a printed term or goal: 1,048,576 at most. The store shows how each value begins.×");
+  assert.equal(await page.value(text("answer")), "show L was refused: F6 limit: printthe bytes of a printed term or goal: 1,048,576 at most. Values shows how each one begins.×");
 });
 
 inBrowsers("a file in Latin-1, with other line ends, with its query in a comment, or that is no text", async (page) => {
@@ -126,12 +126,12 @@ inBrowsers("a program that is too long is not pasted or opened; of a long one th
 
 inBrowsers("where nothing is ready, the page tells who waits for what, and what to do", async (page) => {
   await open(page, "#example=deadlock&query=after(A,B)", WIDE);
-  assert.equal(await page.value(text("note")), "Nothing is ready, and a goal waits. 0.1 waits for _0_1 (A): nobody can bind it (no other goal has it). ask … adds a goal that binds it.");
+  assert.equal(await page.value(text("note")), "Nothing is ready, and a goal waits. 0.1 waits for A: nobody can bind it (no other goal has it). Add goals adds one that binds it.");
   await page.click("#ask-more");
   await page.type("A = done");
   await page.key("Enter");
   await page.click("#leap");
   assert.equal(await page.value('document.querySelector("#goals").textContent'), "none: all is done");
   await open(page, "#example=deadlock&query=after(A,B), after(B,C)", WIDE);
-  assert.equal(await page.value(text("note")), "Nothing is ready, and 2 goals wait. 0.1 waits for _0_1 (A): nobody can bind it (no other goal has it). ask … adds a goal that binds it.");
+  assert.equal(await page.value(text("note")), "Nothing is ready, and 2 goals wait. 0.1 waits for A: nobody can bind it (no other goal has it). Add goals adds one that binds it.");
 });

@@ -81,7 +81,7 @@ test("the picture shows an ask with no goal before it, arrows from what it names
   const [lane] = view.lanes.filter((one) => one.name === "2"), { x } = view.marks.get(2);
   const parts = [...svg.matchAll(/<line class="lane" x1="([\d.]+)" x2="[\d.]+" y1="([\d.]+)"/g)].filter(([, , y]) => Math.abs(Number(y) - lane.y) < 0.1);
   assert.ok(parts.length > 0 && parts.every(([, from]) => Number(from) > x - 0.1), "nothing of the lane stands before the ask");
-  assert.ok(Picture.tellStep(run, run.graph.byNumber.get(2)).startsWith("step 2: ask append(_0_1,[3],_2_1), _1_1 = [7]\n"));
+  assert.ok(Picture.tellStep(run, run.graph.byNumber.get(2)).startsWith("step 2: goals were added: append(_0_1,[3],_2_1), _1_1 = [7]\n"));
   assert.match(svg, /class="legend">.*>ask<.*>named</);
   const without = Picture.draw({ ...run, graph: Graph.graphOf(run.graph.steps.slice(0, 1)), goals: [], shelf: [] }, { legend: true }).svg;
   assert.doesNotMatch(without, /class="legend">.*>(ask|named)</);

@@ -12,6 +12,7 @@ const SCREEN = `(() => {
   return {
     goals: goals.length > 0 ? goals : textsOf("#goals"), values: textsOf("#store .row"), steps,
     names: textsOf("#canvas .names text").sort(), count: document.getElementById("count").textContent,
+    result: document.getElementById("result").textContent,
   };
 })()`;
 const slider = 'document.getElementById("until")';
@@ -25,27 +26,43 @@ async function slideTo(page, steps) {
 
 inBrowsers("the slider shows one time: all that is said is that of a session of the first steps", async (page) => {
   await open(page, "#example=quicksort&query=quicksort([3,1,2],R)", WIDE);
+  const told = await compareTimes(page, 27);
+  assert.equal(told[27].result, "done: R = [1,2,3]");
+  await page.value('(document.getElementById("play").click(), true)');
+  await until(page, "Overview.until === 3 && Overview.earlier.graph.count === 3");
+  await page.value('Talk.send("undo 27")');
+  assert.equal(await page.value(text("count")), told[26].count, "a line leads back to the present");
+  for (const [address, steps] of TIMES) {
+    await open(page, address, WIDE);
+    await compareTimes(page, steps);
+  }
+});
+
+const TIMES = [
+  ["#example=bill&query=bill(12,3,T)", 6], ["#example=append&query=append([1,2],[3],R)", 6], ["#example=merge&query=merge([1,2],[a],Z)", 6],
+  ["#example=deadlock&query=after(A,B), after(B,C), A = done", 5], ["#example=reverse&query=reverse([1,2],R)", 10],
+];
+
+/** Steps to the end, and compares what is said of each time then with what the slider shows of it; gives what is said. */
+async function compareTimes(page, steps) {
   const told = [await page.value(SCREEN)];
   while (await page.value("Talk.run.goals.length > 0")) {
     await page.value('Talk.send(document.getElementById("step").dataset.line)');
     told.push(await page.value(SCREEN));
   }
   const all = told.length - 1;
-  assert.equal(all, 27);
-  for (let steps = 0; steps < all; steps++) {
-    await slideTo(page, steps);
-    const count = told[steps].count.replace(/^(\d+) steps?/, `$1 of ${all} steps`);
-    assert.deepEqual(await page.value(SCREEN), { ...told[steps], count });
+  assert.equal(all, steps);
+  for (let at = 0; at < all; at++) {
+    await slideTo(page, at);
+    const count = told[at].count.replace(/^(\d+) steps?/, `$1 of ${all} steps`);
+    assert.deepEqual(await page.value(SCREEN), { ...told[at], count });
   }
   const offered = await page.value("document.querySelectorAll('#goals [data-line^=step]').length");
   assert.equal(offered, 0, "no step is offered at an earlier time");
   await page.click("#show-all-steps");
   assert.deepEqual(await page.value(SCREEN), told[all]);
-  await page.value('(document.getElementById("play").click(), true)');
-  await until(page, "Overview.until === 3 && Overview.earlier.graph.count === 3");
-  await page.value('Talk.send("undo 27")');
-  assert.equal(await page.value(text("count")), told[all - 1].count, "a line leads back to the present");
-});
+  return told;
+}
 
 inBrowsers("of a run of more than 3,000 steps the slider moves the picture, and the page says so", async (page) => {
   const goals = 'document.querySelectorAll("#goals .row").length';
@@ -58,7 +75,7 @@ inBrowsers("of a run of more than 3,000 steps the slider moves the picture, and 
     assert.ok((await page.value(text(panel))).startsWith("after all 4000 steps:"), panel);
   }
   assert.equal(await page.value(goals), before);
-  assert.match(await page.value(text("count")), /^2000 of 4000 steps, depth \d+$/);
+  assert.match(await page.value(text("count")), /^2000 of 4000 steps, longest chain \d+$/);
 });
 
 const MERGE = [
@@ -75,9 +92,9 @@ inBrowsers("a menu asks what clauses say: one that says yes can be clicked, othe
     return (await page.value(clauses)).map(([words, isOff]) => [words.replace(/:.*\./, ":"), isOff]);
   };
   assert.deepEqual(await menu(),
-    [["by 1: waits for _0_2", true], ["by 2: waits for _0_1", true], ["by 3: waits for _0_2", true]]);
+    [["clause 1: waits for Y", true], ["clause 2: waits for X", true], ["clause 3: waits for Y", true]]);
   await page.value('Talk.send("step 0.2")');
-  assert.deepEqual(await menu(), [["by 3:", false], ["by 2: waits for _0_1", true], ["by 1: says no", true]]);
+  assert.deepEqual(await menu(), [["clause 3:", false], ["clause 2: waits for X", true], ["clause 1: says no", true]]);
   await page.value('Talk.send("step 0.1 1", "step 0.1 2")');
   const replies = await page.value("Talk.entries.slice(-2).map((entry) => entry.reply[0])");
   assert.deepEqual(replies, ["F10 no clause matches", "F9 waits"]);
@@ -86,20 +103,20 @@ inBrowsers("a menu asks what clauses say: one that says yes can be clicked, othe
   assert.equal((await page.value(lines)).at(-1), "step 0.1 3");
   await open(page, "#example=bill&query=bill(5,3,T)&lines=leap", WIDE);
   await page.click('#canvas [data-step="2"]');
-  const says = ["by 3:  price(N,P) :- N >= 10 | P := N * 8. says no", true];
+  const says = ["clause 3:  price(N,P) :- N >= 10 | P := N * 8. says no", true];
   assert.deepEqual(await page.value(clauses), [says], "and that of a step, as it would be after a roll");
   assert.deepEqual(await page.value(numbers("#canvas .mark")), [1, 2, 3, 4, 5, 6], "nothing was taken back for that");
 });
 
 const CHOICE = "c(R) :- true | R = 1.\nc(R) :- true | w(R).\nc(R) :- true | R = 2, R = 3.\nw(X) :- wait(X) | true.\n";
 const ENDS = [
-  [2, /Nothing is ready, and a goal waits\. \d+\.1 waits for _0_1 \(R\): nobody can bind it/],
-  [3, /Goal \d+\.\d has failed: .* are two different things/],
+  [2, "stuck: 3.1 w(R) waits", /Nothing is ready, and a goal waits\. \d+\.1 waits for R: nobody can bind it/],
+  [3, "failed: R = 3; 3.1 3 = 2", /Goal \d+\.\d has failed: .* are two different things/],
 ];
 
 inBrowsers("beside a run that is kept a deadlock and a failure are told, too", async (page) => {
   await open(page, "", WIDE);
-  for (const [clause, told] of ENDS) {
+  for (const [clause, result, told] of ENDS) {
     await page.value(begin(CHOICE, "c(R)"));
     await page.value('Talk.send("step 0.1 1", "leap")');
     await page.click('#canvas [data-step="1"]');
@@ -107,14 +124,18 @@ inBrowsers("beside a run that is kept a deadlock and a failure are told, too", a
     await page.value('Talk.send("leap")');
     const note = await page.value(text("note"));
     assert.match(note, /^Above is the run that you kept\./);
+    assert.equal(await page.value(text("result")), result);
+    assert.equal(await page.value('document.querySelector("#beside .result-line").textContent'), "above: done: R = 1");
     assert.match(note, told);
     await page.click("#drop-run");
   }
 });
 
 const CIRCLES = [
-  ["p(1) :- true | true.\nr(1,2) :- true | true.\ns(2,X) :- true | true.\n", "p(X), r(X,Y), s(Y,X)", ["0.2", "0.3"]],
-  ["p(a,_) :- true | true.\np(_,b) :- true | true.\n", "p(X,Y), p(Y,X)", ["0.1", "0.2"]],
+  ["p(1) :- true | true.\nr(1,2) :- true | true.\ns(2,X) :- true | true.\n", "p(X), r(X,Y), s(Y,X)", ["0.2", "0.3"],
+    "A deadlock: s waits for r to bind Y; r waits for s to bind X. Show these lanes alone"],
+  ["p(a,_) :- true | true.\np(_,b) :- true | true.\n", "p(X,Y), p(Y,X)", ["0.1", "0.2"],
+    "A deadlock: p 1 waits for p 2 to bind X; p 2 waits for p 1 to bind X. Show these lanes alone"],
 ];
 
 inBrowsers("`F1 = 2` is a value and no refusal; a circle is one on the page as at the terminal", async (page) => {
@@ -122,14 +143,13 @@ inBrowsers("`F1 = 2` is a value and no refusal; a circle is one on the page as a
   assert.equal(await page.value(text("answer")), "");
   assert.equal(await page.value("document.querySelectorAll('#told .refused').length"), 0);
   assert.ok((await page.value(text("told"))).endsWith("> show F1F1 = 2"));
-  for (const [program, query, names] of CIRCLES) {
+  for (const [program, query, names, told] of CIRCLES) {
     await page.value(begin(program, query));
     await page.value('Talk.send("leap")');
-    const [, circle] = /^Nothing is ready: (.*), in a circle\.$/.exec(await page.value(text("note")));
-    const way = circle.split(" waits for ");
-    assert.deepEqual(way.slice(1).sort(), names);
-    assert.equal(way[0], way.at(-1));
-    const atTerminal = await page.value("Stuck.linesOf(Talk.run.goals, (variable) => variable)");
-    assert.ok(atTerminal.includes(`a circle: ${circle}`), atTerminal.join("; "));
+    assert.equal(await page.value(text("note")), told);
+    const links = await page.value('[...document.querySelectorAll("#note [data-go-goal]")].map((one) => one.dataset.goGoal)');
+    assert.deepEqual([...new Set(links)].sort(), names);
+    const atTerminal = await page.value("Stuck.linesOf(Talk.run.goals, (variable) => variable)"), way = links.filter((link, at) => at % 2 === 0);
+    assert.ok(atTerminal.includes(`a circle: ${[...way, way[0]].join(" waits for ")}`), atTerminal.join("; "));
   }
 });

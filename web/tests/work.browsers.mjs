@@ -27,7 +27,7 @@ inBrowsers("a refusal stands above the picture, also on a phone, and its step is
 
 inBrowsers("a failed goal tells what clashed and which step bound it; an error in the program is scrolled into sight with its line", async (page) => {
   await open(page, FAILED, WIDE);
-  assert.match(await page.value(text("note")), /^Goal 4\.1 has failed: (2 and 7|7 and 2) are two different things \(F11, a clash\)\. Step 3 bound _1_1 = \[7\]\. Take back/);
+  assert.match(await page.value(text("note")), /^Goal 4\.1 has failed: (2 and 7|7 and 2) are two different things \(F11, a clash\)\. Step 3 bound Z1₁ = \[7\]\. Take back/);
   await page.click("#note [data-goto]");
   assert.deepEqual(await page.value("Canvas.chosen"), { step: 3 });
   const program = `${"p(a) :- true | true.\n".repeat(40)}p(b) :- true | q(.\n`;
@@ -105,7 +105,7 @@ inBrowsers("a part of a value is explained by a click, who and why light up, a v
   assert.deepEqual(await page.value(numbers("#canvas .chosen")), [47]);
   assert.deepEqual(await page.value(numbers("#canvas .way")), [29, 31, 37, 39]);
   await page.value('Talk.send("who R")');
-  assert.equal(await page.value(text("answer")), "who R _0_1 by 29×");
+  assert.equal(await page.value(text("answer")), "who R R by 29×");
   assert.deepEqual(await page.value(numbers("#canvas .chosen")), [29]);
   await page.click('#store [data-variable="_2_3"]');
   await page.click('#menu [data-keep="_2_3"]');
@@ -156,7 +156,7 @@ inBrowsers("two choices of a clause stand side by side, with what differs ringed
   assert.deepEqual(await page.value(numbers("#beside .mark", "kept")), [1, 2, 3, 4, 5, 6]);
   assert.deepEqual(await page.value(numbers("#beside .alone", "kept")), [2, 3]);
   assert.deepEqual(await page.value(numbers("#canvas .alone")), [7, 8]);
-  assert.match(await page.value(text("note")), /4 steps in both, 2 in that one alone, 2 in this one \(ringed\)\. The first that differs: step 2 above \(goal 1\.1 by 2\), here step 7 \(goal 1\.1 by 3\)/);
+  assert.match(await page.value(text("note")), /4 steps in both, 2 in that one alone, 2 in this one \(ringed\)\. The first that differs: step 2 above \(goal 1\.1 was reduced by clause 2\), here step 7 \(goal 1\.1 was reduced by clause 3\)/);
   await page.click("#swap-runs");
   await page.value("Talk.settled()");
   assert.deepEqual(await page.value(numbers("#canvas .alone")), [2, 3]);
@@ -172,9 +172,9 @@ inBrowsers("the chosen step's clause is marked in the program, lines wrap, the d
   await page.value('Canvas.choose({ step: 3 })');
   assert.deepEqual(await page.value(marked), []);
   const high = 'document.getElementById("program-lines").offsetHeight', before = await page.value(high);
-  await page.click("#wrap");
-  assert.ok((await page.value(high)) > before, "long lines go on in the next row");
   assert.equal(await page.value('document.getElementById("program").scrollHeight - document.getElementById("program-lines").offsetHeight < 30 || document.getElementById("program").scrollHeight === document.getElementById("program").clientHeight'), true);
+  await page.click("#wrap");
+  assert.ok((await page.value(high)) < before, "a long line goes on in one row");
   const wide = 'document.getElementById("source").offsetWidth', narrow = await page.value(wide);
   await page.value('document.getElementById("divider").focus()');
   await page.key("ArrowRight");
@@ -209,12 +209,14 @@ inBrowsers("above 3,000 steps the counts, the last step, the store and the chose
   const told = await page.value('Service.ask("lines", { lines: ["records", "show Ps"] }).then(({ replies }) => replies.map((one) => (Array.isArray(one) ? one : new TextDecoder().decode(one).split("\\n").filter(Boolean))))');
   const [records, [value]] = told, last = records[4999].split(" ")[0], binding = records.filter((line) => !line.includes(" binds - ")).at(-1);
   assert.equal(records.length, 5000);
-  assert.match(await page.value(text("count")), /^5000 steps, depth \d+$/);
+  assert.match(await page.value(text("count")), /^5000 steps, longest chain \d+$/);
   assert.equal(await page.value('document.getElementById("undo-last").dataset.line'), `undo ${last}`);
   assert.ok(!(await page.value(text("note"))).includes("`"));
   const rows = await page.value('[...document.querySelectorAll("#store .row")].map((row) => row.textContent)');
   assert.equal(rows[0].slice(0, 20), value.slice(0, 20));
-  assert.equal(rows[1], binding.replace(/^(\d+) .* binds (_\d+_\d+)=(.*) makes .*$/, "$2 = $3  by $1"));
+  const [, number, variable, term] = /^(\d+) .* binds (_\d+_\d+)=(.*) makes .*$/.exec(binding);
+  assert.equal(rows[1], await page.value(`Names.shown(${JSON.stringify(`${variable} = ${term}  by ${number}`)})`));
+  assert.equal(await page.value('document.querySelectorAll("#store .row .name")[1].dataset.variable'), variable);
   await page.value("Canvas.choose({ step: 2500 })");
   assert.match(await page.value(text("detail")), /^step 2500: goal /);
 });
