@@ -58,10 +58,10 @@ class Breakpoints {
   }
 }
 
-/** Does a goal fit the condition of a breakpoint, where it has one? */
-function fitsGoal({ pattern }, name, run) {
-  const call = run.goalOf(name)?.call;
-  return pattern === undefined || (call !== undefined && fits(pattern, call, run));
+/** Does a goal fit the patterns of a breakpoint: of its condition, and of a function breakpoint's name? */
+function fitsGoal({ pattern, named }, name, run) {
+  const patterns = [pattern, named].filter(Boolean), call = run.goalOf(name)?.call;
+  return patterns.length === 0 || (call !== undefined && patterns.every((one) => fits(one, call, run)));
 }
 
 export { Breakpoints, FILTERS };

@@ -2,7 +2,7 @@
 import path from "node:path";
 import Reader from "../../front/text/reader.mjs";
 import { FILTERS } from "./breakpoints.mjs";
-import { readOptions } from "./options.mjs";
+import { readFunction, readOptions } from "./options.mjs";
 import { Refused, refused } from "./refused.mjs";
 
 const NO_CONDITION = "no condition is read here: a run stops where the variable is bound";
@@ -74,9 +74,7 @@ export default {
   async setAtPredicates(request, numbers = []) {
     const points = [], { predicates } = this.session;
     const answered = await answers(this, request.breakpoints, numbers, (given, id) => {
-      const found = predicates.filter((predicate) => [predicate, predicate.split("/")[0]].includes(given.name));
-      if (found.length === 0) throw refused(`no such predicate; there are: ${predicates.join(", ")}`);
-      points.push(...this.pointsAt(found, given, id));
+      points.push(...this.pointsAt(readFunction(given.name, predicates), given, id));
       return { verified: true };
     });
     this.breakpoints.predicates = points;
@@ -85,13 +83,13 @@ export default {
     return answered;
   },
 
-  /** A breakpoint at predicates of one name: at those of which the condition is a pattern, where there is one. */
-  pointsAt(predicates, given, id) {
+  /** A breakpoint at predicates: at those of which the condition is a pattern too, where there is one. */
+  pointsAt(places, given, id) {
     const made = [], query = this.session.variables;
     let why;
-    for (const predicate of predicates) {
+    for (const { predicate, pattern: named } of places) {
       try {
-        made.push({ id, kind: "predicate", hits: 0, predicate, ...readOptions(given, { predicate, query }) });
+        made.push({ id, kind: "predicate", hits: 0, predicate, named, ...readOptions(given, { predicate, query }) });
       } catch (error) {
         if (!(error instanceof Refused)) throw error;
         why ??= error;
