@@ -12,7 +12,7 @@ import { Refused } from "./refused.mjs";
 import Running from "./running.mjs";
 import Setting from "./setting.mjs";
 import Stepping from "./stepping.mjs";
-import { clauseTaken } from "./told.mjs";
+import { clauseTaken, failedText } from "./told.mjs";
 import { Ended } from "../../front/session/program.mjs";
 import { NotTold } from "../../front/session/session.mjs";
 import { notesAfter } from "../../front/run/telling.mjs";
@@ -163,10 +163,22 @@ class Adapter {
     return mine.find(({ status }) => status === "ready") ?? mine[0];
   }
 
-  /** Tells a stop: why, in words, and at which process where that is known. */
+  /** The first goal that has failed since the stop before; undefined where none has. */
+  failedAnew(goals) {
+    const failed = goals.filter(({ status }) => status === "failed"), anew = failed.find(({ name }) => !this.failed.has(name));
+    this.failed = new Set(failed.map(({ name }) => name));
+    return anew;
+  }
+
+  /** Tells a stop: why, in words, and at which process where that is known. A step by which a goal failed stops there. */
   async stopped(reason, text = reason, { thread, hit } = {}) {
-    const goals = await this.look();
+    const goals = await this.look(), failed = this.failedAnew(goals);
     this.inside.forget();
+    if (reason !== "step" || failed === undefined || !this.breakpoints.filters.has("failed")) return this.tellStop(goals, { reason, text, thread, hit });
+    return this.tellStop(goals, { reason: "exception", text: failedText(failed), thread: this.processes.of(failed.name) });
+  }
+
+  tellStop(goals, { reason, text, thread, hit }) {
     const shown = goals.find(({ status }) => status === "failed") ?? goals.find(({ status }) => status === "ready") ?? goals[0];
     const isThere = thread !== undefined && (this.live.has(thread) || this.isJudged(thread));
     this.shown = isThere ? thread : shown === undefined ? 1 : this.processes.of(shown.name);

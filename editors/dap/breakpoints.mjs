@@ -2,8 +2,11 @@
 // predicate alone (`spy`); the rest is found out at each such stop.
 import { fits } from "./options.mjs";
 
-// The filters of exceptions that an editor may set.
-const FILTERS = [{ filter: "stuck", label: "Goals wait, and none is ready", default: true }];
+// The filters of exceptions that an editor may set. Without one the stop is a plain pause: such a run has ended in any case.
+const FILTERS = [
+  { filter: "failed", label: "A goal has failed", default: true },
+  { filter: "stuck", label: "Goals wait, and none is ready", default: true },
+];
 
 class Breakpoints {
   constructor() {
@@ -13,13 +16,18 @@ class Breakpoints {
     this.predicates = [];
     this.variables = [];
     this.spied = new Set();
-    this.stopsWhereStuck = true;
+    this.filters = new Set(FILTERS.map(({ filter }) => filter));
   }
 
   /** A number for a breakpoint. */
   number() {
     this.last += 1;
     return this.last;
+  }
+
+  /** The reason that an editor is told for a stop that one of the filters is about. */
+  reasonOf(filter) {
+    return this.filters.has(filter) ? "exception" : "pause";
   }
 
   /** Makes the console spy just the predicates at which a run may have to stop. */

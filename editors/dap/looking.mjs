@@ -76,8 +76,9 @@ export default {
     return shown?.evaluateName === undefined ? undefined : { variable: shown.evaluateName };
   },
 
-  async on_exceptionInfo() {
-    const goals = await this.session.goals(), failed = goals.find(({ status }) => status === "failed");
+  async on_exceptionInfo({ threadId }) {
+    const goals = await this.session.goals(), allFailed = goals.filter(({ status }) => status === "failed");
+    const failed = allFailed.find(({ name }) => this.processes.of(name) === threadId) ?? allFailed[0];
     const labelOf = (variable) => this.session.run.labelOf(variable);
     if (failed === undefined) return { exceptionId: "stuck", description: Stuck.linesOf(goals, labelOf).join("\n"), breakMode: "always" };
     const why = failed.refusal === "F10" ? await whyNoClause(this.session, failed.name) : [];

@@ -5,6 +5,7 @@ import { FILTERS } from "./breakpoints.mjs";
 import { readFunction, readOptions } from "./options.mjs";
 import { Refused, refused } from "./refused.mjs";
 
+const NAMES_OF_FILTERS = FILTERS.map(({ filter }) => filter);
 const NO_CONDITION = "no condition is read here: a run stops where the variable is bound";
 
 /**
@@ -99,11 +100,17 @@ export default {
     return made;
   },
 
-  on_setExceptionBreakpoints({ filters }) {
-    this.breakpoints.stopsWhereStuck = filters.includes("stuck");
-    const isKnown = (name) => FILTERS.some(({ filter }) => filter === name);
-    const unknown = { verified: false, message: "no such filter; there is: stuck" };
-    return { breakpoints: filters.map((name) => (isKnown(name) ? { verified: true } : unknown)) };
+  /** A filter may come by its name alone, or as an option with a condition, which is not read. */
+  async on_setExceptionBreakpoints({ filters = [], filterOptions = [] }) {
+    const set = new Set(), given = [...filters.map((filterId) => ({ filterId })), ...filterOptions];
+    const answered = await answers(this, given, [], ({ filterId, condition }) => {
+      if (!NAMES_OF_FILTERS.includes(filterId)) throw refused(`no such filter; there are: ${NAMES_OF_FILTERS.join(", ")}`);
+      if (condition) throw refused("no condition is read here: a run stops at each such goal");
+      set.add(filterId);
+      return { verified: true };
+    });
+    this.breakpoints.filters = set;
+    return { breakpoints: answered };
   },
 
   async on_dataBreakpointInfo({ name, variablesReference, frameId }) {

@@ -140,8 +140,10 @@ test("a data breakpoint is on a variable that is there, and a filter is one of t
   const { verified, message } = await made({ dataId: "_0_1", condition: "T > 3" });
   assert.strictEqual(verified, false);
   assert.strictEqual(message, "no condition is read here: a run stops where the variable is bound");
-  const filters = (await client.ask("setExceptionBreakpoints", { filters: ["stuck", "raised"] })).breakpoints;
-  assert.deepStrictEqual(filters.map(({ verified }) => verified), [true, false]);
+  const given = { filters: ["stuck", "raised"], filterOptions: [{ filterId: "failed" }, { filterId: "failed", condition: "p(1)" }] };
+  const filters = (await client.ask("setExceptionBreakpoints", given)).breakpoints;
+  const wrong = [undefined, "no such filter; there are: failed, stuck", undefined, "no condition is read here: a run stops at each such goal"];
+  assert.deepStrictEqual(filters.map((filter) => [filter.verified, filter.message]), wrong.map((why) => [why === undefined, why]));
   await client.go("stepIn");
   assert.strictEqual((await made({ dataId: "_1_1" })).verified, true);
   await client.go("restart");
