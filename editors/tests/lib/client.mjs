@@ -12,13 +12,14 @@ const ADAPTER = path.join(HERE, "..", "..", "ghcdb-adapter");
 // What a message's body must have: fields with their types; `[..]` is a list of such; a `?` marks what may be left out.
 const SOURCE = { "name?": "string", "path?": "string", "sourceReference?": "number" };
 const BREAKPOINT = { "id?": "number", verified: "boolean", "message?": "string", "line?": "number", "source?": SOURCE };
-const VARIABLE = { name: "string", value: "string", variablesReference: "number", "evaluateName?": "string", "type?": "string" };
+const COUNTS = { "indexedVariables?": "number", "namedVariables?": "number" };
+const VARIABLE = { name: "string", value: "string", variablesReference: "number", "evaluateName?": "string", "type?": "string", ...COUNTS };
 const FORMS = {
   threads: { threads: [{ id: "number", name: "string" }] },
   stackTrace: { stackFrames: [{ id: "number", name: "string", line: "number", column: "number", "source?": SOURCE, "endLine?": "number", "endColumn?": "number" }], "totalFrames?": "number" },
-  scopes: { scopes: [{ name: "string", variablesReference: "number", expensive: "boolean", "presentationHint?": "string" }] },
+  scopes: { scopes: [{ name: "string", variablesReference: "number", expensive: "boolean", "presentationHint?": "string", ...COUNTS }] },
   variables: { variables: [VARIABLE] },
-  evaluate: { result: "string", variablesReference: "number", "type?": "string" },
+  evaluate: { result: "string", variablesReference: "number", "type?": "string", ...COUNTS },
   setVariable: { value: "string" }, setExpression: { value: "string" },
   setBreakpoints: { breakpoints: [BREAKPOINT] }, setFunctionBreakpoints: { breakpoints: [BREAKPOINT] }, setDataBreakpoints: { breakpoints: [BREAKPOINT] },
   setExceptionBreakpoints: { "breakpoints?": [BREAKPOINT] }, breakpointLocations: { breakpoints: [{ line: "number" }] },
