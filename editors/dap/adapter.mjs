@@ -2,13 +2,14 @@
 // every state that an editor sees is one that a session has.
 //
 // The requests stand in files by what they are for: beginning.mjs, setting.mjs (breakpoints), looking.mjs, stepping.mjs,
-// changing.mjs; runs are in running.mjs.
+// changing.mjs, cancelling.mjs; runs are in running.mjs.
 import Beginning from "./beginning.mjs";
 import { Breakpoints } from "./breakpoints.mjs";
+import Cancelling from "./cancelling.mjs";
 import Changing from "./changing.mjs";
 import Judging from "./judging.mjs";
 import Looking from "./looking.mjs";
-import { Refused } from "./refused.mjs";
+import { Cancelled, Refused } from "./refused.mjs";
 import Running from "./running.mjs";
 import Setting from "./setting.mjs";
 import Stepping from "./stepping.mjs";
@@ -65,8 +66,9 @@ class Adapter {
 
   hear(message) {
     if (message?.type !== "request") return;
+    if (message.command === "cancel") return this.hearCancel(message);
     if (this.isRunning && ENDS_RUN.has(message.command)) this.stopRun();
-    if (this.isRunning && message.command === "pause") return this.send(answerTo(message));
+    if (this.isRunning && message.command === "pause") return this.sendAnswer(message);
     this.inbox.push(message);
     return this.work();
   }
@@ -88,21 +90,44 @@ class Adapter {
     this.laters.push(what);
   }
 
+  /** Answers a request, and does what follows. While a run goes on others are handled in it. */
   async handle(request) {
-    const outer = this.laters, laters = this.laters = [];
-    try {
-      const body = await this.request(request.command, request.arguments ?? {});
-      this.send({ ...answerTo(request), ...(body !== undefined && { body }) });
-    } catch (error) {
-      laters.length = 0;
-      this.send({ ...answerTo(request), success: false, message: "refused", body: { error: { id: 1, format: this.wordsOf(error, request.command), showUser: true } } });
-    }
+    const { laters: outer, handling } = this, laters = this.laters = [];
+    this.handling = request;
+    await this.answer(request);
     try {
       for (const what of laters) await what();
     } catch (error) {
       this.event("output", { category: "stderr", output: `${this.wordsOf(error, request.command)}\n` });
     }
-    this.laters = outer;
+    Object.assign(this, { laters: outer, handling });
+  }
+
+  async answer(request) {
+    const { answering } = this, endProgress = request.command === "evaluate" ? this.tellProgress(request) : undefined;
+    this.answering = request;
+    try {
+      this.sendAnswer(request, await this.request(request.command, request.arguments ?? {}));
+    } catch (error) {
+      this.laters.length = 0;
+      if (error instanceof Cancelled) this.sendCancelled(request);
+      else this.sendRefusal(request, error);
+    }
+    this.answering = answering;
+    if (this.session !== undefined) this.session.isCancelled = false;
+    endProgress?.();
+  }
+
+  sendAnswer(request, body) {
+    this.send({ ...answerTo(request), ...(body !== undefined && { body }) });
+  }
+
+  sendRefusal(request, error) {
+    this.send({ ...answerTo(request), success: false, message: "refused", body: { error: { id: 1, format: this.wordsOf(error, request.command), showUser: true } } });
+  }
+
+  sendCancelled(request) {
+    this.send({ ...answerTo(request), success: false, message: "cancelled", body: { error: { id: 2, format: "cancelled", showUser: false } } });
   }
 
   wordsOf(error, command) {
@@ -200,6 +225,6 @@ const WITHOUT_SESSION = new Set(["initialize", "launch", "attach", "disconnect",
 const RUNS = new Set(["continue", "next", "stepIn", "stepOut", "stepBack", "reverseContinue", "goto", "restartFrame", "setVariable", "setExpression", "evaluate",
   "ghcdb/undo", "ghcdb/roll", "ghcdb/redo"]);
 
-for (const requests of [Beginning, Setting, Looking, Stepping, Changing, Running, Judging]) Object.defineProperties(Adapter.prototype, Object.getOwnPropertyDescriptors(requests));
+for (const requests of [Beginning, Setting, Looking, Stepping, Changing, Running, Judging, Cancelling]) Object.defineProperties(Adapter.prototype, Object.getOwnPropertyDescriptors(requests));
 
 export { Adapter };

@@ -14,7 +14,8 @@ import { EditorSession } from "./session.mjs";
 
 const CAN = ["ConfigurationDoneRequest", "FunctionBreakpoints", "ConditionalBreakpoints", "HitConditionalBreakpoints", "LogPoints", "DataBreakpoints", "EvaluateForHovers",
   "StepBack", "RestartFrame", "RestartRequest", "GotoTargetsRequest", "StepInTargetsRequest", "CompletionsRequest", "SetVariable", "SetExpression", "LoadedSourcesRequest",
-  "ExceptionInfoRequest", "TerminateRequest", "SingleThreadExecutionRequests", "BreakpointLocationsRequest"];
+  "ExceptionInfoRequest", "TerminateRequest", "SingleThreadExecutionRequests", "BreakpointLocationsRequest",
+  "CancelRequest"];
 
 const MOST_NOTES = 6; // on a program that it tells
 
@@ -47,8 +48,9 @@ function textOf(file) {
 }
 
 export default {
-  on_initialize({ linesStartAt1 = true }) {
+  on_initialize({ linesStartAt1 = true, supportsProgressReporting = false }) {
     this.first = linesStartAt1 ? 1 : 0;
+    this.hearsProgress = supportsProgressReporting;
     return { ...Object.fromEntries(CAN.map((name) => [`supports${name}`, true])), exceptionBreakpointFilters: FILTERS };
   },
 
@@ -67,6 +69,7 @@ export default {
     const places = new Places(file, program, query, this.first);
     try {
       await session.begin();
+      await session.keepWayBack(); // any line can be ended
     } catch (error) {
       throw error instanceof Ended ? refused(this.tellRefusal(error, session, places)) : error;
     }

@@ -11,6 +11,7 @@ export default {
   /** Runs something during which other requests are answered; a pause ends it. */
   async running(what) {
     this.isRunning = true;
+    this.runner = this.handling;
     this.wantsPause = false;
     try {
       return await what();
@@ -103,7 +104,6 @@ export default {
 
   /** Runs what comes of a goal. Such a run cannot be cut into slices: a pause ends it, and the session is as before it. */
   async skip(name, thread) {
-    await this.session.prepareForEnding();
     const stop = await this.running(async () => {
       this.isSkipping = true;
       try {

@@ -29,6 +29,7 @@ const FORMS = {
   loadedSources: { sources: [SOURCE] }, source: { content: "string" }, exceptionInfo: { exceptionId: "string", "description?": "string", breakMode: "string" },
   continue: { "allThreadsContinued?": "boolean" },
   stopped: { reason: "string", "description?": "string", "text?": "string", "threadId?": "number", "allThreadsStopped?": "boolean", "hitBreakpointIds?": ["number"] },
+  progressStart: { progressId: "string", title: "string", "requestId?": "number", "cancellable?": "boolean" }, progressEnd: { progressId: "string" },
   output: { output: "string", "category?": "string", "line?": "number", "source?": SOURCE }, thread: { reason: "string", threadId: "number" },
 };
 
@@ -103,9 +104,9 @@ class Client {
     }
   }
 
-  /** Begins a session, up to its first stop. `breakpoints` are set as an editor does. */
-  async begin(program, given = {}, breakpoints = async () => {}) {
-    this.can = await this.ask("initialize", { adapterID: "ghcdb", linesStartAt1: true, columnsStartAt1: true });
+  /** Begins a session, up to its first stop. `breakpoints` are set as an editor does; `wants` is what it can do. */
+  async begin(program, given = {}, breakpoints = async () => {}, wants = {}) {
+    this.can = await this.ask("initialize", { adapterID: "ghcdb", linesStartAt1: true, columnsStartAt1: true, ...wants });
     await this.ask("launch", { program, ...given });
     await this.event("initialized");
     await breakpoints();
