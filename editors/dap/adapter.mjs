@@ -44,8 +44,8 @@ class Adapter {
     this.sendMessage({ seq: this.last, ...message });
   }
 
-  event(name, body = {}) {
-    this.send({ type: "event", event: name, body });
+  event(name, body) {
+    this.send({ type: "event", event: name, ...(body !== undefined && { body }) });
   }
 
   /** Tells that the session has ended, once: there are clients that ask for its end again when they hear of it. */
