@@ -151,6 +151,18 @@ test("Neovim knows the files, and nvim-dap is told the adapter", { skip: lacks("
   assert.deepStrictEqual([kind, type, fs.realpathSync(adapter)], ["fghc", "ghcdb", fs.realpathSync(at("editors/ghcdb-adapter"))]);
 });
 
+test("Neovim maps the keys that go back in programs alone", { skip: lacks("nvim", "Neovim") }, () => {
+  const out = path.join(room(), "told"), at = (name) => path.join(ROOT, name);
+  const stub = "lua package.preload.dap = function() return { adapters = {}, configurations = {}, step_back = print, reverse_continue = print } end";
+  const keys = "vim.tbl_map(function(map) return map.lhs end, maps)";
+  const note = (maps) => `lua local maps = ${maps}; vim.fn.writefile({ table.concat(vim.fn.sort(${keys}), " ") }, "${out}", "a")`;
+  const words = ["-c", stub, "-c", "lua vim.g.mapleader = ','", "-c", `luafile ${at("editors/neovim/ghcdb.lua")}`, "-c", "filetype on",
+    "-c", `edit ${at("examples/bill.ghc")}`, "-c", note("vim.api.nvim_buf_get_keymap(0, 'n')"), "-c", `edit ${at("README.md")}`,
+    "-c", note("vim.api.nvim_buf_get_keymap(0, 'n')"), "-c", note("vim.tbl_filter(function(map) return map.lhs:sub(1, 1) == ',' end, vim.api.nvim_get_keymap('n'))")];
+  execFileSync("nvim", ["--headless", "-u", "NONE", ...words, "-c", "quitall!"], { stdio: "ignore" });
+  assert.deepStrictEqual(fs.readFileSync(out, "utf8").split("\n"), [",b ,r", "", "", ""]);
+});
+
 test("Neovim steps forwards and back through bill.ghc as it was recorded", { skip: lacks("nvim", "Neovim"), timeout: 60000 }, () => {
   const out = path.join(room(), "told");
   execFileSync("nvim", ["--headless", "-u", "NONE", "-c", "luafile editors/neovim/try.lua", "-c", "quitall!"], { stdio: "ignore", cwd: ROOT, env: { ...process.env, FGHC_TOLD: out } });
