@@ -56,6 +56,18 @@ test("the packed extension tells what is wrong with a program, and what stands i
   end();
 });
 
+test("when the language server ends, nothing that it told is left, and the editor says so once", { timeout: 60000 }, async () => {
+  const { editor, end } = await activated(path.join(unpacked(), "extension.js"), ["p(X) :- true | q(X).\n"]);
+  const [document] = editor.documents, { Hover: server } = editor.providers;
+  assert.strictEqual((await editor.told(document.uri)).length, 1);
+  server.child.kill();
+  assert.deepStrictEqual(await editor.told(document.uri), []);
+  editor.type(document, "p(1).\n");
+  assert.strictEqual(await server.provideHover(document, { line: 0, character: 0 }), undefined);
+  assert.deepStrictEqual(editor.warnings, ["Flat GHC: the language server has ended. `Developer: Reload Window` starts it again."]);
+  end();
+});
+
 // What VS Code's documentation of package.json asks for, of the parts that are here: each with a test of its value.
 const isText = (value) => typeof value === "string" && value !== "";
 const isFile = (value) => isText(value) && value.startsWith("./") && fs.existsSync(path.join(ROOT, "editors", "vscode", value));
