@@ -123,11 +123,13 @@ class Adapter {
   }
 
   sendRefusal(request, error) {
-    this.send({ ...answerTo(request), success: false, message: "refused", body: { error: { id: 1, format: this.wordsOf(error, request.command), showUser: true } } });
+    const told = { id: 1, format: this.wordsOf(error, request.command), showUser: true };
+    this.send({ ...answerTo(request), success: false, message: "refused", body: { error: told } });
   }
 
   sendCancelled(request) {
-    this.send({ ...answerTo(request), success: false, message: "cancelled", body: { error: { id: 2, format: "cancelled", showUser: false } } });
+    const told = { id: 2, format: "cancelled", showUser: false };
+    this.send({ ...answerTo(request), success: false, message: "cancelled", body: { error: told } });
   }
 
   wordsOf(error, command) {
@@ -190,17 +192,20 @@ class Adapter {
 
   /** The first goal that has failed since the stop before; undefined where none has. */
   failedAnew(goals) {
-    const failed = goals.filter(({ status }) => status === "failed"), anew = failed.find(({ name }) => !this.failed.has(name));
+    const failed = goals.filter(({ status }) => status === "failed");
+    const anew = failed.find(({ name }) => !this.failed.has(name));
     this.failed = new Set(failed.map(({ name }) => name));
     return anew;
   }
 
-  /** Tells a stop: why, in words, and at which process where that is known. A step by which a goal failed stops there. */
+  /** Tells a stop: why, in words, and at which process where that is known. A step by which a goal fails stops at it. */
   async stopped(reason, text = reason, { thread, hit } = {}) {
     const goals = await this.look(), failed = this.failedAnew(goals);
     this.inside.forget();
-    if (reason !== "step" || failed === undefined || !this.breakpoints.filters.has("failed")) return this.tellStop(goals, { reason, text, thread, hit });
-    return this.tellStop(goals, { reason: "exception", text: failedText(failed), thread: this.processes.of(failed.name) });
+    const isException = reason === "step" && failed !== undefined && this.breakpoints.filters.has("failed");
+    if (!isException) return this.tellStop(goals, { reason, text, thread, hit });
+    const its = this.processes.of(failed.name);
+    return this.tellStop(goals, { reason: "exception", text: failedText(failed), thread: its });
   }
 
   tellStop(goals, { reason, text, thread, hit }) {
@@ -225,6 +230,8 @@ const WITHOUT_SESSION = new Set(["initialize", "launch", "attach", "disconnect",
 const RUNS = new Set(["continue", "next", "stepIn", "stepOut", "stepBack", "reverseContinue", "goto", "restartFrame", "setVariable", "setExpression", "evaluate",
   "ghcdb/undo", "ghcdb/roll", "ghcdb/redo"]);
 
-for (const requests of [Beginning, Setting, Looking, Stepping, Changing, Running, Judging, Cancelling]) Object.defineProperties(Adapter.prototype, Object.getOwnPropertyDescriptors(requests));
+for (const requests of [Beginning, Setting, Looking, Stepping, Changing, Running, Judging, Cancelling]) {
+  Object.defineProperties(Adapter.prototype, Object.getOwnPropertyDescriptors(requests));
+}
 
 export { Adapter };

@@ -75,7 +75,8 @@ export default {
     }
     await this.session?.end();
     Object.assign(this, { given, session, places, slice: Number(given.slice ?? 1000), processes: new Processes(session), inside: new Inside(session), blaming: new Blaming(session) });
-    Object.assign(this, { live: new Set(), failed: new Set(), hasToldEnd: false, frameTexts: new Map(), textsNow: undefined, textsBefore: undefined, notedAt: undefined });
+    Object.assign(this, { live: new Set(), failed: new Set(), hasToldEnd: false });
+    Object.assign(this, { frameTexts: new Map(), textsNow: undefined, textsBefore: undefined, notedAt: undefined });
     this.breakpoints.spied = new Set();
     const notes = Causes.notesOn(program, path.basename(file)).slice(0, MOST_NOTES);
     this.later(() => notes.forEach((cause) => this.tellCause(cause, Causes.linesOf(cause, program), places, "important")));

@@ -2,7 +2,7 @@
 // predicate alone (`spy`); the rest is found out at each such stop.
 import { fits } from "./options.mjs";
 
-// The filters of exceptions that an editor may set. Without one the stop is a plain pause: such a run has ended in any case.
+// The filters of exceptions that an editor may set. Without one the stop is a pause: the run has ended in any case.
 const FILTERS = [
   { filter: "failed", label: "A goal has failed", default: true },
   { filter: "stuck", label: "Goals wait, and none is ready", default: true },

@@ -1,5 +1,5 @@
-// The request `cancel`, which is heard at once, whatever goes on. A request that waits for its turn is not begun, a run pauses, and a line
-// of the editor's console is ended: the session is as before it. All else is soon done, and goes on.
+// The request `cancel`, which is heard at once, whatever goes on. A request that waits for its turn is not begun, a run
+// pauses, and a line of the editor's console is ended: the session is as before it. All else is soon done, and goes on.
 const LONG = 1000; // milliseconds of a line, after which an editor is told that it goes on
 
 export default {
@@ -21,9 +21,10 @@ export default {
     else if (isAsked && this.answering.command === "evaluate") await this.session.cancel();
   },
 
-  /** Tells an editor that wants to hear of it where a line goes on for long. What is given back tells the end of that. */
+  /** Tells an editor that hears of progress where a line goes on for long. What is given back tells the end of that. */
   tellProgress({ seq, arguments: given }) {
-    const progressId = String(seq), body = { progressId, title: String(given?.expression), requestId: seq, cancellable: true };
+    const progressId = String(seq), title = String(given?.expression);
+    const body = { progressId, title, requestId: seq, cancellable: true };
     let isTold = false;
     const timer = setTimeout(() => {
       isTold = this.hearsProgress;

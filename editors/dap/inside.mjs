@@ -76,11 +76,15 @@ class Inside {
     return this.references.get(number);
   }
 
-  /** A variable or a part of a term, which unfolds where it has parts. `before`: so many elements of its list are shown elsewhere. */
+  /**
+   * A variable or a part of a term, which unfolds where it has parts. Of its list so many elements as `before` says are
+   * shown elsewhere.
+   */
   variable(name, term, store = this.session.run.shown, before = 0) {
     const end = store.endOf(term), unfolds = end.arguments?.length > 0 && !Print.isOperation(end);
-    const value = Print.term(end, { store, most: LONGEST }), reference = unfolds ? this.reference("term", { term: end, store, before }) : 0;
-    const shown = { name, value, variablesReference: reference, ...(unfolds && countsOf(end, store)) };
+    const value = Print.term(end, { store, most: LONGEST });
+    const variablesReference = unfolds ? this.reference("term", { term: end, store, before }) : 0;
+    const shown = { name, value, variablesReference, ...(unfolds && countsOf(end, store)) };
     if (term.variable === undefined) return shown;
     return { ...shown, evaluateName: term.variable, type: this.session.run.labelOf(term.variable) };
   }
@@ -98,17 +102,19 @@ class Inside {
     if (kind === "goal") scopes.push(scope("Goal", "parts", { presentationHint: "arguments" }));
     if (kind === "goal" && what.waitsFor.length > 0) scopes.push(scope("Waits for", "waits"));
     if (kind === "step") scopes.push(scope("Clause", "environment", { presentationHint: "locals" }), scope("Bound here", "binds"), scope("Because of", "why"));
-    return [...scopes, scope("Query", "query"), scope("Goals", "goals", { indexedVariables: goals.length }), scope("Taken back", "shelf")];
+    const ofGoals = scope("Goals", "goals", { indexedVariables: goals.length });
+    return [...scopes, scope("Query", "query"), ofGoals, scope("Taken back", "shelf")];
   }
 
   /**
-   * The variables in a scope or a term; of a list's elements or the goals, which are indexed, only those from `start` to
-   * `end`. `filter` takes the indexed ones or the named ones alone. Undefined where the reference counts no more.
+   * The variables in a scope or a term, from `start` to `end`. A list's elements and the goals are indexed: `filter`
+   * takes these or the named ones alone. Undefined where the reference counts no more.
    */
   async variablesOf(reference, { filter, start = 0, end } = {}) {
     const found = this.referred(reference);
     if (found === undefined) return undefined;
-    const parts = await this[`in_${found.kind}`](found.what), { indexed, named } = Array.isArray(parts) ? { indexed: [], named: parts } : parts;
+    const parts = await this[`in_${found.kind}`](found.what);
+    const { indexed, named } = Array.isArray(parts) ? { indexed: [], named: parts } : parts;
     const wanted = { indexed, named }[filter] ?? [...indexed, ...named];
     return wanted.slice(start, end).map((part) => (typeof part === "function" ? part() : part));
   }
@@ -166,8 +172,8 @@ class Inside {
 
   async in_goals() {
     const statusOf = ({ status, waitsFor, refusal }) => [status, waitsFor.join(","), refusal].filter(Boolean).join(" ");
-    const indexed = (await this.session.goals()).map((goal) => () => flat(goal.name, `${statusOf(goal)}   ${goal.text.slice(0, LONGEST)}`));
-    return { indexed, named: [] };
+    const shown = (goal) => flat(goal.name, `${statusOf(goal)}   ${goal.text.slice(0, LONGEST)}`);
+    return { indexed: (await this.session.goals()).map((goal) => () => shown(goal)), named: [] };
   }
 
   async in_shelf() {

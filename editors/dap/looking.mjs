@@ -65,7 +65,8 @@ export default {
   },
 
   async on_variables({ variablesReference, filter, start = 0, count }) {
-    const variables = await this.inside.variablesOf(variablesReference, { filter, start, end: count ? start + count : undefined });
+    const end = count ? start + count : undefined;
+    const variables = await this.inside.variablesOf(variablesReference, { filter, start, end });
     if (variables === undefined) throw refused("this is of a stop that is over");
     return { variables };
   },
@@ -121,8 +122,8 @@ export default {
   async on_evaluate({ expression, context, frameId }) {
     const line = expression.trim(), term = /^[A-Z_]\w*$/.test(line) ? await this.inside.termNamed(line, frameId) : undefined;
     if (term !== undefined) {
-      const { value: result, type, variablesReference, indexedVariables, namedVariables } = this.inside.variable(line, term);
-      return { result, type, variablesReference, indexedVariables, namedVariables };
+      const { value, type, variablesReference, indexedVariables, namedVariables } = this.inside.variable(line, term);
+      return { result: value, type, variablesReference, indexedVariables, namedVariables };
     }
     if (context === "hover" || context === "watch") throw refused(`${line} is no variable here`);
     return { result: (await this.consoleLine(line)).join("\n"), variablesReference: 0 };

@@ -83,13 +83,18 @@ export default {
   async atEnd(reason, name) {
     const goals = await this.goalsTold();
     if (goals.length === 0 && await this.session.goalsTold() === undefined) return ["pause", `stopped ${reason}`];
-    if (reason === "clash") return [this.breakpoints.reasonOf("failed"), failedText(goals.find((goal) => goal.name === name)), { thread: this.processes.of(name) }];
+    if (reason === "clash") {
+      const failed = goals.find((goal) => goal.name === name);
+      return [this.breakpoints.reasonOf("failed"), failedText(failed), { thread: this.processes.of(name) }];
+    }
     if (reason !== "quiet") return ["pause", reason];
     const waiting = goals.filter(({ status }) => status === "waits");
     if (waiting.length > 0) {
       const isFed = goals.some(({ status }) => status === "stream");
       this.tell(Stuck.linesOf(goals, (variable) => this.session.run.labelOf(variable)), "important");
-      return [this.breakpoints.reasonOf("stuck"), `${plural(waiting.length, "goal")} wait${waiting.length === 1 ? "s" : ""}, and none is ready${isFed ? "; `in 1 TERM` feeds the input stream" : ""}`];
+      const wait = waiting.length === 1 ? "waits" : "wait", help = isFed ? "; `in 1 TERM` feeds the input stream" : "";
+      const text = `${plural(waiting.length, "goal")} ${wait}, and none is ready${help}`;
+      return [this.breakpoints.reasonOf("stuck"), text];
     }
     if (goals.length > 0) return ["pause", "the input streams are open: `in 1 TERM` feeds one"];
     this.tell(["all is done", ...await this.answers()], "important");

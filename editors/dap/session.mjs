@@ -28,8 +28,8 @@ class EditorSession extends Session {
   }
 
   /**
-   * Ends the line that the program is at: the session is as before it. As long as `isCancelled` says so no other line is
-   * asked. Throws where the line cannot be ended: then it goes on.
+   * Ends the line that the program is at: the session is as before it. As long as `isCancelled` says so no other line
+   * is asked. Throws where the line cannot be ended: then it goes on.
    */
   async cancel() {
     this.isCancelled = true;

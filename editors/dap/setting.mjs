@@ -5,7 +5,7 @@ import { FILTERS } from "./breakpoints.mjs";
 import { readFunction, readOptions } from "./options.mjs";
 import { Refused, refused } from "./refused.mjs";
 
-const NAMES_OF_FILTERS = FILTERS.map(({ filter }) => filter);
+const KNOWN_FILTERS = FILTERS.map(({ filter }) => filter);
 const NO_CONDITION = "no condition is read here: a run stops where the variable is bound";
 
 /**
@@ -104,7 +104,7 @@ export default {
   async on_setExceptionBreakpoints({ filters = [], filterOptions = [] }) {
     const set = new Set(), given = [...filters.map((filterId) => ({ filterId })), ...filterOptions];
     const answered = await answers(this, given, [], ({ filterId, condition }) => {
-      if (!NAMES_OF_FILTERS.includes(filterId)) throw refused(`no such filter; there are: ${NAMES_OF_FILTERS.join(", ")}`);
+      if (!KNOWN_FILTERS.includes(filterId)) throw refused(`no such filter; there are: ${KNOWN_FILTERS.join(", ")}`);
       if (condition) throw refused("no condition is read here: a run stops at each such goal");
       set.add(filterId);
       return { verified: true };

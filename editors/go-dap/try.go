@@ -1,5 +1,5 @@
-// Sessions of the adapter by go-dap: forwards and back through examples/bill.ghc, then a goal that fails and a line that is
-// cancelled. They need Debian's golang-go and golang-github-google-go-dap-dev. From the repository:
+// Sessions of the adapter by go-dap: forwards and back through examples/bill.ghc, then a goal that fails and a line
+// that is cancelled. They need Debian's golang-go and golang-github-google-go-dap-dev. From the repository:
 //
 //	GO111MODULE=off GOPATH=/usr/share/gocode go run editors/go-dap/*.go
 //
@@ -39,7 +39,8 @@ func lineOf(word string) int {
 // Asks for a session, and tells what the adapter can do that not every debugger does.
 func (c *client) initialize() {
 	arguments := dap.InitializeRequestArguments{AdapterID: "ghcdb", LinesStartAt1: true, ColumnsStartAt1: true}
-	can := ask[*dap.InitializeResponse](c, &dap.InitializeRequest{Request: c.request("initialize"), Arguments: arguments}).Body
+	request := &dap.InitializeRequest{Request: c.request("initialize"), Arguments: arguments}
+	can := ask[*dap.InitializeResponse](c, request).Body
 	fmt.Printf("steps back: %v, cancels: %v\n", can.SupportsStepBack, can.SupportsCancelRequest)
 	for _, filter := range can.ExceptionBreakpointFilters {
 		fmt.Printf("filter %s: %s\n", filter.Filter, filter.Label)
@@ -71,7 +72,8 @@ func (c *client) breakAt(file string, conditions ...string) {
 		points = append(points, dap.SourceBreakpoint{Line: lineOf("price"), Condition: condition})
 	}
 	arguments := dap.SetBreakpointsArguments{Source: dap.Source{Path: file}, Breakpoints: points}
-	tellSet(ask[*dap.SetBreakpointsResponse](c, &dap.SetBreakpointsRequest{Request: c.request("setBreakpoints"), Arguments: arguments}).Body.Breakpoints)
+	request := &dap.SetBreakpointsRequest{Request: c.request("setBreakpoints"), Arguments: arguments}
+	tellSet(ask[*dap.SetBreakpointsResponse](c, request).Body.Breakpoints)
 }
 
 func (c *client) breakAtGoals(names ...string) {
@@ -79,7 +81,8 @@ func (c *client) breakAtGoals(names ...string) {
 	for _, name := range names {
 		points = append(points, dap.FunctionBreakpoint{Name: name})
 	}
-	request := &dap.SetFunctionBreakpointsRequest{Request: c.request("setFunctionBreakpoints"), Arguments: dap.SetFunctionBreakpointsArguments{Breakpoints: points}}
+	arguments := dap.SetFunctionBreakpointsArguments{Breakpoints: points}
+	request := &dap.SetFunctionBreakpointsRequest{Request: c.request("setFunctionBreakpoints"), Arguments: arguments}
 	tellSet(ask[*dap.SetFunctionBreakpointsResponse](c, request).Body.Breakpoints)
 }
 
@@ -88,14 +91,16 @@ func (c *client) breakWhereBound(variables ...string) {
 	for _, variable := range variables {
 		points = append(points, dap.DataBreakpoint{DataId: variable})
 	}
-	request := &dap.SetDataBreakpointsRequest{Request: c.request("setDataBreakpoints"), Arguments: dap.SetDataBreakpointsArguments{Breakpoints: points}}
+	arguments := dap.SetDataBreakpointsArguments{Breakpoints: points}
+	request := &dap.SetDataBreakpointsRequest{Request: c.request("setDataBreakpoints"), Arguments: arguments}
 	tellSet(ask[*dap.SetDataBreakpointsResponse](c, request).Body.Breakpoints)
 }
 
 // Tells the next stop: where the process stands.
 func (c *client) tellStop(what string) {
 	reason := c.stop().Reason
-	request := &dap.StackTraceRequest{Request: c.request("stackTrace"), Arguments: dap.StackTraceArguments{ThreadId: c.thread}}
+	arguments := dap.StackTraceArguments{ThreadId: c.thread}
+	request := &dap.StackTraceRequest{Request: c.request("stackTrace"), Arguments: arguments}
 	frame := ask[*dap.StackTraceResponse](c, request).Body.StackFrames[0]
 	fmt.Printf("%s: %s, at %s line %d (%s)\n", what, frame.Name, frame.Source.Name, frame.Line, reason)
 }
@@ -114,7 +119,8 @@ func (c *client) stepIn() {
 
 func (c *client) reverse() {
 	arguments := dap.ReverseContinueArguments{ThreadId: c.thread}
-	ask[*dap.ReverseContinueResponse](c, &dap.ReverseContinueRequest{Request: c.request("reverseContinue"), Arguments: arguments})
+	request := &dap.ReverseContinueRequest{Request: c.request("reverseContinue"), Arguments: arguments}
+	ask[*dap.ReverseContinueResponse](c, request)
 	c.tellStop("back to who bound P")
 }
 
@@ -127,14 +133,17 @@ func (c *client) stepBack() {
 // What a line of the editor's console, or a name in it, is answered by.
 func (c *client) evaluate(expression string) dap.EvaluateResponseBody {
 	arguments := dap.EvaluateArguments{Expression: expression, Context: "repl"}
-	return ask[*dap.EvaluateResponse](c, &dap.EvaluateRequest{Request: c.request("evaluate"), Arguments: arguments}).Body
+	request := &dap.EvaluateRequest{Request: c.request("evaluate"), Arguments: arguments}
+	return ask[*dap.EvaluateResponse](c, request).Body
 }
 
 // Asks for a list, and tells how long it is, and a page of it.
 func (c *client) tellPage(name string, start, count int) {
 	list := c.evaluate(name)
-	arguments := dap.VariablesArguments{VariablesReference: list.VariablesReference, Filter: "indexed", Start: start, Count: count}
-	page := ask[*dap.VariablesResponse](c, &dap.VariablesRequest{Request: c.request("variables"), Arguments: arguments}).Body.Variables
+	reference := list.VariablesReference
+	arguments := dap.VariablesArguments{VariablesReference: reference, Filter: "indexed", Start: start, Count: count}
+	request := &dap.VariablesRequest{Request: c.request("variables"), Arguments: arguments}
+	page := ask[*dap.VariablesResponse](c, request).Body.Variables
 	fmt.Printf("%s = %s has %d elements\n", name, list.Result, list.IndexedVariables)
 	for _, element := range page {
 		fmt.Printf("element %s: %s\n", element.Name, element.Value)
@@ -143,7 +152,8 @@ func (c *client) tellPage(name string, start, count int) {
 
 // Sends a line, cancels it while it goes on, and tells its answer.
 func (c *client) cancelled(expression string) {
-	line := &dap.EvaluateRequest{Request: c.request("evaluate"), Arguments: dap.EvaluateArguments{Expression: expression, Context: "repl"}}
+	arguments := dap.EvaluateArguments{Expression: expression, Context: "repl"}
+	line := &dap.EvaluateRequest{Request: c.request("evaluate"), Arguments: arguments}
 	c.send(line)
 	time.Sleep(soon)
 	c.send(&dap.CancelRequest{Request: c.request("cancel"), Arguments: dap.CancelArguments{RequestId: line.Seq}})

@@ -1,4 +1,4 @@
-// `cancel`, by a client: of a line that goes on, of a request that waits for its turn, of a run, and of what is done by then.
+// `cancel`, by a client: of a line that goes on, a request that waits for its turn, a run, and what is done by then.
 import assert from "node:assert";
 import fs from "node:fs";
 import os from "node:os";
@@ -48,7 +48,8 @@ test("a line that goes on is ended, and the session is as before it", LIMIT, asy
   await client.go("stepIn");
   const line = typed(client, "leap");
   await pass(SOON);
-  await Promise.all([client.ask("cancel", { requestId: line.requestId }), client.ask("cancel", { requestId: line.requestId })]);
+  const { requestId } = line;
+  await Promise.all([client.ask("cancel", { requestId }), client.ask("cancel", { requestId })]);
   assert.deepStrictEqual(await said(line), CANCELLED);
   assert.strictEqual(await client.type("records"), "1 0.1 by 1 reads - binds - makes 1.1,1.2");
   assert.strictEqual((await client.go("next")).reason, "step");
@@ -57,7 +58,8 @@ test("a line that goes on is ended, and the session is as before it", LIMIT, asy
 });
 
 test("a request that waits is not begun, and what it waits for goes on", LIMIT, async () => {
-  const client = await begun(), line = typed(client, "leap"), step = sent(client, "stepIn", { threadId: client.thread }), other = typed(client, "goals");
+  const client = await begun(), line = typed(client, "leap");
+  const step = sent(client, "stepIn", { threadId: client.thread }), other = typed(client, "goals");
   await pass(SOON);
   await client.ask("cancel", { requestId: step.requestId });
   assert.deepStrictEqual(await said(step), CANCELLED);
@@ -89,25 +91,28 @@ test("a run pauses where the request that began it is cancelled, and its steps a
 test("to cancel what is done, or what there never was, does nothing", LIMIT, async () => {
   const client = await begun(), line = typed(client, "goals");
   assert.deepStrictEqual(await said(line), [true, undefined]);
-  for (const given of [{ requestId: line.requestId }, { requestId: 99999 }, { progressId: "x" }, {}, null, "quit"]) await client.ask("cancel", given);
+  const { requestId } = line, unknown = [{ requestId: 99999 }, { progressId: "x" }, {}, null, "quit"];
+  for (const given of [{ requestId }, ...unknown]) await client.ask("cancel", given);
   assert.strictEqual(await client.type("goals"), "0.1 ready p(0)");
   await client.end();
 });
 
 test("who hears of progress is told where a line goes on for long, and cancels it by that", LIMIT, async () => {
-  const client = await begun({ supportsProgressReporting: true }), line = typed(client, "leap"), begin = await client.event("progressStart");
-  assert.deepStrictEqual(begin, { progressId: String(line.requestId), title: "leap", requestId: line.requestId, cancellable: true });
-  await client.ask("cancel", { progressId: begin.progressId });
+  const client = await begun({ supportsProgressReporting: true }), line = typed(client, "leap"), { requestId } = line;
+  const begin = await client.event("progressStart"), progressId = String(requestId);
+  assert.deepStrictEqual(begin, { progressId, title: "leap", requestId, cancellable: true });
+  await client.ask("cancel", { progressId });
   assert.deepStrictEqual(await said(line), CANCELLED);
-  assert.deepStrictEqual(await client.event("progressEnd"), { progressId: begin.progressId });
+  assert.deepStrictEqual(await client.event("progressEnd"), { progressId });
   await client.end();
 });
 
 // ---- the adapter by itself
 
-/** An adapter with a session of the endless program. `put` sends a request, `answerTo` gives an answer that has come. */
+/** An adapter with a session of the endless program. `put` sends a request, `answerTo` gives an answer that came. */
 async function adapterBegun(wants) {
-  const messages = [], adapter = new Adapter({ send: (message) => messages.push(message), leave: () => {}, native: undefined });
+  const messages = [], send = (message) => messages.push(message);
+  const adapter = new Adapter({ send, leave: () => {}, native: undefined });
   const put = (seq, command, given) => adapter.hear({ type: "request", seq, command, arguments: given });
   const answerTo = (seq) => messages.find(({ type, request_seq: number }) => type === "response" && number === seq);
   await put(1, "initialize", wants);

@@ -30,16 +30,18 @@ test("a goal that fails stops as an exception, in a run and at a step, where its
     assert.strictEqual((await client.go("continue")).reason, reason, "it has failed still");
     await client.go("restart");
     const step = await client.go("stepIn");
-    assert.deepStrictEqual([step.reason, step.text], [reason === "exception" ? reason : "step", stepped], filters.join());
+    const wanted = [reason === "exception" ? reason : "step", stepped];
+    assert.deepStrictEqual([step.reason, step.text], wanted, filters.join());
     assert.strictEqual((await client.frames())[0].name, "p(2)");
     await client.go("restart");
   }
   await client.end();
 });
 
-test("what has failed before a step is no exception of that step, and each process tells why its own goal failed", async () => {
-  const client = await begun(QUERY), told = async (threadId) => (await client.ask("exceptionInfo", { threadId })).description;
-  const { threads } = await client.ask("threads"), idOf = (name) => threads.find((thread) => thread.name.startsWith(`${name} `)).id;
+test("what had failed before a step is no exception of it, and each process tells why its own goal failed", async () => {
+  const client = await begun(QUERY), { threads } = await client.ask("threads");
+  const told = async (threadId) => (await client.ask("exceptionInfo", { threadId })).description;
+  const idOf = (name) => threads.find((thread) => thread.name.startsWith(`${name} `)).id;
   assert.strictEqual((await client.go("stepIn")).threadId, idOf("0.2"));
   assert.strictEqual(await told(idOf("0.2")), "0.2 p(2)\nclause 1: the head wants 1, the goal has 2");
   assert.strictEqual(await told(idOf("0.3")), "0.3 p(2)\nclause 1: the head wants 1, the goal has 2");
@@ -49,7 +51,7 @@ test("what has failed before a step is no exception of that step, and each proce
   await client.end();
 });
 
-test("a goal that had failed before the first step is told at the beginning, and is no exception of a later step", async () => {
+test("a goal that had failed before the first step is no exception of a later one", async () => {
   const client = await begun("p(2), p(1)");
   const { threads } = await client.ask("threads"), { id } = threads.find(({ name }) => name.startsWith("0.2 "));
   assert.strictEqual((await client.go("stepIn", { threadId: id })).reason, "step");

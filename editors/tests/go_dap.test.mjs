@@ -11,7 +11,8 @@ const ROOT = path.join(path.dirname(fileURLToPath(import.meta.url)), "..", "..")
 const skip = lacksInGo("github.com/google/go-dap");
 
 test("go-dap reads all messages, and its sessions are as they were recorded", { skip, timeout: 600000 }, () => {
-  const folder = path.join(ROOT, "editors", "go-dap"), files = ["client.go", "try.go"].map((name) => path.join(folder, name));
+  const folder = path.join(ROOT, "editors", "go-dap");
+  const files = ["client.go", "try.go"].map((name) => path.join(folder, name));
   const env = { ...process.env, GO111MODULE: "off", GOPATH: GO_PATH };
   const told = execFileSync("go", ["run", ...files], { encoding: "utf8", cwd: ROOT, env });
   assert.strictEqual(told, fs.readFileSync(path.join(folder, "session.txt"), "utf8"));

@@ -56,7 +56,7 @@ test("the packed extension tells what is wrong with a program, and what stands i
   end();
 });
 
-test("when the language server ends, nothing that it told is left, and the editor says so once", { timeout: 60000 }, async () => {
+test("when the language server ends, what it told goes, and the editor says so once", { timeout: 60000 }, async () => {
   const { editor, end } = await activated(path.join(unpacked(), "extension.js"), ["p(X) :- true | q(X).\n"]);
   const [document] = editor.documents, { Hover: server } = editor.providers;
   assert.strictEqual((await editor.told(document.uri)).length, 1);
@@ -64,7 +64,8 @@ test("when the language server ends, nothing that it told is left, and the edito
   assert.deepStrictEqual(await editor.told(document.uri), []);
   editor.type(document, "p(1).\n");
   assert.strictEqual(await server.provideHover(document, { line: 0, character: 0 }), undefined);
-  assert.deepStrictEqual(editor.warnings, ["Flat GHC: the language server has ended. `Developer: Reload Window` starts it again."]);
+  const words = "Flat GHC: the language server has ended. `Developer: Reload Window` starts it again.";
+  assert.deepStrictEqual(editor.warnings, [words]);
   end();
 });
 
@@ -165,14 +166,26 @@ test("Neovim knows the files, and nvim-dap is told the adapter", { skip: lacks("
 
 test("Neovim maps the keys that go back in programs alone", { skip: lacks("nvim", "Neovim") }, () => {
   const out = path.join(room(), "told"), at = (name) => path.join(ROOT, name);
-  const stub = "lua package.preload.dap = function() return { adapters = {}, configurations = {}, step_back = print, reverse_continue = print } end";
-  const keys = "vim.tbl_map(function(map) return map.lhs end, maps)";
-  const note = (maps) => `lua local maps = ${maps}; vim.fn.writefile({ table.concat(vim.fn.sort(${keys}), " ") }, "${out}", "a")`;
-  const words = ["-c", stub, "-c", "lua vim.g.mapleader = ','", "-c", `luafile ${at("editors/neovim/ghcdb.lua")}`, "-c", "filetype on",
-    "-c", `edit ${at("examples/bill.ghc")}`, "-c", note("vim.api.nvim_buf_get_keymap(0, 'n')"), "-c", `edit ${at("README.md")}`,
-    "-c", note("vim.api.nvim_buf_get_keymap(0, 'n')"), "-c", note("vim.tbl_filter(function(map) return map.lhs:sub(1, 1) == ',' end, vim.api.nvim_get_keymap('n'))")];
-  execFileSync("nvim", ["--headless", "-u", "NONE", ...words, "-c", "quitall!"], { stdio: "ignore" });
-  assert.deepStrictEqual(fs.readFileSync(out, "utf8").split("\n"), [",b ,r", "", "", ""]);
+  const note = `lua local keys = {}
+    for _, maps in ipairs({ vim.api.nvim_buf_get_keymap(0, "n"), vim.api.nvim_get_keymap("n") }) do
+      for _, map in ipairs(maps) do if map.lhs:sub(1, 1) == "," then table.insert(keys, map.lhs) end end
+    end
+    table.sort(keys)
+    vim.fn.writefile({ table.concat(keys, " ") }, "${out}", "a")`.replace(/\n\s*/g, " ");
+  const commands = [
+    "lua vim.g.mapleader = ','",
+    "lua local dap = { adapters = {}, configurations = {}, step_back = print, reverse_continue = print }; package.preload.dap = function() return dap end",
+    `luafile ${at("editors/neovim/ghcdb.lua")}`,
+    "filetype on",
+    `edit ${at("examples/bill.ghc")}`,
+    note,
+    `edit ${at("README.md")}`,
+    note,
+    "quitall!",
+  ];
+  const words = commands.flatMap((command) => ["-c", command]);
+  execFileSync("nvim", ["--headless", "-u", "NONE", ...words], { stdio: "ignore" });
+  assert.deepStrictEqual(fs.readFileSync(out, "utf8").split("\n"), [",b ,r", "", ""]);
 });
 
 test("Neovim steps forwards and back through bill.ghc as it was recorded", { skip: lacks("nvim", "Neovim"), timeout: 60000 }, () => {

@@ -76,8 +76,13 @@ test("a function breakpoint's name is a predicate or a pattern of its goals, or 
     assert.deepStrictEqual([verified, message], [false, `${name}: ${words}`]);
   }
   assert.match((await made({ name: "price(X,X)" })).message, /^price\(X,X\): .* so that X twice compares nothing$/);
-  const stops = [[{ name: "price" }, "1.1 price(12,_1_1)"], [{ name: "price/2" }, "1.1 price(12,_1_1)"], [{ name: " price(3, _) " }, "1.2 price(3,_1_2)"],
-    [{ name: "price(N,_)", hitCondition: "2" }, "1.2 price(3,_1_2)"], [{ name: "price(3,_)", condition: "price(12,_)" }, "all is done: step back, or end"]];
+  const stops = [
+    [{ name: "price" }, "1.1 price(12,_1_1)"],
+    [{ name: "price/2" }, "1.1 price(12,_1_1)"],
+    [{ name: " price(3, _) " }, "1.2 price(3,_1_2)"],
+    [{ name: "price(N,_)", hitCondition: "2" }, "1.2 price(3,_1_2)"],
+    [{ name: "price(3,_)", condition: "price(12,_)" }, "all is done: step back, or end"],
+  ];
   for (const [point, text] of stops) {
     assert.strictEqual((await made(point)).verified, true, point.name);
     assert.strictEqual((await client.go("continue")).text, text, point.name);
@@ -121,9 +126,8 @@ test("a name in a log text is the clause's variable, and is refused where it sta
     const words = `${logMessage} stands for nothing; a log text can name {goal} {name} {N} {P} {T}`;
     assert.deepStrictEqual(await said(client, { logMessage }), [false, words]);
   }
-  for (const logMessage of ["{N", "N}", "{N} of {", "{{N}}"]) {
-    const wrong = logMessage === "{{N}}" ? "{{N} stands for nothing; a log text can name {goal} {name} {N} {P} {T}" : `${logMessage}: a brace in it has no partner`;
-    assert.deepStrictEqual(await said(client, { logMessage }), [false, wrong]);
+  for (const logMessage of ["{N", "N}", "{N} of {", "{N}}"]) {
+    assert.deepStrictEqual(await said(client, { logMessage }), [false, `${logMessage}: a brace in it has no partner`]);
   }
   const ofBody = "the clause's body makes P, and is not reached yet; a log text can name {goal} {name} {A} {B} {T}";
   assert.deepStrictEqual(await said(client, { logMessage: "price {P}" }, CLAUSE_1), [false, ofBody]);
@@ -140,10 +144,14 @@ test("a data breakpoint is on a variable that is there, and a filter is one of t
   const { verified, message } = await made({ dataId: "_0_1", condition: "T > 3" });
   assert.strictEqual(verified, false);
   assert.strictEqual(message, "no condition is read here: a run stops where the variable is bound");
-  const given = { filters: ["stuck", "raised"], filterOptions: [{ filterId: "failed" }, { filterId: "failed", condition: "p(1)" }] };
-  const filters = (await client.ask("setExceptionBreakpoints", given)).breakpoints;
-  const wrong = [undefined, "no such filter; there are: failed, stuck", undefined, "no condition is read here: a run stops at each such goal"];
-  assert.deepStrictEqual(filters.map((filter) => [filter.verified, filter.message]), wrong.map((why) => [why === undefined, why]));
+  const filterOptions = [{ filterId: "failed" }, { filterId: "failed", condition: "p(1)" }];
+  const filters = (await client.ask("setExceptionBreakpoints", { filters: ["stuck", "raised"], filterOptions })).breakpoints;
+  assert.deepStrictEqual(filters.map((filter) => [filter.verified, filter.message]), [
+    [true, undefined],
+    [false, "no such filter; there are: failed, stuck"],
+    [true, undefined],
+    [false, "no condition is read here: a run stops at each such goal"],
+  ]);
   await client.go("stepIn");
   assert.strictEqual((await made({ dataId: "_1_1" })).verified, true);
   await client.go("restart");

@@ -44,7 +44,8 @@ class Editor {
     const clear = () => this.documents.forEach(({ uri }) => set(uri, []));
     const register = (name) => (selector, provider) => { this.providers[name] = provider; return { dispose() {} }; };
     return {
-      createDiagnosticCollection: () => ({ set, clear, dispose() {} }), registerDocumentSymbolProvider: register("DocumentSymbol"),
+      createDiagnosticCollection: () => ({ set, clear, dispose() {} }),
+      registerDocumentSymbolProvider: register("DocumentSymbol"),
       registerDefinitionProvider: register("Definition"), registerHoverProvider: register("Hover"),
     };
   }
@@ -72,8 +73,11 @@ async function activated(file, texts = []) {
   const told = { commands: [], editor: new Editor(texts) }, subscriptions = [];
   const vscode = {
     ...TYPES, languages: told.editor.languages, workspace: told.editor.workspace,
-    window: { activeTextEditor: { document: { languageId: "fghc", fileName: "/a.ghc" } }, showErrorMessage: (text) => { throw new Error(text); },
-      showWarningMessage: (text) => told.editor.warnings.push(text) },
+    window: {
+      activeTextEditor: { document: { languageId: "fghc", fileName: "/a.ghc" } },
+      showErrorMessage: (text) => { throw new Error(text); },
+      showWarningMessage: (text) => told.editor.warnings.push(text),
+    },
     commands: { registerCommand: (name) => told.commands.push(name) },
     debug: {
       registerDebugAdapterDescriptorFactory: (type, made) => Object.assign(told, { type, started: made.createDebugAdapterDescriptor({ configuration: {} }) }),
