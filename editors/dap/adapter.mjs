@@ -2,17 +2,18 @@
 // every state that an editor sees is one that a session has.
 //
 // The requests stand in files by what they are for: beginning.mjs, setting.mjs (breakpoints), looking.mjs, stepping.mjs,
-// changing.mjs; runs are in running.mjs.
+// changing.mjs, cancelling.mjs; runs are in running.mjs.
 import Beginning from "./beginning.mjs";
 import { Breakpoints } from "./breakpoints.mjs";
+import Cancelling from "./cancelling.mjs";
 import Changing from "./changing.mjs";
 import Judging from "./judging.mjs";
 import Looking from "./looking.mjs";
-import { Refused } from "./refused.mjs";
+import { Cancelled, Refused } from "./refused.mjs";
 import Running from "./running.mjs";
 import Setting from "./setting.mjs";
 import Stepping from "./stepping.mjs";
-import { clauseTaken } from "./told.mjs";
+import { clauseTaken, failedText } from "./told.mjs";
 import { Ended } from "../../front/session/program.mjs";
 import { NotTold } from "../../front/session/session.mjs";
 import { notesAfter } from "../../front/run/telling.mjs";
@@ -43,8 +44,8 @@ class Adapter {
     this.sendMessage({ seq: this.last, ...message });
   }
 
-  event(name, body = {}) {
-    this.send({ type: "event", event: name, body });
+  event(name, body) {
+    this.send({ type: "event", event: name, ...(body !== undefined && { body }) });
   }
 
   /** Tells that the session has ended, once: there are clients that ask for its end again when they hear of it. */
@@ -65,8 +66,9 @@ class Adapter {
 
   hear(message) {
     if (message?.type !== "request") return;
+    if (message.command === "cancel") return this.hearCancel(message);
     if (this.isRunning && ENDS_RUN.has(message.command)) this.stopRun();
-    if (this.isRunning && message.command === "pause") return this.send(answerTo(message));
+    if (this.isRunning && message.command === "pause") return this.sendAnswer(message);
     this.inbox.push(message);
     return this.work();
   }
@@ -88,21 +90,46 @@ class Adapter {
     this.laters.push(what);
   }
 
+  /** Answers a request, and does what follows. While a run goes on others are handled in it. */
   async handle(request) {
-    const outer = this.laters, laters = this.laters = [];
-    try {
-      const body = await this.request(request.command, request.arguments ?? {});
-      this.send({ ...answerTo(request), ...(body !== undefined && { body }) });
-    } catch (error) {
-      laters.length = 0;
-      this.send({ ...answerTo(request), success: false, message: "refused", body: { error: { id: 1, format: this.wordsOf(error, request.command), showUser: true } } });
-    }
+    const { laters: outer, handling } = this, laters = this.laters = [];
+    this.handling = request;
+    await this.answer(request);
     try {
       for (const what of laters) await what();
     } catch (error) {
       this.event("output", { category: "stderr", output: `${this.wordsOf(error, request.command)}\n` });
     }
-    this.laters = outer;
+    Object.assign(this, { laters: outer, handling });
+  }
+
+  async answer(request) {
+    const { answering } = this, endProgress = request.command === "evaluate" ? this.tellProgress(request) : undefined;
+    this.answering = request;
+    try {
+      this.sendAnswer(request, await this.request(request.command, request.arguments ?? {}));
+    } catch (error) {
+      this.laters.length = 0;
+      if (error instanceof Cancelled) this.sendCancelled(request);
+      else this.sendRefusal(request, error);
+    }
+    this.answering = answering;
+    if (this.session !== undefined) this.session.isCancelled = false;
+    endProgress?.();
+  }
+
+  sendAnswer(request, body) {
+    this.send({ ...answerTo(request), ...(body !== undefined && { body }) });
+  }
+
+  sendRefusal(request, error) {
+    const told = { id: 1, format: this.wordsOf(error, request.command), showUser: true };
+    this.send({ ...answerTo(request), success: false, message: "refused", body: { error: told } });
+  }
+
+  sendCancelled(request) {
+    const told = { id: 2, format: "cancelled", showUser: false };
+    this.send({ ...answerTo(request), success: false, message: "cancelled", body: { error: told } });
   }
 
   wordsOf(error, command) {
@@ -163,10 +190,25 @@ class Adapter {
     return mine.find(({ status }) => status === "ready") ?? mine[0];
   }
 
-  /** Tells a stop: why, in words, and at which process where that is known. */
+  /** The first goal that has failed since the stop before; undefined where none has. */
+  failedAnew(goals) {
+    const failed = goals.filter(({ status }) => status === "failed");
+    const anew = failed.find(({ name }) => !this.failed.has(name));
+    this.failed = new Set(failed.map(({ name }) => name));
+    return anew;
+  }
+
+  /** Tells a stop: why, in words, and at which process where that is known. A step by which a goal fails stops at it. */
   async stopped(reason, text = reason, { thread, hit } = {}) {
-    const goals = await this.look();
+    const goals = await this.look(), failed = this.failedAnew(goals);
     this.inside.forget();
+    const isException = reason === "step" && failed !== undefined && this.breakpoints.filters.has("failed");
+    if (!isException) return this.tellStop(goals, { reason, text, thread, hit });
+    const its = this.processes.of(failed.name);
+    return this.tellStop(goals, { reason: "exception", text: failedText(failed), thread: its });
+  }
+
+  tellStop(goals, { reason, text, thread, hit }) {
     const shown = goals.find(({ status }) => status === "failed") ?? goals.find(({ status }) => status === "ready") ?? goals[0];
     const isThere = thread !== undefined && (this.live.has(thread) || this.isJudged(thread));
     this.shown = isThere ? thread : shown === undefined ? 1 : this.processes.of(shown.name);
@@ -188,6 +230,8 @@ const WITHOUT_SESSION = new Set(["initialize", "launch", "attach", "disconnect",
 const RUNS = new Set(["continue", "next", "stepIn", "stepOut", "stepBack", "reverseContinue", "goto", "restartFrame", "setVariable", "setExpression", "evaluate",
   "ghcdb/undo", "ghcdb/roll", "ghcdb/redo"]);
 
-for (const requests of [Beginning, Setting, Looking, Stepping, Changing, Running, Judging]) Object.defineProperties(Adapter.prototype, Object.getOwnPropertyDescriptors(requests));
+for (const requests of [Beginning, Setting, Looking, Stepping, Changing, Running, Judging, Cancelling]) {
+  Object.defineProperties(Adapter.prototype, Object.getOwnPropertyDescriptors(requests));
+}
 
 export { Adapter };

@@ -14,7 +14,8 @@ import { EditorSession } from "./session.mjs";
 
 const CAN = ["ConfigurationDoneRequest", "FunctionBreakpoints", "ConditionalBreakpoints", "HitConditionalBreakpoints", "LogPoints", "DataBreakpoints", "EvaluateForHovers",
   "StepBack", "RestartFrame", "RestartRequest", "GotoTargetsRequest", "StepInTargetsRequest", "CompletionsRequest", "SetVariable", "SetExpression", "LoadedSourcesRequest",
-  "ExceptionInfoRequest", "TerminateRequest", "SingleThreadExecutionRequests", "BreakpointLocationsRequest"];
+  "ExceptionInfoRequest", "TerminateRequest", "SingleThreadExecutionRequests", "BreakpointLocationsRequest",
+  "CancelRequest"];
 
 const MOST_NOTES = 6; // on a program that it tells
 
@@ -47,8 +48,9 @@ function textOf(file) {
 }
 
 export default {
-  on_initialize({ linesStartAt1 = true }) {
+  on_initialize({ linesStartAt1 = true, supportsProgressReporting = false }) {
     this.first = linesStartAt1 ? 1 : 0;
+    this.hearsProgress = supportsProgressReporting;
     return { ...Object.fromEntries(CAN.map((name) => [`supports${name}`, true])), exceptionBreakpointFilters: FILTERS };
   },
 
@@ -67,12 +69,14 @@ export default {
     const places = new Places(file, program, query, this.first);
     try {
       await session.begin();
+      await session.keepWayBack(); // any line can be ended
     } catch (error) {
       throw error instanceof Ended ? refused(this.tellRefusal(error, session, places)) : error;
     }
     await this.session?.end();
     Object.assign(this, { given, session, places, slice: Number(given.slice ?? 1000), processes: new Processes(session), inside: new Inside(session), blaming: new Blaming(session) });
-    Object.assign(this, { live: new Set(), hasToldEnd: false, frameTexts: new Map(), textsNow: undefined, textsBefore: undefined, notedAt: undefined });
+    Object.assign(this, { live: new Set(), failed: new Set(), hasToldEnd: false });
+    Object.assign(this, { frameTexts: new Map(), textsNow: undefined, textsBefore: undefined, notedAt: undefined });
     this.breakpoints.spied = new Set();
     const notes = Causes.notesOn(program, path.basename(file)).slice(0, MOST_NOTES);
     this.later(() => notes.forEach((cause) => this.tellCause(cause, Causes.linesOf(cause, program), places, "important")));

@@ -2,8 +2,11 @@
 // predicate alone (`spy`); the rest is found out at each such stop.
 import { fits } from "./options.mjs";
 
-// The filters of exceptions that an editor may set.
-const FILTERS = [{ filter: "stuck", label: "Goals wait, and none is ready", default: true }];
+// The filters of exceptions that an editor may set. Without one the stop is a pause: the run has ended in any case.
+const FILTERS = [
+  { filter: "failed", label: "A goal has failed", default: true },
+  { filter: "stuck", label: "Goals wait, and none is ready", default: true },
+];
 
 class Breakpoints {
   constructor() {
@@ -13,13 +16,18 @@ class Breakpoints {
     this.predicates = [];
     this.variables = [];
     this.spied = new Set();
-    this.stopsWhereStuck = true;
+    this.filters = new Set(FILTERS.map(({ filter }) => filter));
   }
 
   /** A number for a breakpoint. */
   number() {
     this.last += 1;
     return this.last;
+  }
+
+  /** The reason that an editor is told for a stop that one of the filters is about. */
+  reasonOf(filter) {
+    return this.filters.has(filter) ? "exception" : "pause";
   }
 
   /** Makes the console spy just the predicates at which a run may have to stop. */
@@ -58,10 +66,10 @@ class Breakpoints {
   }
 }
 
-/** Does a goal fit the condition of a breakpoint, where it has one? */
-function fitsGoal({ pattern }, name, run) {
-  const call = run.goalOf(name)?.call;
-  return pattern === undefined || (call !== undefined && fits(pattern, call, run));
+/** Does a goal fit the patterns of a breakpoint: of its condition, and of a function breakpoint's name? */
+function fitsGoal({ pattern, named }, name, run) {
+  const patterns = [pattern, named].filter(Boolean), call = run.goalOf(name)?.call;
+  return patterns.length === 0 || (call !== undefined && patterns.every((one) => fits(one, call, run)));
 }
 
 export { Breakpoints, FILTERS };

@@ -5,6 +5,7 @@ import Stuck from "../../front/run/stuck.mjs";
 import { readLines } from "./told.mjs";
 
 const LONGEST = 1000; // letters of a value
+const MOST_ELEMENTS = 10_000; // of a list that are counted and shown; the rest unfolds by itself
 
 const flat = (name, value) => ({ name, value, variablesReference: 0 });
 
@@ -27,15 +28,24 @@ function goalOf({ status, text }) {
   return Reader.readQuery(text).goals[0];
 }
 
-/** The elements of a list as far as it is known, and what comes after them. */
-function elementsOf(term, store) {
+const isCell = ({ name, arguments: terms }) => name === "." && terms.length === 2;
+
+/** The elements of a list as far as it is known, and what comes after them: undefined where the list ends there. */
+function elementsOf(list, store) {
   const elements = [];
-  let rest = term;
-  while (rest.name === "." && rest.arguments.length === 2) {
-    elements.push([String(elements.length + 1), rest.arguments[0]]);
+  let rest = list;
+  while (isCell(rest) && elements.length < MOST_ELEMENTS) {
+    elements.push(rest.arguments[0]);
     rest = store.endOf(rest.arguments[1]);
   }
-  return rest.name === "[]" ? elements : [...elements, ["| tail", rest]];
+  return { elements, rest: rest.name === "[]" ? undefined : rest };
+}
+
+/** How many parts a term has, told of lists alone, so that an editor can ask for a page of a long one. */
+function countsOf(term, store) {
+  if (!isCell(term)) return undefined;
+  const { elements, rest } = elementsOf(term, store);
+  return { indexedVariables: elements.length, namedVariables: rest === undefined ? 0 : 1 };
 }
 
 /** The parts of a goal, each with its name. */
@@ -66,10 +76,15 @@ class Inside {
     return this.references.get(number);
   }
 
-  /** A variable or a part of a term, which unfolds where it has parts. */
-  variable(name, term, store = this.session.run.shown) {
+  /**
+   * A variable or a part of a term, which unfolds where it has parts. Of its list so many elements as `before` says are
+   * shown elsewhere.
+   */
+  variable(name, term, store = this.session.run.shown, before = 0) {
     const end = store.endOf(term), unfolds = end.arguments?.length > 0 && !Print.isOperation(end);
-    const shown = { name, value: Print.term(end, { store, most: LONGEST }), variablesReference: unfolds ? this.reference("term", { term: end, store }) : 0 };
+    const value = Print.term(end, { store, most: LONGEST });
+    const variablesReference = unfolds ? this.reference("term", { term: end, store, before }) : 0;
+    const shown = { name, value, variablesReference, ...(unfolds && countsOf(end, store)) };
     if (term.variable === undefined) return shown;
     return { ...shown, evaluateName: term.variable, type: this.session.run.labelOf(term.variable) };
   }
@@ -80,24 +95,39 @@ class Inside {
     return [...env].filter(([name]) => Reader.isWritten(name)).map(([name, term]) => this.variable(name, term));
   }
 
-  scopesOf(frame) {
+  /** The scopes of a frame; `goals` are all goals as they stand. */
+  scopesOf(frame, goals) {
     const { kind, what } = this.referred(frame), scope = (name, of, more) => ({ name, variablesReference: this.reference(of, what), expensive: false, ...more });
     const scopes = [];
     if (kind === "goal") scopes.push(scope("Goal", "parts", { presentationHint: "arguments" }));
     if (kind === "goal" && what.waitsFor.length > 0) scopes.push(scope("Waits for", "waits"));
     if (kind === "step") scopes.push(scope("Clause", "environment", { presentationHint: "locals" }), scope("Bound here", "binds"), scope("Because of", "why"));
-    return [...scopes, scope("Query", "query"), scope("Goals", "goals"), scope("Taken back", "shelf")];
+    const ofGoals = scope("Goals", "goals", { indexedVariables: goals.length });
+    return [...scopes, scope("Query", "query"), ofGoals, scope("Taken back", "shelf")];
   }
 
-  async variablesOf(reference) {
+  /**
+   * The variables in a scope or a term, from `start` to `end`. A list's elements and the goals are indexed: `filter`
+   * takes these or the named ones alone. Undefined where the reference counts no more.
+   */
+  async variablesOf(reference, { filter, start = 0, end } = {}) {
     const found = this.referred(reference);
     if (found === undefined) return undefined;
-    return this[`in_${found.kind}`](found.what);
+    const parts = await this[`in_${found.kind}`](found.what);
+    const { indexed, named } = Array.isArray(parts) ? { indexed: [], named: parts } : parts;
+    const wanted = { indexed, named }[filter] ?? [...indexed, ...named];
+    return wanted.slice(start, end).map((part) => (typeof part === "function" ? part() : part));
   }
 
-  in_term({ term, store }) {
-    const parts = term.name === "." ? elementsOf(term, store) : term.arguments.map((argument, place) => [String(place + 1), argument]);
-    return parts.map(([name, part]) => this.variable(name, part, store));
+  /** The parts of a term, each made when it is shown. */
+  in_term({ term, store, before }) {
+    if (!isCell(term)) return term.arguments.map((part, place) => () => this.variable(String(place + 1), part, store));
+    const { elements, rest } = elementsOf(term, store), shown = before + elements.length;
+    const name = rest !== undefined && isCell(rest) ? `| after ${shown}` : "| tail";
+    return {
+      indexed: elements.map((element, place) => () => this.variable(String(before + place + 1), element, store)),
+      named: rest === undefined ? [] : [() => this.variable(name, rest, store, shown)],
+    };
   }
 
   in_parts(shown) {
@@ -142,7 +172,8 @@ class Inside {
 
   async in_goals() {
     const statusOf = ({ status, waitsFor, refusal }) => [status, waitsFor.join(","), refusal].filter(Boolean).join(" ");
-    return (await this.session.goals()).map((goal) => flat(goal.name, `${statusOf(goal)}   ${goal.text.slice(0, LONGEST)}`));
+    const shown = (goal) => flat(goal.name, `${statusOf(goal)}   ${goal.text.slice(0, LONGEST)}`);
+    return { indexed: (await this.session.goals()).map((goal) => () => shown(goal)), named: [] };
   }
 
   async in_shelf() {

@@ -59,15 +59,16 @@ export default {
     return { id: this.inside.reference("step", number), name: `step ${number}: ${text.slice(0, LONGEST_NAME)}${act}`, canRestart: true, ...this.places.spotOf(place) };
   },
 
-  on_scopes({ frameId }) {
+  async on_scopes({ frameId }) {
     if (this.inside.referred(frameId) === undefined) throw refused("this frame is of a stop that is over");
-    return { scopes: this.inside.scopesOf(frameId) };
+    return { scopes: this.inside.scopesOf(frameId, await this.session.goalsTold() ?? []) };
   },
 
-  async on_variables({ variablesReference, start = 0, count }) {
-    const variables = await this.inside.variablesOf(variablesReference);
+  async on_variables({ variablesReference, filter, start = 0, count }) {
+    const end = count ? start + count : undefined;
+    const variables = await this.inside.variablesOf(variablesReference, { filter, start, end });
     if (variables === undefined) throw refused("this is of a stop that is over");
-    return { variables: variables.slice(start, count ? start + count : undefined) };
+    return { variables };
   },
 
   /** The term of a variable that is shown in a scope under a name. */
@@ -76,8 +77,9 @@ export default {
     return shown?.evaluateName === undefined ? undefined : { variable: shown.evaluateName };
   },
 
-  async on_exceptionInfo() {
-    const goals = await this.session.goals(), failed = goals.find(({ status }) => status === "failed");
+  async on_exceptionInfo({ threadId }) {
+    const goals = await this.session.goals(), allFailed = goals.filter(({ status }) => status === "failed");
+    const failed = allFailed.find(({ name }) => this.processes.of(name) === threadId) ?? allFailed[0];
     const labelOf = (variable) => this.session.run.labelOf(variable);
     if (failed === undefined) return { exceptionId: "stuck", description: Stuck.linesOf(goals, labelOf).join("\n"), breakMode: "always" };
     const why = failed.refusal === "F10" ? await whyNoClause(this.session, failed.name) : [];
@@ -120,8 +122,8 @@ export default {
   async on_evaluate({ expression, context, frameId }) {
     const line = expression.trim(), term = /^[A-Z_]\w*$/.test(line) ? await this.inside.termNamed(line, frameId) : undefined;
     if (term !== undefined) {
-      const { value, type, variablesReference } = this.inside.variable(line, term);
-      return { result: value, variablesReference, ...(type && { type }) };
+      const { value, type, variablesReference, indexedVariables, namedVariables } = this.inside.variable(line, term);
+      return { result: value, type, variablesReference, indexedVariables, namedVariables };
     }
     if (context === "hover" || context === "watch") throw refused(`${line} is no variable here`);
     return { result: (await this.consoleLine(line)).join("\n"), variablesReference: 0 };

@@ -44,6 +44,19 @@ function readCondition(text, predicate) {
   throw refused(`${text}: a variable of a pattern fits everything, so that ${repeated} twice compares nothing`);
 }
 
+/**
+ * What the name of a function breakpoint means: predicates by `price` or `price/2`, or one with a pattern of its goals,
+ * as `price(3,_)`.
+ */
+function readFunction(text, predicates) {
+  const name = String(text).trim(), isNamed = (predicate) => [predicate, predicate.split("/")[0]].includes(name);
+  const named = predicates.filter(isNamed).map((predicate) => ({ predicate }));
+  if (named.length > 0) return named;
+  const term = termOf(name), predicate = term && predicates.find((other) => isOf(term, other));
+  if (predicate !== undefined) return [{ predicate, pattern: readCondition(name, predicate) }];
+  throw refused(`${name}: no predicate, and no pattern of one's goals; there are: ${predicates.map(formOf).join(" ")}`);
+}
+
 /** Does a goal fit a pattern? A variable of the pattern fits everything. */
 function fits(pattern, term, run) {
   if (pattern.variable !== undefined) return true;
@@ -104,6 +117,7 @@ function readMessage(text, clause, query) {
   const meant = (word) => readWord(word.trim(), clause, query), words = [...String(text).matchAll(IN_BRACES)];
   const wrong = words.find(([, word]) => meant(word) === undefined);
   if (wrong !== undefined) throw refused(whyNoWord(wrong[1].trim(), clause, query));
+  if (/[{}]/.test(String(text).replace(IN_BRACES, ""))) throw refused(`${text}: a brace in it has no partner`);
   return (run, name) => String(text).replace(IN_BRACES, (all, word) => meant(word)(run, name));
 }
 
@@ -113,4 +127,4 @@ function readOptions({ condition, hitCondition, logMessage }, { predicate, claus
   return { pattern, least, messageOf: readMessage(logMessage, clause, query) };
 }
 
-export { readOptions, termOf, fits };
+export { readFunction, readOptions, termOf, fits };

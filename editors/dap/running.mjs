@@ -1,5 +1,6 @@
 // Runs: forwards in slices, so that a pause is heard between two of them, and backwards to a breakpoint.
 import Stuck from "../../front/run/stuck.mjs";
+import { failedText } from "./told.mjs";
 import { Ended } from "../../front/session/program.mjs";
 import { plural } from "../../front/run/reasons.mjs";
 import Replies from "../../front/protocol/replies.mjs";
@@ -10,6 +11,7 @@ export default {
   /** Runs something during which other requests are answered; a pause ends it. */
   async running(what) {
     this.isRunning = true;
+    this.runner = this.handling;
     this.wantsPause = false;
     try {
       return await what();
@@ -81,13 +83,18 @@ export default {
   async atEnd(reason, name) {
     const goals = await this.goalsTold();
     if (goals.length === 0 && await this.session.goalsTold() === undefined) return ["pause", `stopped ${reason}`];
-    if (reason === "clash") return ["exception", `${name} ${goals.find((goal) => goal.name === name)?.text} has failed`, { thread: this.processes.of(name) }];
+    if (reason === "clash") {
+      const failed = goals.find((goal) => goal.name === name);
+      return [this.breakpoints.reasonOf("failed"), failedText(failed), { thread: this.processes.of(name) }];
+    }
     if (reason !== "quiet") return ["pause", reason];
     const waiting = goals.filter(({ status }) => status === "waits");
     if (waiting.length > 0) {
       const isFed = goals.some(({ status }) => status === "stream");
       this.tell(Stuck.linesOf(goals, (variable) => this.session.run.labelOf(variable)), "important");
-      return [this.breakpoints.stopsWhereStuck ? "exception" : "pause", `${plural(waiting.length, "goal")} wait${waiting.length === 1 ? "s" : ""}, and none is ready${isFed ? "; `in 1 TERM` feeds the input stream" : ""}`];
+      const wait = waiting.length === 1 ? "waits" : "wait", help = isFed ? "; `in 1 TERM` feeds the input stream" : "";
+      const text = `${plural(waiting.length, "goal")} ${wait}, and none is ready${help}`;
+      return [this.breakpoints.reasonOf("stuck"), text];
     }
     if (goals.length > 0) return ["pause", "the input streams are open: `in 1 TERM` feeds one"];
     this.tell(["all is done", ...await this.answers()], "important");
@@ -102,7 +109,6 @@ export default {
 
   /** Runs what comes of a goal. Such a run cannot be cut into slices: a pause ends it, and the session is as before it. */
   async skip(name, thread) {
-    await this.session.prepareForEnding();
     const stop = await this.running(async () => {
       this.isSkipping = true;
       try {

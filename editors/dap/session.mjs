@@ -2,9 +2,10 @@
 // writes is whole.
 import fs from "node:fs";
 import path from "node:path";
+import { Ended } from "../../front/session/program.mjs";
 import { Session } from "../../front/session/session.mjs";
 import { isWhole } from "../../front/session/way_back.mjs";
-import { refused } from "./refused.mjs";
+import { Cancelled, refused } from "./refused.mjs";
 
 const CONTROL = /[\u0000-\u0008\u000a-\u001f\u007f-\u009f]/; // a line feed would make two lines of one
 
@@ -12,9 +13,36 @@ class EditorSession extends Session {
   /** Sends a line; one that would be two, or that a terminal would not take, is refused and not sent. */
   async ask(line) {
     if (CONTROL.test(line)) throw refused("a line feed or another control stands in it: one line is taken at a time");
-    const reply = await super.ask(line);
+    const reply = await this.askedUnlessCancelled(line);
     if (!/^ *save( |$)/.test(line) || isWhole(reply)) return reply;
     throw refused("F1 no memory: lines of the history are missing, so it is none, and nothing was saved");
+  }
+
+  async askedUnlessCancelled(line) {
+    if (this.isCancelled) throw new Cancelled();
+    try {
+      return await super.ask(line);
+    } catch (error) {
+      throw this.isCancelled && error instanceof Ended ? new Cancelled() : error;
+    }
+  }
+
+  /**
+   * Ends the line that the program is at: the session is as before it. As long as `isCancelled` says so no other line
+   * is asked. Throws where the line cannot be ended: then it goes on.
+   */
+  async cancel() {
+    this.isCancelled = true;
+    if (!this.program.isBusy) return;
+    this.ending ??= this.endRun();
+    try {
+      await this.ending;
+    } catch (error) {
+      this.isCancelled = false;
+      throw error;
+    } finally {
+      this.ending = undefined;
+    }
   }
 
   /** Writes the session into a file beside the program, and tells so. No file is written over but its own. */

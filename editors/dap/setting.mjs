@@ -2,9 +2,10 @@
 import path from "node:path";
 import Reader from "../../front/text/reader.mjs";
 import { FILTERS } from "./breakpoints.mjs";
-import { readOptions } from "./options.mjs";
+import { readFunction, readOptions } from "./options.mjs";
 import { Refused, refused } from "./refused.mjs";
 
+const KNOWN_FILTERS = FILTERS.map(({ filter }) => filter);
 const NO_CONDITION = "no condition is read here: a run stops where the variable is bound";
 
 /**
@@ -74,9 +75,7 @@ export default {
   async setAtPredicates(request, numbers = []) {
     const points = [], { predicates } = this.session;
     const answered = await answers(this, request.breakpoints, numbers, (given, id) => {
-      const found = predicates.filter((predicate) => [predicate, predicate.split("/")[0]].includes(given.name));
-      if (found.length === 0) throw refused(`no such predicate; there are: ${predicates.join(", ")}`);
-      points.push(...this.pointsAt(found, given, id));
+      points.push(...this.pointsAt(readFunction(given.name, predicates), given, id));
       return { verified: true };
     });
     this.breakpoints.predicates = points;
@@ -85,13 +84,13 @@ export default {
     return answered;
   },
 
-  /** A breakpoint at predicates of one name: at those of which the condition is a pattern, where there is one. */
-  pointsAt(predicates, given, id) {
+  /** A breakpoint at predicates: at those of which the condition is a pattern too, where there is one. */
+  pointsAt(places, given, id) {
     const made = [], query = this.session.variables;
     let why;
-    for (const predicate of predicates) {
+    for (const { predicate, pattern: named } of places) {
       try {
-        made.push({ id, kind: "predicate", hits: 0, predicate, ...readOptions(given, { predicate, query }) });
+        made.push({ id, kind: "predicate", hits: 0, predicate, named, ...readOptions(given, { predicate, query }) });
       } catch (error) {
         if (!(error instanceof Refused)) throw error;
         why ??= error;
@@ -101,11 +100,17 @@ export default {
     return made;
   },
 
-  on_setExceptionBreakpoints({ filters }) {
-    this.breakpoints.stopsWhereStuck = filters.includes("stuck");
-    const isKnown = (name) => FILTERS.some(({ filter }) => filter === name);
-    const unknown = { verified: false, message: "no such filter; there is: stuck" };
-    return { breakpoints: filters.map((name) => (isKnown(name) ? { verified: true } : unknown)) };
+  /** A filter may come by its name alone, or as an option with a condition, which is not read. */
+  async on_setExceptionBreakpoints({ filters = [], filterOptions = [] }) {
+    const set = new Set(), given = [...filters.map((filterId) => ({ filterId })), ...filterOptions];
+    const answered = await answers(this, given, [], ({ filterId, condition }) => {
+      if (!KNOWN_FILTERS.includes(filterId)) throw refused(`no such filter; there are: ${KNOWN_FILTERS.join(", ")}`);
+      if (condition) throw refused("no condition is read here: a run stops at each such goal");
+      set.add(filterId);
+      return { verified: true };
+    });
+    this.breakpoints.filters = set;
+    return { breakpoints: answered };
   },
 
   async on_dataBreakpointInfo({ name, variablesReference, frameId }) {

@@ -15,4 +15,9 @@ function clauseTaken(line) {
   return step === null || step.clause === null ? undefined : { number: step.number, clause: step.clause };
 }
 
-export { readLines, goalsMade, clauseTaken };
+const LONGEST = 300; // letters of a goal in the words of a stop
+
+/** What an editor is told of a goal that has failed. */
+const failedText = ({ name, text }) => `${name} ${text.slice(0, LONGEST)} has failed`;
+
+export { readLines, goalsMade, clauseTaken, failedText };

@@ -32,6 +32,9 @@ if found then
   local command, word = part("ghcdb-adapter", "--dap")
   dap.adapters.ghcdb = { type = "executable", command = command, args = { word } }
   dap.configurations.fghc = { { type = "ghcdb", request = "launch", name = "Flat GHC", program = "${file}" } }
-  vim.keymap.set("n", "<leader>b", dap.step_back, { desc = "Take back the last step of this process" })
-  vim.keymap.set("n", "<leader>r", dap.reverse_continue, { desc = "Back to who bound a watched variable, or to a breakpoint" })
+  vim.api.nvim_create_autocmd("FileType", { pattern = "fghc", callback = function(opened)
+    local function map(keys, what, words) vim.keymap.set("n", keys, what, { buffer = opened.buf, desc = words }) end
+    map("<leader>b", dap.step_back, "Take back the last step of this process")
+    map("<leader>r", dap.reverse_continue, "Back to who bound a watched variable, or to a breakpoint")
+  end })
 end

@@ -205,6 +205,7 @@ test("texts, completions, the console, restart, frames started anew", () => sess
 test("a pause is heard in an endless run, and requests are answered in it", () => session(async (client) => {
   await client.begin(programFile("p(N) :- true | M := N + 1, p(M).\n"), { query: "p(0)" });
   await client.ask("continue", { threadId: client.thread });
+  await client.ask("cancel", { requestId: 0 });
   await client.ask("setFunctionBreakpoints", { breakpoints: [] });
   assert.match(await client.refusal("next", { threadId: 1 }), /a run goes on/);
   await client.ask("pause", { threadId: client.thread });
@@ -314,7 +315,7 @@ test("every request that the adapter says it has was tried", () => {
   const requests = { ConfigurationDoneRequest: "configurationDone", FunctionBreakpoints: "setFunctionBreakpoints", DataBreakpoints: "setDataBreakpoints", StepBack: "stepBack", RestartFrame: "restartFrame",
     RestartRequest: "restart", GotoTargetsRequest: "gotoTargets", StepInTargetsRequest: "stepInTargets", CompletionsRequest: "completions", SetVariable: "setVariable", SetExpression: "setExpression",
     LoadedSourcesRequest: "loadedSources", ExceptionInfoRequest: "exceptionInfo", TerminateRequest: "terminate", BreakpointLocationsRequest: "breakpointLocations", EvaluateForHovers: "evaluate",
-    ConditionalBreakpoints: "setBreakpoints", HitConditionalBreakpoints: "setBreakpoints", LogPoints: "setBreakpoints", SingleThreadExecutionRequests: "stepOut" };
+    ConditionalBreakpoints: "setBreakpoints", HitConditionalBreakpoints: "setBreakpoints", LogPoints: "setBreakpoints", SingleThreadExecutionRequests: "stepOut", CancelRequest: "cancel" };
   for (const can of Object.keys(capabilities).filter((name) => name.startsWith("supports"))) assert.ok(TRIED.has(requests[can.slice("supports".length)]), can);
   const all = Object.getOwnPropertyNames(Adapter.prototype).filter((name) => name.startsWith("on_")).map((name) => name.slice(3).replace("ghcdb_", "ghcdb/"));
   assert.deepStrictEqual(all.filter((name) => !TRIED.has(name)), []);

@@ -4,9 +4,10 @@ import fs from "node:fs";
 import os from "node:os";
 import path from "node:path";
 import test from "node:test";
-import { execFileSync, spawnSync } from "node:child_process";
+import { execFileSync } from "node:child_process";
 import { fileURLToPath } from "node:url";
 import { LanguageClient } from "./lib/language_client.mjs";
+import { lacks, lacksInEmacs } from "./lib/there.mjs";
 import { aboutOf, clausesIn } from "../lsp/outline.mjs";
 
 const ROOT = path.join(path.dirname(fileURLToPath(import.meta.url)), "..", "..");
@@ -149,9 +150,6 @@ test("each example is accepted, and none of its goals is without a clause", LIMI
 // A wrong program: `is` of clause 1 is refused, and the goal of clause 2 leads to clause 1.
 const WRONG = "p(X,Y) :- true | Y is X + 1.\nq(X,Y) :- p(X,Y).\n", PLACE = ["2", "10"], LEADS_TO = "1:0";
 
-const isThere = (program) => spawnSync("sh", ["-c", `command -v ${program}`]).status === 0;
-const hasEglot = isThere("emacs") && spawnSync("emacs", ["-q", "--batch", "--eval", '(progn (package-initialize) (kill-emacs (if (locate-library "eglot") 0 1)))']).status === 0;
-
 /** A folder with the wrong program. */
 function wrongFile() {
   const file = path.join(fs.mkdtempSync(path.join(os.tmpdir(), "ghcdb-test-")), "wrong.ghc");
@@ -159,13 +157,13 @@ function wrongFile() {
   return file;
 }
 
-test("Neovim's own client shows what is wrong, and goes to a definition", { skip: !isThere("nvim"), ...LIMIT }, () => {
+test("Neovim's own client shows what is wrong, and goes to a definition", { skip: lacks("nvim", "Neovim"), ...LIMIT }, () => {
   const file = wrongFile(), out = `${file}.told`, words = ["--headless", "-u", "NONE", "-c", "luafile editors/neovim/try-language.lua", "-c", "quitall!"];
   execFileSync("nvim", words, { stdio: "ignore", cwd: ROOT, env: { ...process.env, FGHC_PLACE: [file, ...PLACE].join(" "), FGHC_TOLD: out } });
   assert.deepStrictEqual(fs.readFileSync(out, "utf8").trim().split("\n"), ["1:19 syntax: `is` is written :=", LEADS_TO]);
 });
 
-test("Emacs shows by eglot what is wrong, and goes to a definition", { skip: hasEglot ? false : "there is no Emacs with eglot", ...LIMIT }, () => {
+test("Emacs shows by eglot what is wrong, and goes to a definition", { skip: lacksInEmacs("eglot"), ...LIMIT }, () => {
   const words = ["-q", "--batch", "-l", path.join(ROOT, "editors", "emacs", "try-language.el"), wrongFile(), ...PLACE];
   const told = execFileSync("emacs", words, { encoding: "utf8", stdio: ["ignore", "pipe", "ignore"] }).trim().split("\n");
   assert.match(told[0], /^1:19 .*syntax: `is` is written :=$/);

@@ -8,6 +8,7 @@ import { execFileSync, spawnSync } from "node:child_process";
 import { fileURLToPath } from "node:url";
 import { Client } from "./lib/client.mjs";
 import { activated } from "./lib/stand_in.mjs";
+import { lacks, lacksInEmacs } from "./lib/there.mjs";
 import { packedFiles, vsixFiles } from "../vscode/packing.mjs";
 import { zip } from "../vscode/zip.mjs";
 
@@ -15,7 +16,6 @@ const HERE = path.dirname(fileURLToPath(import.meta.url));
 
 const ROOT = path.join(HERE, "..", "..");
 const room = () => fs.mkdtempSync(path.join(os.tmpdir(), "ghcdb-test-"));
-const isThere = (program) => spawnSync("sh", ["-c", `command -v ${program}`]).status === 0;
 
 /** Writes the files of the packed extension into a folder. */
 function unpacked() {
@@ -53,6 +53,19 @@ test("the packed extension tells what is wrong with a program, and what stands i
   assert.strictEqual(contents.value, "```fghc\n% clause 1\np(X) :- true | q(X).\n```");
   editor.type(document, `${text}q(_) :- true | true.\n`);
   assert.deepStrictEqual(await editor.told(document.uri), []);
+  end();
+});
+
+test("when the language server ends, what it told goes, and the editor says so once", { timeout: 60000 }, async () => {
+  const { editor, end } = await activated(path.join(unpacked(), "extension.js"), ["p(X) :- true | q(X).\n"]);
+  const [document] = editor.documents, { Hover: server } = editor.providers;
+  assert.strictEqual((await editor.told(document.uri)).length, 1);
+  server.child.kill();
+  assert.deepStrictEqual(await editor.told(document.uri), []);
+  editor.type(document, "p(1).\n");
+  assert.strictEqual(await server.provideHover(document, { line: 0, character: 0 }), undefined);
+  const words = "Flat GHC: the language server has ended. `Developer: Reload Window` starts it again.";
+  assert.deepStrictEqual(editor.warnings, [words]);
   end();
 });
 
@@ -98,7 +111,7 @@ test("the adapter's launch takes what the package says that it takes", () => {
   for (const name of Object.keys(launch.properties)) assert.match(code, new RegExp(`\\b${name}\\b`), name);
 });
 
-test("the archive's manifest is XML that names the package, and each kind of file has a type", { skip: !isThere("python3") }, () => {
+test("the archive's manifest is XML that names the package, and each kind of file has a type", { skip: lacks("python3", "Python") }, () => {
   const files = vsixFiles(packedFiles()), folder = room(), about = JSON.parse(files.get("extension/package.json"));
   for (const name of ["extension.vsixmanifest", "[Content_Types].xml"]) fs.writeFileSync(path.join(folder, name), files.get(name));
   const script = "import sys, xml.dom.minidom as x; m, t = (x.parse(f) for f in sys.argv[1:]); i = m.getElementsByTagName('Identity')[0]; print(i.getAttribute('Id'), i.getAttribute('Version'), i.getAttribute('Publisher')); print(*(d.getAttribute('Extension') for d in t.getElementsByTagName('Default')))";
@@ -108,7 +121,7 @@ test("the archive's manifest is XML that names the package, and each kind of fil
   assert.deepStrictEqual([...kinds].filter((kind) => !told[1].split(" ").includes(kind)), []);
 });
 
-test("the archive is one that others read", { skip: !isThere("python3") }, () => {
+test("the archive is one that others read", { skip: lacks("python3", "Python") }, () => {
   const file = path.join(room(), "ghcdb.vsix"), files = vsixFiles(packedFiles());
   fs.writeFileSync(file, zip(files));
   const told = execFileSync("python3", ["-c", "import sys, zipfile; it = zipfile.ZipFile(sys.argv[1]); print(it.testzip()); print(*it.namelist(), sep='\\n')", file], { encoding: "utf8" });
@@ -133,7 +146,7 @@ test("the colours of VS Code are patterns that a line matches", () => {
     ["support.function", "integer"], ["variable.other", "N"], ["constant.numeric", "9"]]);
 });
 
-test("Vim knows the files and colours them", { skip: !isThere("vim") }, () => {
+test("Vim knows the files and colours them", { skip: lacks("vim", "Vim") }, () => {
   const out = path.join(room(), "told"), vim = path.join(ROOT, "editors", "vim");
   const ask = (line, column) => `synIDattr(synID(${line}, ${column}, 1), 'name')`;
   execFileSync("vim", ["-es", "-N", "-u", "NONE", "-c", `set runtimepath^=${vim}`, "-c", "filetype plugin on | syntax on", "-c", `edit ${path.join(ROOT, "examples/bill.ghc")}`,
@@ -141,7 +154,7 @@ test("Vim knows the files and colours them", { skip: !isThere("vim") }, () => {
   assert.deepStrictEqual(fs.readFileSync(out, "utf8").trim().split("\n"), ["fghc", "% %s", "fghcComment", "fghcHead", "fghcVariable", "fghcCommit"]);
 });
 
-test("Neovim knows the files, and nvim-dap is told the adapter", { skip: !isThere("nvim") }, () => {
+test("Neovim knows the files, and nvim-dap is told the adapter", { skip: lacks("nvim", "Neovim") }, () => {
   const out = path.join(room(), "told"), at = (name) => path.join(ROOT, name);
   const stub = "lua package.preload.dap = function() return { adapters = {}, configurations = {}, step_back = print, reverse_continue = print } end";
   const tell = `lua local dap = require("dap"); vim.fn.writefile({ vim.bo.filetype, dap.configurations.fghc[1].type, vim.fn.resolve(dap.adapters.ghcdb.args[1]) }, "${out}")`;
@@ -151,23 +164,44 @@ test("Neovim knows the files, and nvim-dap is told the adapter", { skip: !isTher
   assert.deepStrictEqual([kind, type, fs.realpathSync(adapter)], ["fghc", "ghcdb", fs.realpathSync(at("editors/ghcdb-adapter"))]);
 });
 
-test("Neovim steps forwards and back through bill.ghc as it was recorded", { skip: !isThere("nvim"), timeout: 60000 }, () => {
+test("Neovim maps the keys that go back in programs alone", { skip: lacks("nvim", "Neovim") }, () => {
+  const out = path.join(room(), "told"), at = (name) => path.join(ROOT, name);
+  const note = `lua local keys = {}
+    for _, maps in ipairs({ vim.api.nvim_buf_get_keymap(0, "n"), vim.api.nvim_get_keymap("n") }) do
+      for _, map in ipairs(maps) do if map.lhs:sub(1, 1) == "," then table.insert(keys, map.lhs) end end
+    end
+    table.sort(keys)
+    vim.fn.writefile({ table.concat(keys, " ") }, "${out}", "a")`.replace(/\n\s*/g, " ");
+  const commands = [
+    "lua vim.g.mapleader = ','",
+    "lua local dap = { adapters = {}, configurations = {}, step_back = print, reverse_continue = print }; package.preload.dap = function() return dap end",
+    `luafile ${at("editors/neovim/ghcdb.lua")}`,
+    "filetype on",
+    `edit ${at("examples/bill.ghc")}`,
+    note,
+    `edit ${at("README.md")}`,
+    note,
+    "quitall!",
+  ];
+  const words = commands.flatMap((command) => ["-c", command]);
+  execFileSync("nvim", ["--headless", "-u", "NONE", ...words], { stdio: "ignore" });
+  assert.deepStrictEqual(fs.readFileSync(out, "utf8").split("\n"), [",b ,r", "", ""]);
+});
+
+test("Neovim steps forwards and back through bill.ghc as it was recorded", { skip: lacks("nvim", "Neovim"), timeout: 60000 }, () => {
   const out = path.join(room(), "told");
   execFileSync("nvim", ["--headless", "-u", "NONE", "-c", "luafile editors/neovim/try.lua", "-c", "quitall!"], { stdio: "ignore", cwd: ROOT, env: { ...process.env, FGHC_TOLD: out } });
   assert.strictEqual(fs.readFileSync(out, "utf8"), fs.readFileSync(path.join(ROOT, "editors/neovim/session.txt"), "utf8"));
 });
 
-const hasInEmacs = (library) => isThere("emacs") && spawnSync("emacs", ["-q", "--batch", "--eval", `(progn (package-initialize) (kill-emacs (if (locate-library "${library}") 0 1)))`]).status === 0;
-
 for (const [library, script, record] of [["dap-mode", "try.el", "session.txt"], ["dape", "try-dape.el", "session-dape.txt"]]) {
-  const skip = hasInEmacs(library) ? false : `there is no Emacs with ${library}`;
-  test(`Emacs steps forwards and back through bill.ghc by ${library} as it was recorded`, { skip, timeout: 60000 }, () => {
+  test(`Emacs steps forwards and back through bill.ghc by ${library} as it was recorded`, { skip: lacksInEmacs(library), timeout: 60000 }, () => {
     const told = execFileSync("emacs", ["-q", "--batch", "-l", path.join(ROOT, "editors/emacs", script)], { encoding: "utf8", stdio: ["ignore", "pipe", "ignore"], cwd: ROOT });
     assert.strictEqual(told, fs.readFileSync(path.join(ROOT, "editors/emacs", record), "utf8"));
   });
 }
 
-test("Emacs compiles the mode without a word, and colours a program", { skip: !isThere("emacs") }, () => {
+test("Emacs compiles the mode without a word, and colours a program", { skip: lacks("emacs", "Emacs") }, () => {
   const folder = room(), file = path.join(folder, "fghc-mode.el");
   fs.copyFileSync(path.join(ROOT, "editors/emacs/fghc-mode.el"), file);
   const compiled = spawnSync("emacs", ["-Q", "--batch", "-f", "batch-byte-compile", file], { encoding: "utf8" });
@@ -177,7 +211,7 @@ test("Emacs compiles the mode without a word, and colours a program", { skip: !i
   assert.deepStrictEqual(told.trim().split("\n").map((face) => face.replace(/^font-lock-|-face$/g, "")), ["function-name", "variable-name", "keyword", "variable-name", "comment"]);
 });
 
-test("Emacs indents a clause that goes on, and lists each predicate once", { skip: !isThere("emacs") }, () => {
+test("Emacs indents a clause that goes on, and lists each predicate once", { skip: lacks("emacs", "Emacs") }, () => {
   const program = "% p\np(X) :- true |\nq(X), % one.\n    r(X).\n  q(_).\np(1).\n";
   const script = `(with-temp-buffer (insert ${JSON.stringify(program)}) (fghc-mode) (indent-region (point-min) (point-max)) (princ (buffer-string)) (princ (format "%S" (funcall imenu-create-index-function))))`;
   const told = execFileSync("emacs", ["-Q", "--batch", "-l", path.join(ROOT, "editors/emacs/fghc-mode.el"), "--eval", script], { encoding: "utf8", stdio: ["ignore", "pipe", "ignore"] });

@@ -68,6 +68,29 @@ test("a function breakpoint is at the predicates of which its condition is a pat
   await client.end();
 });
 
+test("a function breakpoint's name is a predicate or a pattern of its goals, or it is not there", async () => {
+  const client = await begun(), words = "no predicate, and no pattern of one's goals; there are: bill(_,_,_) price(_,_)";
+  const made = async (point) => (await client.ask("setFunctionBreakpoints", { breakpoints: [point] })).breakpoints[0];
+  for (const name of ["cost", "price/3", "price(", "price(3)", "price(3,_) more", "N > 100", "", "P"]) {
+    const { verified, message } = await made({ name });
+    assert.deepStrictEqual([verified, message], [false, `${name}: ${words}`]);
+  }
+  assert.match((await made({ name: "price(X,X)" })).message, /^price\(X,X\): .* so that X twice compares nothing$/);
+  const stops = [
+    [{ name: "price" }, "1.1 price(12,_1_1)"],
+    [{ name: "price/2" }, "1.1 price(12,_1_1)"],
+    [{ name: " price(3, _) " }, "1.2 price(3,_1_2)"],
+    [{ name: "price(N,_)", hitCondition: "2" }, "1.2 price(3,_1_2)"],
+    [{ name: "price(3,_)", condition: "price(12,_)" }, "all is done: step back, or end"],
+  ];
+  for (const [point, text] of stops) {
+    assert.strictEqual((await made(point)).verified, true, point.name);
+    assert.strictEqual((await client.go("continue")).text, text, point.name);
+    await client.go("restart");
+  }
+  await client.end();
+});
+
 test("a hit condition is a number, or the breakpoint is not there", async () => {
   const client = await begun(), words = "a hit condition is a number, as 3 or >= 3; from that hit on it stops";
   for (const hitCondition of ["> 2", "every 3", "2 times", "-1", "2.5", "== 2", "% 2", "two"]) {
@@ -103,6 +126,9 @@ test("a name in a log text is the clause's variable, and is refused where it sta
     const words = `${logMessage} stands for nothing; a log text can name {goal} {name} {N} {P} {T}`;
     assert.deepStrictEqual(await said(client, { logMessage }), [false, words]);
   }
+  for (const logMessage of ["{N", "N}", "{N} of {", "{N}}"]) {
+    assert.deepStrictEqual(await said(client, { logMessage }), [false, `${logMessage}: a brace in it has no partner`]);
+  }
   const ofBody = "the clause's body makes P, and is not reached yet; a log text can name {goal} {name} {A} {B} {T}";
   assert.deepStrictEqual(await said(client, { logMessage: "price {P}" }, CLAUSE_1), [false, ofBody]);
   await client.end();
@@ -118,8 +144,14 @@ test("a data breakpoint is on a variable that is there, and a filter is one of t
   const { verified, message } = await made({ dataId: "_0_1", condition: "T > 3" });
   assert.strictEqual(verified, false);
   assert.strictEqual(message, "no condition is read here: a run stops where the variable is bound");
-  const filters = (await client.ask("setExceptionBreakpoints", { filters: ["stuck", "raised"] })).breakpoints;
-  assert.deepStrictEqual(filters.map(({ verified }) => verified), [true, false]);
+  const filterOptions = [{ filterId: "failed" }, { filterId: "failed", condition: "p(1)" }];
+  const filters = (await client.ask("setExceptionBreakpoints", { filters: ["stuck", "raised"], filterOptions })).breakpoints;
+  assert.deepStrictEqual(filters.map((filter) => [filter.verified, filter.message]), [
+    [true, undefined],
+    [false, "no such filter; there are: failed, stuck"],
+    [true, undefined],
+    [false, "no condition is read here: a run stops at each such goal"],
+  ]);
   await client.go("stepIn");
   assert.strictEqual((await made({ dataId: "_1_1" })).verified, true);
   await client.go("restart");

@@ -33,7 +33,7 @@ class Server {
     const decoder = new Decoder((message) => this.hear(message));
     this.child.stdout.on("data", (piece) => decoder.take(piece));
     this.child.stdin.on("error", () => {}); // told by its end
-    for (const end of ["error", "close"]) this.child.on(end, () => this.answerAll());
+    for (const end of ["error", "close"]) this.child.on(end, () => this.hearEnd());
   }
 
   hear({ id, method, params, result }) {
@@ -43,14 +43,18 @@ class Server {
     this.asked.delete(id);
   }
 
-  /** When the server has ended, what was asked is answered by nothing. */
-  answerAll() {
-    this.hasEnded = true;
+  /** When the server has ended, what was asked is answered by nothing, and what it told of programs counts no more. */
+  hearEnd() {
     for (const answer of this.asked.values()) answer(undefined);
     this.asked.clear();
+    if (this.hasEnded) return;
+    this.hasEnded = true;
+    this.diagnostics.clear();
+    vscode.window.showWarningMessage("Flat GHC: the language server has ended. `Developer: Reload Window` starts it again.");
   }
 
   tell(method, params, id) {
+    if (this.hasEnded) return;
     this.child.stdin.write(this.encode({ jsonrpc: "2.0", ...(id && { id }), method, params }));
   }
 
@@ -106,6 +110,7 @@ class Server {
   }
 
   dispose() {
+    this.hasEnded = true;
     this.diagnostics.dispose();
     this.child.kill();
   }

@@ -12,13 +12,14 @@ const ADAPTER = path.join(HERE, "..", "..", "ghcdb-adapter");
 // What a message's body must have: fields with their types; `[..]` is a list of such; a `?` marks what may be left out.
 const SOURCE = { "name?": "string", "path?": "string", "sourceReference?": "number" };
 const BREAKPOINT = { "id?": "number", verified: "boolean", "message?": "string", "line?": "number", "source?": SOURCE };
-const VARIABLE = { name: "string", value: "string", variablesReference: "number", "evaluateName?": "string", "type?": "string" };
+const COUNTS = { "indexedVariables?": "number", "namedVariables?": "number" };
+const VARIABLE = { name: "string", value: "string", variablesReference: "number", "evaluateName?": "string", "type?": "string", ...COUNTS };
 const FORMS = {
   threads: { threads: [{ id: "number", name: "string" }] },
   stackTrace: { stackFrames: [{ id: "number", name: "string", line: "number", column: "number", "source?": SOURCE, "endLine?": "number", "endColumn?": "number" }], "totalFrames?": "number" },
-  scopes: { scopes: [{ name: "string", variablesReference: "number", expensive: "boolean", "presentationHint?": "string" }] },
+  scopes: { scopes: [{ name: "string", variablesReference: "number", expensive: "boolean", "presentationHint?": "string", ...COUNTS }] },
   variables: { variables: [VARIABLE] },
-  evaluate: { result: "string", variablesReference: "number", "type?": "string" },
+  evaluate: { result: "string", variablesReference: "number", "type?": "string", ...COUNTS },
   setVariable: { value: "string" }, setExpression: { value: "string" },
   setBreakpoints: { breakpoints: [BREAKPOINT] }, setFunctionBreakpoints: { breakpoints: [BREAKPOINT] }, setDataBreakpoints: { breakpoints: [BREAKPOINT] },
   setExceptionBreakpoints: { "breakpoints?": [BREAKPOINT] }, breakpointLocations: { breakpoints: [{ line: "number" }] },
@@ -28,6 +29,7 @@ const FORMS = {
   loadedSources: { sources: [SOURCE] }, source: { content: "string" }, exceptionInfo: { exceptionId: "string", "description?": "string", breakMode: "string" },
   continue: { "allThreadsContinued?": "boolean" },
   stopped: { reason: "string", "description?": "string", "text?": "string", "threadId?": "number", "allThreadsStopped?": "boolean", "hitBreakpointIds?": ["number"] },
+  progressStart: { progressId: "string", title: "string", "requestId?": "number", "cancellable?": "boolean" }, progressEnd: { progressId: "string" },
   output: { output: "string", "category?": "string", "line?": "number", "source?": SOURCE }, thread: { reason: "string", threadId: "number" },
 };
 
@@ -102,9 +104,9 @@ class Client {
     }
   }
 
-  /** Begins a session, up to its first stop. `breakpoints` are set as an editor does. */
-  async begin(program, given = {}, breakpoints = async () => {}) {
-    this.can = await this.ask("initialize", { adapterID: "ghcdb", linesStartAt1: true, columnsStartAt1: true });
+  /** Begins a session, up to its first stop. `breakpoints` are set as an editor does; `wants` is what it can do. */
+  async begin(program, given = {}, breakpoints = async () => {}, wants = {}) {
+    this.can = await this.ask("initialize", { adapterID: "ghcdb", linesStartAt1: true, columnsStartAt1: true, ...wants });
     await this.ask("launch", { program, ...given });
     await this.event("initialized");
     await breakpoints();

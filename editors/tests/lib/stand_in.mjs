@@ -17,6 +17,7 @@ class Editor {
     this.documents = texts.map((text, at) => ({ uri: new URL(`file:///open${at}.ghc`), languageId: "fghc", version: 1, text, getText() { return this.text; } }));
     this.providers = {};
     this.diagnostics = new Map(); // that were told and not asked for yet, by the address
+    this.warnings = [];
     this.waiting = [];
   }
 
@@ -40,9 +41,11 @@ class Editor {
       this.diagnostics.set(String(uri), told);
       this.waiting.splice(0).forEach((wake) => wake());
     };
+    const clear = () => this.documents.forEach(({ uri }) => set(uri, []));
     const register = (name) => (selector, provider) => { this.providers[name] = provider; return { dispose() {} }; };
     return {
-      createDiagnosticCollection: () => ({ set, dispose() {} }), registerDocumentSymbolProvider: register("DocumentSymbol"),
+      createDiagnosticCollection: () => ({ set, clear, dispose() {} }),
+      registerDocumentSymbolProvider: register("DocumentSymbol"),
       registerDefinitionProvider: register("Definition"), registerHoverProvider: register("Hover"),
     };
   }
@@ -70,7 +73,11 @@ async function activated(file, texts = []) {
   const told = { commands: [], editor: new Editor(texts) }, subscriptions = [];
   const vscode = {
     ...TYPES, languages: told.editor.languages, workspace: told.editor.workspace,
-    window: { activeTextEditor: { document: { languageId: "fghc", fileName: "/a.ghc" } }, showErrorMessage: (text) => { throw new Error(text); } },
+    window: {
+      activeTextEditor: { document: { languageId: "fghc", fileName: "/a.ghc" } },
+      showErrorMessage: (text) => { throw new Error(text); },
+      showWarningMessage: (text) => told.editor.warnings.push(text),
+    },
     commands: { registerCommand: (name) => told.commands.push(name) },
     debug: {
       registerDebugAdapterDescriptorFactory: (type, made) => Object.assign(told, { type, started: made.createDebugAdapterDescriptor({ configuration: {} }) }),
