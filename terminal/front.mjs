@@ -4,8 +4,8 @@ import Causes from "../front/text/causes.mjs";
 import { Blaming } from "../front/run/blaming.mjs";
 import { Ended } from "../front/session/program.mjs";
 import { NotTold, Session } from "../front/session/session.mjs";
-import { isNoFile } from "../front/session/files.mjs";
 import { helpLines, meaningOf, suggestionFor, usageOf } from "../front/protocol/commands.mjs";
+import Beginning from "./beginning.mjs";
 import Judging from "./judging.mjs";
 import * as Own from "../front/run/own.mjs";
 import { plain } from "./plain.mjs";
@@ -24,7 +24,6 @@ const AT_ONCE = 500; // lines that are shown before keys are heard again
 const PROMPT_STEPS = 1000; // a run of so many steps ends soon
 const HEARD_LATE = 300; // milliseconds after ^C in which a line that is no long run may still answer
 const LEFT_LATE = 60_000; // milliseconds in which the last line is ended when the terminal is closed
-const ASK_AGAIN = { quit: "quit again ends", restart: "restart again begins anew" };
 
 const RUN_ENDED = "the run was ended; the session stands as before it. leap 1000 runs for 1000 steps at most";
 const LINE_ENDED = "the line was ended; the session stands as before it";
@@ -350,33 +349,6 @@ class Front {
     return this.note(Saving.whyRefused(refusal));
   }
 
-  /** Warns once that steps would be lost; true where it does so now. */
-  warnsOfLoss(name) {
-    const { session } = this, state = `${name} ${session.kept.changes}`;
-    if (session.isSaved || this.warned === state) return false;
-    this.warned = state;
-    this.note(`${plural(session.kept.steps.size, "step")} kept and not saved: save FILE keeps them; ${ASK_AGAIN[name]}`);
-    return true;
-  }
-
-  /** A new session; where the file is refused now, the old one stands. */
-  async on_restart() {
-    if (this.warnsOfLoss("restart")) return undefined;
-    const { words, native, given: { file } } = this.session, next = new Session(words, native);
-    if (isNoFile(file)) return this.note(`${file} is no file that can be read again; the session stands`);
-    try {
-      await this.start(next);
-    } catch (error) {
-      if (!(error instanceof Ended)) throw error;
-      this.tellRefusal(error, next, this.out);
-      return this.note("the session before stands");
-    }
-    await this.session.end();
-    this.session = next;
-    this.blaming = new Blaming(next);
-    return this.greet();
-  }
-
   async on_quit() {
     if (this.warnsOfLoss("quit")) return;
     this.forgetLeft();
@@ -385,6 +357,6 @@ class Front {
   }
 }
 
-Object.assign(Front.prototype, Watching, Judging);
+Object.assign(Front.prototype, Beginning, Judging, Watching);
 
 export { Front, MARK };

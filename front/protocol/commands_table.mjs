@@ -69,6 +69,8 @@ const CommandsTable = [
     tells: "run until X is bound", more: "" },
   { name: "stat", form: "stat", effect: "front", follows: "",
     tells: "count the steps of each predicate, and the longest chain of causes", more: "" },
+  { name: "query", form: "query GOALS", effect: "front", follows: "goals",
+    tells: "begin anew with another query, on the same program", more: "" },
   { name: "restart", form: "restart", effect: "front", follows: "",
     tells: "begin anew, with the program as its file has it now", more: "" },
   { name: "help", form: "help [COMMAND]", effect: "front", follows: "command",

@@ -50,7 +50,17 @@ function readRun(words) {
   return { isRun, expected, words: left };
 }
 
+/** The words with another query: a history of the query before is none of it. */
+function wordsOfQuery(words, query) {
+  const kept = [];
+  for (let at = 0; at < words.length; at += 1) {
+    if (["--load", "--query"].includes(words[at])) at += 1;
+    else if (!/^--(load|query)=/.test(words[at])) kept.push(words[at]);
+  }
+  return [...kept, `--query=${query}`];
+}
+
 /** The words with the program in another file. */
 const wordsOfProgram = (words, program) => words.map((word, at) => (at === readWords(words).fileAt ? program : word));
 
-export { readRun, wordsOfProgram, readWords, isSession, wordsFrom };
+export { readRun, wordsOfQuery, wordsOfProgram, readWords, isSession, wordsFrom };
