@@ -1,6 +1,7 @@
 // What the terminal does where a session begins in place of another one: with the program as its file has it now, or with
 // another query. Where what is asked for is refused, the session before stands.
 import { Blaming } from "../front/run/blaming.mjs";
+import { Patterns } from "../front/run/patterns.mjs";
 import { plural } from "../front/run/reasons.mjs";
 import { usageOf } from "../front/protocol/commands.mjs";
 import { wordsOfQuery } from "../front/protocol/words.mjs";
@@ -33,7 +34,7 @@ const Beginning = {
     await this.session.end();
     this.session = next;
     this.blaming = new Blaming(next);
-    this.warned = undefined;
+    Object.assign(this, { warned: undefined, stoppedAt: undefined });
     return true;
   },
 
@@ -41,7 +42,10 @@ const Beginning = {
     if (this.warnsOfLoss("restart")) return;
     const { words, native, given: { file } } = this.session;
     if (isNoFile(file)) this.note(`${file} is no file that can be read again; the session stands`);
-    else if (await this.goOnWith(new Session(words, native))) this.greet();
+    else if (await this.goOnWith(new Session(words, native))) {
+      this.patterns = new Patterns(); // a session that begins anew spies nothing
+      this.greet();
+    }
   },
 
   /** The program is the one that the session has, whatever its file holds now. */
@@ -49,8 +53,9 @@ const Beginning = {
     const { words, native, bytes, given } = this.session;
     if (rest === "") return this.note(`the query is ${given.query}`, usageOf("query"));
     if (this.warnsOfLoss("query")) return undefined;
-    if (await this.goOnWith(new Session(wordsOfQuery(words, rest), native, { program: bytes }))) this.note(`begun anew with the query ${rest}`);
-    return undefined;
+    if (!await this.goOnWith(new Session(wordsOfQuery(words, rest), native, { program: bytes }))) return undefined;
+    Object.assign(this, { patterns: new Patterns(), displayed: [] });
+    return this.note(`begun anew with the query ${rest}`);
   },
 };
 

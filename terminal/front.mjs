@@ -6,11 +6,15 @@ import { Ended } from "../front/session/program.mjs";
 import { NotTold, Session } from "../front/session/session.mjs";
 import { helpLines, meaningOf, suggestionFor, usageOf } from "../front/protocol/commands.mjs";
 import Beginning from "./beginning.mjs";
+import Displaying from "./displaying.mjs";
 import Judging from "./judging.mjs";
 import * as Own from "../front/run/own.mjs";
+import { Patterns } from "../front/run/patterns.mjs";
 import { plain } from "./plain.mjs";
 import { whyRefused } from "../front/session/refused.mjs";
+import Running from "./running.mjs";
 import * as Saving from "./saving.mjs";
+import Spying from "./spying.mjs";
 import { plural } from "../front/run/reasons.mjs";
 import { notesAfter } from "../front/run/telling.mjs";
 import * as Unsaved from "./unsaved.mjs";
@@ -44,6 +48,9 @@ class Front {
     this.isRunning = false; // a run is being made that may be long
     this.isInterrupted = false;
     this.warned = undefined; // for which command and number of changes it warned of unsaved steps
+    this.stoppedAt = undefined; // the spied goal at which the last run stopped, and the number of changes then
+    this.patterns = new Patterns(); // to which spied goals are narrowed
+    this.displayed = []; // the variables that are shown after each run and step
   }
 
   note(...lines) {
@@ -130,8 +137,10 @@ class Front {
     if (typed.trim() === "") return;
     this.isBusy = true;
     this.isInterrupted = false;
+    const { session, session: { kept: { changes } } } = this;
     try {
       await this.heed(typed);
+      if (!this.hasEnded && session === this.session) await this.showDisplayed(changes);
     } catch (error) {
       await this.tellWhyNot(error);
     } finally {
@@ -166,16 +175,23 @@ class Front {
     return this.send(meaning, typed);
   }
 
-  /** Sends a line of the console, and tells its reply with what is to be added. */
+  /** Tells a line that is sent, where another one was typed. */
+  echo(line, typed) {
+    if (typed.trim().replace(/ +/g, " ") !== line.replace(/ +/g, " ")) this.note(`sent: ${line}`);
+  }
+
+  /** Sends a line of the console, and tells its reply with what is to be added. Gives the reply. */
   async send(meaning, typed = "") {
-    if (typed.trim().replace(/ +/g, " ") !== meaning.line.replace(/ +/g, " ")) this.note(`sent: ${meaning.line}`);
+    this.echo(meaning.line, typed);
     const reply = await this.run(meaning);
     if (reply[0] === "F25 command") {
       this.out(reply[0]);
-      return this.note(usageOf(meaning.name));
+      this.note(usageOf(meaning.name));
+    } else {
+      await this.show(reply, meaning);
+      await this.noteAll(await notesAfter(this.session, meaning, reply));
     }
-    await this.show(reply, meaning);
-    return this.noteAll(await notesAfter(this.session, meaning, reply));
+    return reply;
   }
 
   /** Sends lines one after another, until ^C. */
@@ -285,18 +301,6 @@ class Front {
     return true;
   }
 
-  /** A predicate may be named without the number of its arguments. */
-  async on_spy(meaning) {
-    const [word, more] = meaning.words, named = this.session.predicates.filter((predicate) => more === undefined && predicate.split("/")[0] === word);
-    const lineOf = (predicate) => ({ ...meaning, words: [predicate], line: `${meaning.name} ${predicate}` });
-    await this.sendAll(named.map(lineOf));
-    return named.length > 0;
-  }
-
-  async on_nospy(meaning) {
-    return this.on_spy(meaning);
-  }
-
   on_list({ words }) {
     return this.noteAll(Own.list(this.session, words));
   }
@@ -357,6 +361,6 @@ class Front {
   }
 }
 
-Object.assign(Front.prototype, Beginning, Judging, Watching);
+Object.assign(Front.prototype, Beginning, Displaying, Judging, Running, Spying, Watching);
 
 export { Front, MARK };

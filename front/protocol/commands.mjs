@@ -16,7 +16,7 @@ const byName = new Map(COMMANDS.map((command) => [command.name, command]));
 const OTHER_NAMES = new Map(Object.entries({
   s: "step", n: "step", next: "step", stepi: "step", r: "leap", run: "leap", c: "leap", cont: "leap", continue: "leap", go: "leap", j: "leap",
   finish: "skip", p: "show", print: "show", inspect: "show", x: "show", l: "list", ls: "list", listing: "list", w: "goals", where: "goals", bt: "goals",
-  backtrace: "goals", info: "goals", threads: "goals", b: "spy", break: "spy", breakpoint: "spy", tbreak: "spy", delete: "nospy", clear: "nospy",
+  backtrace: "goals", info: "goals", threads: "goals", b: "spy", break: "spy", breakpoint: "spy", tbreak: "spy", delete: "nospy", clear: "nospy", advance: "until",
   u: "undo", "reverse-step": "back", prev: "back", previous: "back", retry: "back", q: "quit", exit: "quit", bye: "quit", halt: "quit", h: "help",
   "?": "help", man: "help", commands: "help", deadlock: "stuck", history: "records", trace: "records", log: "records", reset: "restart",
   write: "save", call: "ask", rollback: "roll", rewind: "roll",
@@ -75,7 +75,7 @@ const usageOf = (name) => `usage: ${helpLine(byName.get(name))}`;
 const ELSEWHERE = {
   load: "a history is loaded at the start: ./ghcdb FILE --query GOALS --load HISTORY", open: "a program is named at the start: ./ghcdb FILE --query GOALS",
   edit: "edit the file elsewhere, then restart begins anew with it", set: "ask X = TERM binds a variable that is unbound", jump: "roll N goes back to before step N",
-  until: "watch X runs until X is bound", cut: "there is no cut: step G C takes goal G by clause C", fail: "there is no fail: roll N takes a step back",
+  cut: "there is no cut: step G C takes goal G by clause C", fail: "there is no fail: roll N takes a step back",
   y: "y and n answer a question of blame: blame X asks whose clause made X wrong",
 };
 
