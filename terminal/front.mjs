@@ -25,15 +25,15 @@ const MARK = "% ";
 const MOST_NOTES = 6; // on a program that are shown
 const FIRST = 20, LAST = 10, LONG = 40; // lines of a long run that are shown, and how many a run has that is shown whole
 const AT_ONCE = 500; // lines that are shown before keys are heard again
-const PROMPT_STEPS = 1000; // a run of so many steps ends soon
 const HEARD_LATE = 300; // milliseconds after ^C in which a line that is no long run may still answer
+const SLICE_LATE = 2000; // the same for a slice of a run, of which there are many
 const LEFT_LATE = 60_000; // milliseconds in which the last line is ended when the terminal is closed
 
-const RUN_ENDED = "the run was ended; the session stands as before it. leap 1000 runs for 1000 steps at most";
+const RUN_ENDED = "the run was ended; the session stands as before it";
 const LINE_ENDED = "the line was ended; the session stands as before it";
 const ASKING_ENDED = "the line was ended; the session stands";
 
-const isLongRun = (meaning) => meaning.name === "skip" || (meaning.name === "leap" && !(Number(meaning.words[0]) <= PROMPT_STEPS));
+const sliceEnded = (count) => (count === 0 ? RUN_ENDED : `the run was ended where it did not answer; the ${plural(count, "step")} before stand`);
 
 class Front {
   /** `out` and `errors` take whole lines for standard output and standard error. */
@@ -45,7 +45,8 @@ class Front {
     this.hasEnded = false;
     this.status = 0;
     this.isBusy = false; // with a line
-    this.isRunning = false; // a run is being made that may be long
+    this.isRunning = false; // a run is being made that may be long, in one piece
+    this.sliced = undefined; // the lines of a run that is being made in slices
     this.isInterrupted = false;
     this.warned = undefined; // for which command and number of changes it warned of unsaved steps
     this.stoppedAt = undefined; // the spied goal at which the last run stopped, and the number of changes then
@@ -200,7 +201,7 @@ class Front {
   }
 
   async run(meaning) {
-    this.isRunning = isLongRun(meaning);
+    this.isRunning = meaning.name === "skip";
     try {
       return await this.session.ask(meaning.line);
     } finally {
@@ -232,21 +233,26 @@ class Front {
   }
 
   /**
-   * What ^C asks for: a row of lines ends after the one that is asked; that one ends, too, if it does not answer soon.
-   * Where the way back takes long, a second ^C leaves the line as it is.
+   * What ^C asks for: a row of lines, or of slices of a run, ends after the one that is asked; that one ends, too, if it does not answer
+   * soon, of a slice at a second ^C. Where the way back takes long, a second ^C leaves the line as it is.
    */
   interrupt() {
     if (this.ending !== undefined) this.session.stopBeginning();
-    if (this.isInterrupted) return;
+    else if (!this.isInterrupted) this.endsLate = setTimeout(() => this.endLine(), this.isRunning ? 0 : this.sliced ? SLICE_LATE : HEARD_LATE);
+    else if (this.sliced) this.endLine();
     this.isInterrupted = true;
-    const end = () => this.session.program.isBusy && this.endLine();
-    if (this.isRunning) end();
-    else this.endsLate = setTimeout(end, HEARD_LATE);
   }
 
-  /** Ends the line that the program is at. */
+  /** What is told of a line that was ended. */
+  get whatEnds() {
+    if (this.sliced) return sliceEnded(this.sliced.length);
+    return this.isRunning ? RUN_ENDED : this.session.isChanging ? LINE_ENDED : ASKING_ENDED;
+  }
+
+  /** Ends the line that the program is at, if it is at one. */
   endLine() {
-    const told = this.isRunning ? RUN_ENDED : this.session.isChanging ? LINE_ENDED : ASKING_ENDED;
+    if (this.ending !== undefined || !this.session.program.isBusy) return;
+    const told = this.whatEnds;
     this.ending = this.session.endRun().then(() => told, (error) => {
       this.ending = undefined;
       this.isInterrupted = false;

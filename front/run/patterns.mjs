@@ -47,12 +47,18 @@ class Patterns {
 
   /** Takes a pattern away; false where it is not there. */
   remove(pattern) {
-    return this.ofPredicate.get(predicateOf(pattern))?.delete(Print.term(pattern)) ?? false;
+    const predicate = predicateOf(pattern), patterns = this.ofPredicate.get(predicate), wasThere = patterns?.delete(Print.term(pattern)) ?? false;
+    if (patterns?.size === 0) this.forget(predicate);
+    return wasThere;
   }
 
   /** From now on no goal of the predicate is looked at. */
   forget(predicate) {
     this.ofPredicate.delete(predicate);
+  }
+
+  get isEmpty() {
+    return this.ofPredicate.size === 0;
   }
 
   /** The texts of a predicate's patterns. */
