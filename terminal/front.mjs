@@ -12,6 +12,7 @@ import * as Own from "../front/run/own.mjs";
 import { Patterns } from "../front/run/patterns.mjs";
 import { plain } from "./plain.mjs";
 import { whyRefused } from "../front/session/refused.mjs";
+import Reloading from "./reloading.mjs";
 import Running from "./running.mjs";
 import * as Saving from "./saving.mjs";
 import Spying from "./spying.mjs";
@@ -33,6 +34,7 @@ const RUN_ENDED = "the run was ended; the session stands as before it";
 const LINE_ENDED = "the line was ended; the session stands as before it";
 const ASKING_ENDED = "the line was ended; the session stands";
 
+const isYes = (typed) => /^y(es)?$/.test(typed.trim()), isNo = (typed) => /^no?$/.test(typed.trim());
 const sliceEnded = (count) => (count === 0 ? RUN_ENDED : `the run was ended where it did not answer; the ${plural(count, "step")} before stand`);
 
 class Front {
@@ -51,6 +53,7 @@ class Front {
     this.warned = undefined; // for which command and number of changes it warned of unsaved steps
     this.stoppedAt = undefined; // the spied goal at which the last run stopped, and the number of changes then
     this.patterns = new Patterns(); // to which spied goals are narrowed
+    this.question = undefined; // what is done after `y`
     this.displayed = []; // the variables that are shown after each run and step
   }
 
@@ -79,10 +82,15 @@ class Front {
     if (Unsaved.isLeft(session.given.load)) session.savedAt = undefined; // it stands in no file of the user's yet
   }
 
-  greet() {
+  /** Tells what is seldom meant in the program. */
+  tellNotes() {
     const { text, given } = this.session, notes = Causes.notesOn(text, given.file);
     for (const cause of notes.slice(0, MOST_NOTES)) this.note(...Causes.linesOf(cause, text));
     if (notes.length > MOST_NOTES) this.note(`.. ${plural(notes.length - MOST_NOTES, "note")} more ..`);
+  }
+
+  greet() {
+    this.tellNotes();
     this.note("Flat GHC. help lists the commands; step alone takes a step, leap runs, back goes back.");
   }
 
@@ -152,6 +160,10 @@ class Front {
 
   /** A word may answer the question that is open; else it is a command. */
   async heed(typed) {
+    const { question } = this;
+    this.question = undefined;
+    if (question !== undefined && isYes(typed)) return question();
+    if (question !== undefined && isNo(typed)) return this.note("the session stands");
     if (this.blaming.isAnswer(typed.trim())) return this.answerQuestion(typed.trim());
     const meaning = meaningOf(typed, this.session.variables);
     return meaning.name === undefined ? this.passOn(meaning, typed) : this.act(meaning, typed);
@@ -367,6 +379,6 @@ class Front {
   }
 }
 
-Object.assign(Front.prototype, Beginning, Displaying, Judging, Running, Spying, Watching);
+Object.assign(Front.prototype, Beginning, Displaying, Judging, Reloading, Running, Spying, Watching);
 
 export { Front, MARK };

@@ -74,7 +74,7 @@ const usageOf = (name) => `usage: ${helpLine(byName.get(name))}`;
 // Words for what is done otherwise here.
 const ELSEWHERE = {
   load: "a history is loaded at the start: ./ghcdb FILE --query GOALS --load HISTORY", open: "a program is named at the start: ./ghcdb FILE --query GOALS",
-  edit: "edit the file elsewhere, then restart begins anew with it", set: "ask X = TERM binds a variable that is unbound", jump: "roll N goes back to before step N",
+  edit: "edit the file elsewhere, then reload keeps the steps, and restart begins anew", set: "ask X = TERM binds a variable that is unbound", jump: "roll N goes back to before step N",
   cut: "there is no cut: step G C takes goal G by clause C", fail: "there is no fail: roll N takes a step back",
   y: "y and n answer a question of blame: blame X asks whose clause made X wrong",
 };

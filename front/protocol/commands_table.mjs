@@ -79,6 +79,8 @@ const CommandsTable = [
     tells: "begin anew with another query, on the same program", more: "" },
   { name: "restart", form: "restart", effect: "front", follows: "",
     tells: "begin anew, with the program as its file has it now", more: "" },
+  { name: "reload", form: "reload", effect: "front", follows: "",
+    tells: "take the file's program, and keep the steps by clauses that are still there", more: "" },
   { name: "help", form: "help [COMMAND]", effect: "front", follows: "command",
     tells: "tell these lines, or one of them", more: "" },
   { name: "quit", form: "quit", effect: "ends", follows: "",

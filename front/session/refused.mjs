@@ -20,7 +20,7 @@ function whyNotRead(file) {
 /** The line of a history at which loading it stopped. */
 function whyNotLoaded(file, refusal) {
   const [, number] = /^F24 history line (\d+)$/.exec(refusal) ?? [];
-  if (number === undefined) return [];
+  if (number === undefined || file === undefined) return []; // a history that is in no file was made by the front
   if (!isFile(file)) return [`${file}: line ${number} is wrong`];
   const line = tried(() => lineOf(file, Number(number), MOST_SHOWN));
   return [`${file}:${number}: ${line ?? "the file ends before this line"}`, "the line is not of its form, or its step cannot be taken: is it of this program and query?"];
