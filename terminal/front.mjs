@@ -10,10 +10,11 @@ import Displaying from "./displaying.mjs";
 import Judging from "./judging.mjs";
 import * as Own from "../front/run/own.mjs";
 import { Patterns } from "../front/run/patterns.mjs";
-import { plain } from "./plain.mjs";
+import { MARK, plain } from "./plain.mjs";
 import { whyRefused } from "../front/session/refused.mjs";
 import Reloading from "./reloading.mjs";
 import Running from "./running.mjs";
+import { Showing, withoutAll } from "./showing.mjs";
 import * as Saving from "./saving.mjs";
 import Spying from "./spying.mjs";
 import { plural } from "../front/run/reasons.mjs";
@@ -22,10 +23,7 @@ import * as Unsaved from "./unsaved.mjs";
 import Watching from "./watching.mjs";
 import Replies from "../front/protocol/replies.mjs";
 
-const MARK = "% ";
 const MOST_NOTES = 6; // on a program that are shown
-const FIRST = 20, LAST = 10, LONG = 40; // lines of a long run that are shown, and how many a run has that is shown whole
-const AT_ONCE = 500; // lines that are shown before keys are heard again
 const HEARD_LATE = 300; // milliseconds after ^C in which a line that is no long run may still answer
 const SLICE_LATE = 2000; // the same for a slice of a run, of which there are many
 const LEFT_LATE = 60_000; // milliseconds in which the last line is ended when the terminal is closed
@@ -182,7 +180,8 @@ class Front {
     if (reply[0] === "F25 command") this.note(suggestionFor(typed));
   }
 
-  async act(meaning, typed) {
+  async act(given, typed) {
+    const meaning = withoutAll(given);
     const own = this[`on_${meaning.name}`];
     if (own !== undefined && await own.call(this, meaning, typed) !== false) return undefined;
     return this.send(meaning, typed);
@@ -219,29 +218,6 @@ class Front {
     } finally {
       this.isRunning = false;
     }
-  }
-
-  /** Tells a reply; of a long run or explanation its first and last lines. */
-  async show(reply, { name, line, isWhole } = {}) {
-    const last = reply.at(-1), isExplanation = name === "explain" && !isWhole && last.startsWith("steps ");
-    if (reply.length <= LONG || !(last.startsWith("stopped ") || isExplanation)) return this.showAll(reply);
-    reply.slice(0, FIRST).forEach((told) => this.out(told));
-    this.note(`.. ${plural(reply.length - 1 - FIRST - LAST, "step")} more (${isExplanation ? `${line} all` : "records"} shows all) ..`);
-    return reply.slice(-LAST - 1).forEach((told) => this.out(told));
-  }
-
-  /** Tells lines, of which there may be many: between pieces of them keys are heard, and ^C ends it. */
-  async showAll(lines) {
-    for (let at = 0; at < lines.length; at += AT_ONCE) {
-      if (at > 0) await new Promise((resolve) => { setImmediate(resolve); });
-      if (at > 0 && this.isInterrupted) return this.note(`.. ${plural(lines.length - at, "line")} more ..`);
-      lines.slice(at, at + AT_ONCE).forEach((line) => this.out(line));
-    }
-    return undefined;
-  }
-
-  noteAll(lines) {
-    return this.showAll(lines.map((line) => MARK + line));
   }
 
   /**
@@ -312,40 +288,39 @@ class Front {
     return undefined;
   }
 
-  async on_show({ words }) {
+  async on_show({ words, isWhole }) {
     if (words.length > 0) return false;
     if (this.session.variables.length === 0) this.note("the query has no variables");
-    await this.sendAll(this.session.variables.map((name) => ({ name: "show", words: [name], line: `show ${name}` })));
+    await this.sendAll(this.session.variables.map((name) => ({ name: "show", words: [name], isWhole, line: `show ${name}` })));
     return true;
   }
 
-  on_list({ words }) {
-    return this.noteAll(Own.list(this.session, words));
+  on_list(meaning) {
+    return this.noteListing(Own.list(this.session, meaning.words), meaning);
   }
 
   async on_stuck() {
     this.note(...await Own.stuck(this.session));
   }
 
-  async on_holders({ words }) {
-    if (words.length !== 1) return this.note(usageOf("holders"));
-    return this.noteAll(await Own.holders(this.session, words));
+  async on_holders(meaning) {
+    if (meaning.words.length !== 1) return this.note(usageOf("holders"));
+    return this.noteListing(await Own.holders(this.session, meaning.words), meaning);
   }
 
   async on_stat() {
     this.note(...await Own.stat(this.session));
   }
 
-  async on_records({ words }) {
-    if (words.length !== 1) return false;
-    await this.noteAll(await Own.records(this.session, words));
+  async on_records(meaning) {
+    if (meaning.words.length !== 1) return false;
+    await this.noteListing(await Own.records(this.session, meaning.words), meaning);
     return true;
   }
 
-  /** `all` is the terminal's: it shortens nothing. */
   async on_explain(meaning, typed) {
-    const isWhole = meaning.words.at(-1) === "all", words = (isWhole ? meaning.words.slice(0, -1) : meaning.words).map((word) => Own.signOf(this.session, word));
-    return this.send({ ...meaning, words, isWhole, line: [meaning.name, ...words].join(" ") }, typed);
+    const words = meaning.words.map((word) => Own.signOf(this.session, word));
+    return this.send({ ...meaning, words, line: [meaning.name, ...words].join(" ") }, typed);
   }
 
   async on_keep(meaning, typed) {
@@ -379,6 +354,6 @@ class Front {
   }
 }
 
-Object.assign(Front.prototype, Beginning, Displaying, Judging, Reloading, Running, Spying, Watching);
+Object.assign(Front.prototype, Beginning, Displaying, Judging, Reloading, Running, Showing, Spying, Watching);
 
-export { Front, MARK };
+export { Front };

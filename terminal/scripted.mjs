@@ -7,10 +7,9 @@ import { withQuery } from "../front/session/words_with_query.mjs";
 import { isWhole } from "../front/session/way_back.mjs";
 import { readWords, isSession } from "../front/protocol/words.mjs";
 import Replies from "../front/protocol/replies.mjs";
-import { plain } from "./plain.mjs";
+import { MARK, plain } from "./plain.mjs";
 
 const STATUS = { done: 0, commandLine: 2, device: 3, refusedLine: 4, failed: 5, waits: 6, unfinished: 7, otherValue: 8, untold: 9 };
-const MARK = "% "; // before each line that the console does not tell
 
 const LINE_FEED = 10, RETURN = 13;
 const MOST_BYTES = 1_048_576; // of a line

@@ -106,7 +106,7 @@ function suggestion(word) {
 }
 
 const LETTERS = "A beginning of a word will do where it is clear; G is a goal, as 1.2, N a step's number, X a variable, " +
-  "F/N a predicate, as price/2.";
+  "F/N a predicate, as price/2. `all` as the last word shows a listing, or a long value, whole.";
 
 /** What follows a command, as commands.table tells. */
 const followsOf = (name) => byName.get(name)?.follows ?? "";

@@ -92,7 +92,7 @@ class Moment:
         if stand:  # those that were told by a number alone stand too
             last = max(self.told)
             self.told |= set(range(last - int(stand[1] or stand[2]) + 1, last + 1))
-        self.has_told("\n".join(terminal.type("records")), "the session")
+        self.has_told("\n".join(terminal.type("records all")), "the session")
         shown = terminal.type(f"save {self.file}")
         wants(any("saved in" in line for line in shown), f"{self.line!r}: {shown}")
         self.has_told(self.loaded(self.file, "records\n"), "the file")

@@ -166,7 +166,11 @@ def test_interrupt_of_a_long_list(home):
         program.write_text(ENDLESS)
         terminal = start(home, str(program), "--query", "p(0)")
         terminal.type("leap 20000")
-        for listing, first in (("records", "1 0.1 by 1"), ("records p/1", "1 p(0) by 1"), ("causes", "2 1 made")):
+        for listing, first in (
+            ("records all", "1 0.1 by 1"),
+            ("records p/1 all", "1 p(0) by 1"),
+            ("causes all", "2 1 made"),
+        ):
             terminal.press(f"{listing}\r")
             terminal.read_until(first)  # nobody reads on, so that the terminal is full, and the rest is not shown yet
             terminal.press("\x03")
@@ -260,7 +264,7 @@ def test_interrupt_of_what_takes_many_lines(home):
         time.sleep(0.05)
         terminal.press("\x03")
         terminal.read()
-        left = len(terminal.type("records"))
+        left = len(terminal.type("records all"))
         wants(0 < left, "the steps are gone")
         terminal.end()
 
@@ -280,7 +284,7 @@ def test_long_run_is_shortened(home):
     shown = terminal.type("run")
     steps = int(terminal.type("stat")[-1].split()[1])
     wants(len([line for line in shown if line.startswith("REDU ")]) == 30, str(shown))
-    wants(f"% .. {steps - 30} steps more (records shows all) .." in shown, str(shown))
+    wants(f"% .. {steps - 30} steps more (records all shows all) .." in shown, str(shown))
     wants(shown[0] == "% sent: leap" and shown[-2:] == ["stopped quiet", "% all is done"], str(shown[-3:]))
     terminal.end()
 
