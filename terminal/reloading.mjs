@@ -1,10 +1,10 @@
 // What the terminal does for `reload`: the program is taken as its file has it now, and the steps by clauses that are still there go on
 // under it, with all that rests on them alone. The history by which they do is made here, and judged by the console, which loads it.
-import { nextIn, spiesIn } from "../front/protocol/history.mjs";
+import Histories from "../front/protocol/histories.mjs";
 import Replies from "../front/protocol/replies.mjs";
 import { wordsOfQuery } from "../front/protocol/words.mjs";
 import { plural } from "../front/run/reasons.mjs";
-import { historyOf, isRenumbered, planOf } from "../front/run/reloading.mjs";
+import ReloadPlan from "../front/run/reload_plan.mjs";
 import { isNoFile } from "../front/session/files.mjs";
 import { Ended } from "../front/session/program.mjs";
 import { Session } from "../front/session/session.mjs";
@@ -22,7 +22,7 @@ const Reloading = {
     if (probe.bytes.equals(session.bytes)) return this.note("the program's file is as it was; the session stands");
     const records = await session.ask("records"), saved = await session.ask("save");
     if (!isWhole(records) || !isWhole(saved)) return this.note("memory was refused for the history; the session stands");
-    const plan = planOf({ before: session.clauses, after: probe.clauses, steps: Replies.readRecords(records) });
+    const plan = ReloadPlan.planOf({ before: session.clauses, after: probe.clauses, steps: Replies.readRecords(records) });
     return this.proposeReload({ plan, program: probe.bytes, saved });
   },
 
@@ -54,13 +54,13 @@ const Reloading = {
   /** Another session takes the place of this one: on the new program, with the steps that stay. */
   async reloadBy({ plan, program, saved }) {
     const { words, native } = this.session, { going, staying } = plan;
-    const next = new Session(words, native, { program, history: historyOf(plan, nextIn(saved)) });
+    const next = new Session(words, native, { program, history: ReloadPlan.historyOf(plan, Histories.nextIn(saved)) });
     if (!await this.goOnWith(next)) return;
     next.savedAt = undefined; // it stands in no file yet
     this.tellNotes();
     this.note(`reloaded: ${staying.length} of ${plural(going.length + staying.length, "step")} stay, and nothing is on the shelf`);
-    if (isRenumbered(plan)) this.forgetNumbers();
-    await this.spyAgain(spiesIn(saved));
+    if (ReloadPlan.isRenumbered(plan)) this.forgetNumbers();
+    await this.spyAgain(Histories.spiesIn(saved));
   },
 
   /** The steps are numbered anew, so that variables of steps have other names. */

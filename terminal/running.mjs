@@ -13,6 +13,8 @@ const GOAL = /^\d+\.\d+$/, NUMBER = /^\d{1,10}$/;
 /** The goal before which a run stopped that is spied; undefined where it stopped for another reason. */
 const spiedIn = (stop) => /^stopped spied (\S+)$/.exec(stop)?.[1];
 
+const noMore = (number) => `no step gets the number ${number} any more; shelf lists what was taken back`;
+
 /** How many steps a slice has. Where several workers make them a history is kept after each slice, so slices grow with the session. */
 const sliceOf = (session) => (session.isByMany ? Math.max(SLICE, Math.floor(session.kept.steps.size / 4)) : SLICE);
 
@@ -101,14 +103,17 @@ const Running = {
   async on_until({ words: [word, ...more] }) {
     const isGoal = GOAL.test(word), number = isGoal || NUMBER.test(word) ? Number.parseInt(word, 10) : 0;
     if (number === 0 || more.length > 0) return this.note(usageOf("until"));
-    const why = isGoal ? await this.whereGoalIs(word) : this.whereStepIs(number);
+    const why = (isGoal ? await this.whereGoalIs(word) : undefined) ?? this.whyNotMade(number, isGoal);
     if (why !== undefined) return this.note(why);
     await this.runToStep(number);
     return isGoal && this.session.kept.steps.has(number) ? this.note(await this.whereGoalIs(word) ?? `step ${number} made no goal ${word}`) : undefined;
   },
 
-  whereStepIs(number) {
-    return this.session.kept.steps.has(number) ? `step ${number} is kept` : undefined;
+  /** Why no step of a number is made from now on; undefined where one may be. A goal that is asked for is not there. */
+  whyNotMade(number, isGoal) {
+    const { steps } = this.session.kept;
+    if (steps.has(number)) return `step ${number} is kept${isGoal ? ", and made no such goal" : ""}`;
+    return [...steps.keys()].some((kept) => kept > number) ? noMore(number) : undefined;
   },
 
   /** Where a goal is that was made; undefined where it was not. */
@@ -131,7 +136,7 @@ const Running = {
     if (isGoing && last < number) await part(number - last);
     if (sent.length > 0) this.note(`sent: ${sent.join(", ")}`);
     if (sent.length > 0) await this.tellRun(run, { name: "leap", words: [], line: "leap" });
-    if (last > number) this.note(`no step gets the number ${number} any more: the next one is ${last + 1}`);
+    if (last > number) this.note(noMore(number));
   },
 };
 

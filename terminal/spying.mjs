@@ -1,6 +1,6 @@
 // What the terminal does for `spy` and `nospy`: predicates without the number of their arguments, patterns of goals, and which are spied.
 import { usageOf } from "../front/protocol/commands.mjs";
-import { spiesIn } from "../front/protocol/history.mjs";
+import Histories from "../front/protocol/histories.mjs";
 import Replies from "../front/protocol/replies.mjs";
 import { predicateOf, repeatedIn, whyRepeated } from "../front/run/patterns.mjs";
 import Reader from "../front/text/reader.mjs";
@@ -19,7 +19,7 @@ const Spying = {
   /** The predicates that are spied, as a history of the session tells them. */
   async spied() {
     const saved = await this.session.ask("save");
-    return Replies.isRefused(saved) ? [] : spiesIn(saved);
+    return Replies.isRefused(saved) ? [] : Histories.spiesIn(saved);
   },
 
   /** A predicate with the patterns to which its goals are narrowed. */

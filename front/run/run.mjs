@@ -4,7 +4,7 @@ import Reader from "../text/reader.mjs";
 import Printed from "../text/printed.mjs";
 import Print from "../text/print.mjs";
 import Replies from "../protocol/replies.mjs";
-import { reachedFrom } from "./consequences.mjs";
+import Consequences from "./consequences.mjs";
 
 const Run = (() => {
   const numbersOf = (name) => name.match(/\d+/g).map(Number);
@@ -230,7 +230,7 @@ const Run = (() => {
 
     /** The numbers of a step and of all that depends on it, in recorded order. */
     consequencesOf(number) {
-      const steps = [...this.kept.steps.values()].map((step) => ({ ...step, ...this.records.get(step.number) })), reached = reachedFrom([number], steps);
+      const steps = [...this.kept.steps.values()].map((step) => ({ ...step, ...this.records.get(step.number) })), reached = Consequences.reachedFrom([number], steps);
       return [...this.kept.steps.keys()].filter((kept) => reached.has(kept));
     }
   }

@@ -5,7 +5,7 @@ import test from "node:test";
 import { fileURLToPath } from "node:url";
 import { Patterns, fits } from "../../front/run/patterns.mjs";
 import Reader from "../../front/text/reader.mjs";
-import { spiesIn } from "../../front/protocol/history.mjs";
+import Histories from "../../front/protocol/histories.mjs";
 import { begin, endAll, played } from "./lib/fronts.mjs";
 
 const BILL = path.join(path.dirname(fileURLToPath(import.meta.url)), "..", "..", "examples", "bill.ghc");
@@ -66,7 +66,9 @@ const SESSIONS = {
     ["until 9", "% sent: leap 1", "REDU 6 1.3 is", "stopped quiet", "% all is done"],
     ["until x", "% usage: until G or N     run until goal G is there, or step N is made"],
     ["undo", "% sent: undo 6", "undone 6"],
-    ["until 6", "% sent: leap 1", "REDU 7 1.3 is", "stopped quiet", "% all is done", "% no step gets the number 6 any more: the next one is 8"],
+    ["until 6", "% sent: leap 1", "REDU 7 1.3 is", "stopped quiet", "% all is done", "% no step gets the number 6 any more; shelf lists what was taken back"],
+    ["until 6", "% no step gets the number 6 any more; shelf lists what was taken back"],
+    ["until 5.2", "% step 5 is kept, and made no such goal"],
   ],
   "until stops at a spied goal, and goes on past it": [
     ["spy price", "% sent: spy price/2", "spying price/2"],
@@ -118,5 +120,5 @@ test("a predicate without patterns meets all its goals", () => {
 
 test("what a history spies", () => {
   const cases = [[["ghc-history 2", "opening 0 1", "entries 0", "spies 2", "a/0", "spies/2", "end 1"], ["a/0", "spies/2"]], [["ghc-history 2", "spies 0", "end 1"], []], [["ghc-history 1", "steps 0", "end 1"], []]];
-  for (const [lines, wanted] of cases) assert.deepStrictEqual(spiesIn(lines), wanted);
+  for (const [lines, wanted] of cases) assert.deepStrictEqual(Histories.spiesIn(lines), wanted);
 });

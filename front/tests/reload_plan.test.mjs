@@ -2,9 +2,11 @@
 import assert from "node:assert";
 import test from "node:test";
 import Replies from "../protocol/replies.mjs";
-import { reachedFrom } from "../run/consequences.mjs";
-import { historyOf, isRenumbered, planOf } from "../run/reloading.mjs";
+import Consequences from "../run/consequences.mjs";
+import ReloadPlan from "../run/reload_plan.mjs";
 import Reader from "../text/reader.mjs";
+
+const { historyOf, isRenumbered, planOf } = ReloadPlan;
 
 const BILL = ["bill(A,B,T) :- true | price(A,P), price(B,Q), T := P + Q.", "price(N,P) :- N > 0 | P := N * 10.", "price(N,P) :- N >= 10 | P := N * 8."];
 const RECORDS = Replies.readRecords([
@@ -59,5 +61,5 @@ test("where a step asked for goals, the steps are numbered anew, and so are the 
 
 test("what depends on steps", () => {
   const cases = [[[2], "2,3,6"], [[4], "4,5,6"], [[6], "6"], [[1], "1,2,3,4,5,6"], [[3, 5], "3,5,6"], [[], ""], [[9], "9"]];
-  for (const [numbers, wanted] of cases) assert.strictEqual([...reachedFrom(numbers, RECORDS)].sort((a, b) => a - b).join(), wanted);
+  for (const [numbers, wanted] of cases) assert.strictEqual([...Consequences.reachedFrom(numbers, RECORDS)].sort((a, b) => a - b).join(), wanted);
 });
