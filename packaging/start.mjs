@@ -1,6 +1,7 @@
 // Where a release begins: its first word says what is wanted.
 //
 //     ghcdb FILE [--query GOALS] [OPTION ..]   a session: at a terminal with its help, else the console alone
+//     ghcdb FILE --run [--expect 'X = TERM']   the answers alone (terminal/run)
 //     ghcdb --check .. | --json ..             a session of a script (terminal/check, terminal/json)
 //     ghcdb --dap                              the debug adapter of editors, on standard input and output
 //     ghcdb --lsp                              their language server
@@ -9,7 +10,7 @@
 //     ghcdb --version                          the version, the commit, and the kit that proved the program
 import tty from "node:tty";
 import { isMainThread } from "node:worker_threads";
-import { readWords, isSession } from "../front/protocol/words.mjs";
+import { readRun, readWords, isSession } from "../front/protocol/words.mjs";
 import { withQuery } from "../front/session/words_with_query.mjs";
 import { CARRIED } from "./carried.mjs";
 
@@ -47,6 +48,7 @@ const isTyped = (words) => STREAMS.every((stream) => tty.isatty(stream)) && isSe
 
 /** Runs ghcdb's own command line. */
 async function runConsole(words) {
+  if (readRun(words).isRun) return import("../terminal/run.mjs");
   if (isTyped(words)) return import("../terminal/ghcdb.mjs");
   await import("../web/console.mjs");
   const { commit, kit } = CARRIED.madeWith;

@@ -4,33 +4,36 @@ import Causes from "../front/text/causes.mjs";
 import { Blaming } from "../front/run/blaming.mjs";
 import { Ended } from "../front/session/program.mjs";
 import { NotTold, Session } from "../front/session/session.mjs";
-import { isNoFile } from "../front/session/files.mjs";
 import { helpLines, meaningOf, suggestionFor, usageOf } from "../front/protocol/commands.mjs";
+import Beginning from "./beginning.mjs";
+import Displaying from "./displaying.mjs";
 import Judging from "./judging.mjs";
 import * as Own from "../front/run/own.mjs";
-import { plain } from "./plain.mjs";
+import { Patterns } from "../front/run/patterns.mjs";
+import { MARK, plain } from "./plain.mjs";
 import { whyRefused } from "../front/session/refused.mjs";
+import Reloading from "./reloading.mjs";
+import Running from "./running.mjs";
+import { Showing, withoutAll } from "./showing.mjs";
 import * as Saving from "./saving.mjs";
+import Spying from "./spying.mjs";
 import { plural } from "../front/run/reasons.mjs";
 import { notesAfter } from "../front/run/telling.mjs";
 import * as Unsaved from "./unsaved.mjs";
 import Watching from "./watching.mjs";
 import Replies from "../front/protocol/replies.mjs";
 
-const MARK = "% ";
 const MOST_NOTES = 6; // on a program that are shown
-const FIRST = 20, LAST = 10, LONG = 40; // lines of a long run that are shown, and how many a run has that is shown whole
-const AT_ONCE = 500; // lines that are shown before keys are heard again
-const PROMPT_STEPS = 1000; // a run of so many steps ends soon
 const HEARD_LATE = 300; // milliseconds after ^C in which a line that is no long run may still answer
+const SLICE_LATE = 2000; // the same for a slice of a run, of which there are many
 const LEFT_LATE = 60_000; // milliseconds in which the last line is ended when the terminal is closed
-const ASK_AGAIN = { quit: "quit again ends", restart: "restart again begins anew" };
 
-const RUN_ENDED = "the run was ended; the session stands as before it. leap 1000 runs for 1000 steps at most";
+const RUN_ENDED = "the run was ended; the session stands as before it";
 const LINE_ENDED = "the line was ended; the session stands as before it";
 const ASKING_ENDED = "the line was ended; the session stands";
 
-const isLongRun = (meaning) => meaning.name === "skip" || (meaning.name === "leap" && !(Number(meaning.words[0]) <= PROMPT_STEPS));
+const isYes = (typed) => /^y(es)?$/.test(typed.trim()), isNo = (typed) => /^no?$/.test(typed.trim());
+const sliceEnded = (count) => (count === 0 ? RUN_ENDED : `the run was ended where it did not answer; the ${plural(count, "step")} before stand`);
 
 class Front {
   /** `out` and `errors` take whole lines for standard output and standard error. */
@@ -42,9 +45,14 @@ class Front {
     this.hasEnded = false;
     this.status = 0;
     this.isBusy = false; // with a line
-    this.isRunning = false; // a run is being made that may be long
+    this.isRunning = false; // a run is being made that may be long, in one piece
+    this.sliced = undefined; // the lines of a run that is being made in slices
     this.isInterrupted = false;
     this.warned = undefined; // for which command and number of changes it warned of unsaved steps
+    this.stoppedAt = undefined; // the spied goal at which the last run stopped, and the number of changes then
+    this.patterns = new Patterns(); // to which spied goals are narrowed
+    this.question = undefined; // what is done after `y`
+    this.displayed = []; // the variables that are shown after each run and step
   }
 
   note(...lines) {
@@ -72,10 +80,15 @@ class Front {
     if (Unsaved.isLeft(session.given.load)) session.savedAt = undefined; // it stands in no file of the user's yet
   }
 
-  greet() {
+  /** Tells what is seldom meant in the program. */
+  tellNotes() {
     const { text, given } = this.session, notes = Causes.notesOn(text, given.file);
     for (const cause of notes.slice(0, MOST_NOTES)) this.note(...Causes.linesOf(cause, text));
     if (notes.length > MOST_NOTES) this.note(`.. ${plural(notes.length - MOST_NOTES, "note")} more ..`);
+  }
+
+  greet() {
+    this.tellNotes();
     this.note("Flat GHC. help lists the commands; step alone takes a step, leap runs, back goes back.");
   }
 
@@ -131,8 +144,10 @@ class Front {
     if (typed.trim() === "") return;
     this.isBusy = true;
     this.isInterrupted = false;
+    const { session, session: { kept: { changes } } } = this;
     try {
       await this.heed(typed);
+      if (!this.hasEnded && session === this.session) await this.showDisplayed(changes);
     } catch (error) {
       await this.tellWhyNot(error);
     } finally {
@@ -143,6 +158,10 @@ class Front {
 
   /** A word may answer the question that is open; else it is a command. */
   async heed(typed) {
+    const { question } = this;
+    this.question = undefined;
+    if (question !== undefined && isYes(typed)) return question();
+    if (question !== undefined && isNo(typed)) return this.note("the session stands");
     if (this.blaming.isAnswer(typed.trim())) return this.answerQuestion(typed.trim());
     const meaning = meaningOf(typed, this.session.variables);
     return meaning.name === undefined ? this.passOn(meaning, typed) : this.act(meaning, typed);
@@ -161,22 +180,30 @@ class Front {
     if (reply[0] === "F25 command") this.note(suggestionFor(typed));
   }
 
-  async act(meaning, typed) {
+  async act(given, typed) {
+    const meaning = withoutAll(given);
     const own = this[`on_${meaning.name}`];
     if (own !== undefined && await own.call(this, meaning, typed) !== false) return undefined;
     return this.send(meaning, typed);
   }
 
-  /** Sends a line of the console, and tells its reply with what is to be added. */
+  /** Tells a line that is sent, where another one was typed. */
+  echo(line, typed) {
+    if (typed.trim().replace(/ +/g, " ") !== line.replace(/ +/g, " ")) this.note(`sent: ${line}`);
+  }
+
+  /** Sends a line of the console, and tells its reply with what is to be added. Gives the reply. */
   async send(meaning, typed = "") {
-    if (typed.trim().replace(/ +/g, " ") !== meaning.line.replace(/ +/g, " ")) this.note(`sent: ${meaning.line}`);
+    this.echo(meaning.line, typed);
     const reply = await this.run(meaning);
     if (reply[0] === "F25 command") {
       this.out(reply[0]);
-      return this.note(usageOf(meaning.name));
+      this.note(usageOf(meaning.name));
+    } else {
+      await this.show(reply, meaning);
+      await this.noteAll(await notesAfter(this.session, meaning, reply));
     }
-    await this.show(reply, meaning);
-    return this.noteAll(await notesAfter(this.session, meaning, reply));
+    return reply;
   }
 
   /** Sends lines one after another, until ^C. */
@@ -185,7 +212,7 @@ class Front {
   }
 
   async run(meaning) {
-    this.isRunning = isLongRun(meaning);
+    this.isRunning = meaning.name === "skip";
     try {
       return await this.session.ask(meaning.line);
     } finally {
@@ -193,45 +220,27 @@ class Front {
     }
   }
 
-  /** Tells a reply; of a long run or explanation its first and last lines. */
-  async show(reply, { name, line, isWhole } = {}) {
-    const last = reply.at(-1), isExplanation = name === "explain" && !isWhole && last.startsWith("steps ");
-    if (reply.length <= LONG || !(last.startsWith("stopped ") || isExplanation)) return this.showAll(reply);
-    reply.slice(0, FIRST).forEach((told) => this.out(told));
-    this.note(`.. ${plural(reply.length - 1 - FIRST - LAST, "step")} more (${isExplanation ? `${line} all` : "records"} shows all) ..`);
-    return reply.slice(-LAST - 1).forEach((told) => this.out(told));
-  }
-
-  /** Tells lines, of which there may be many: between pieces of them keys are heard, and ^C ends it. */
-  async showAll(lines) {
-    for (let at = 0; at < lines.length; at += AT_ONCE) {
-      if (at > 0) await new Promise((resolve) => { setImmediate(resolve); });
-      if (at > 0 && this.isInterrupted) return this.note(`.. ${plural(lines.length - at, "line")} more ..`);
-      lines.slice(at, at + AT_ONCE).forEach((line) => this.out(line));
-    }
-    return undefined;
-  }
-
-  noteAll(lines) {
-    return this.showAll(lines.map((line) => MARK + line));
-  }
-
   /**
-   * What ^C asks for: a row of lines ends after the one that is asked; that one ends, too, if it does not answer soon.
-   * Where the way back takes long, a second ^C leaves the line as it is.
+   * What ^C asks for: a row of lines, or of slices of a run, ends after the one that is asked; that one ends, too, if it does not answer
+   * soon, of a slice at a second ^C. Where the way back takes long, a second ^C leaves the line as it is.
    */
   interrupt() {
     if (this.ending !== undefined) this.session.stopBeginning();
-    if (this.isInterrupted) return;
+    else if (!this.isInterrupted) this.endsLate = setTimeout(() => this.endLine(), this.isRunning ? 0 : this.sliced ? SLICE_LATE : HEARD_LATE);
+    else if (this.sliced) this.endLine();
     this.isInterrupted = true;
-    const end = () => this.session.program.isBusy && this.endLine();
-    if (this.isRunning) end();
-    else this.endsLate = setTimeout(end, HEARD_LATE);
   }
 
-  /** Ends the line that the program is at. */
+  /** What is told of a line that was ended. */
+  get whatEnds() {
+    if (this.sliced) return sliceEnded(this.sliced.length);
+    return this.isRunning ? RUN_ENDED : this.session.isChanging ? LINE_ENDED : ASKING_ENDED;
+  }
+
+  /** Ends the line that the program is at, if it is at one. */
   endLine() {
-    const told = this.isRunning ? RUN_ENDED : this.session.isChanging ? LINE_ENDED : ASKING_ENDED;
+    if (this.ending !== undefined || !this.session.program.isBusy) return;
+    const told = this.whatEnds;
     this.ending = this.session.endRun().then(() => told, (error) => {
       this.ending = undefined;
       this.isInterrupted = false;
@@ -279,52 +288,39 @@ class Front {
     return undefined;
   }
 
-  async on_show({ words }) {
+  async on_show({ words, isWhole }) {
     if (words.length > 0) return false;
     if (this.session.variables.length === 0) this.note("the query has no variables");
-    await this.sendAll(this.session.variables.map((name) => ({ name: "show", words: [name], line: `show ${name}` })));
+    await this.sendAll(this.session.variables.map((name) => ({ name: "show", words: [name], isWhole, line: `show ${name}` })));
     return true;
   }
 
-  /** A predicate may be named without the number of its arguments. */
-  async on_spy(meaning) {
-    const [word, more] = meaning.words, named = this.session.predicates.filter((predicate) => more === undefined && predicate.split("/")[0] === word);
-    const lineOf = (predicate) => ({ ...meaning, words: [predicate], line: `${meaning.name} ${predicate}` });
-    await this.sendAll(named.map(lineOf));
-    return named.length > 0;
-  }
-
-  async on_nospy(meaning) {
-    return this.on_spy(meaning);
-  }
-
-  on_list({ words }) {
-    return this.noteAll(Own.list(this.session, words));
+  on_list(meaning) {
+    return this.noteListing(Own.list(this.session, meaning.words), meaning);
   }
 
   async on_stuck() {
     this.note(...await Own.stuck(this.session));
   }
 
-  async on_holders({ words }) {
-    if (words.length !== 1) return this.note(usageOf("holders"));
-    return this.noteAll(await Own.holders(this.session, words));
+  async on_holders(meaning) {
+    if (meaning.words.length !== 1) return this.note(usageOf("holders"));
+    return this.noteListing(await Own.holders(this.session, meaning.words), meaning);
   }
 
   async on_stat() {
     this.note(...await Own.stat(this.session));
   }
 
-  async on_records({ words }) {
-    if (words.length !== 1) return false;
-    await this.noteAll(await Own.records(this.session, words));
+  async on_records(meaning) {
+    if (meaning.words.length !== 1) return false;
+    await this.noteListing(await Own.records(this.session, meaning.words), meaning);
     return true;
   }
 
-  /** `all` is the terminal's: it shortens nothing. */
   async on_explain(meaning, typed) {
-    const isWhole = meaning.words.at(-1) === "all", words = (isWhole ? meaning.words.slice(0, -1) : meaning.words).map((word) => Own.signOf(this.session, word));
-    return this.send({ ...meaning, words, isWhole, line: [meaning.name, ...words].join(" ") }, typed);
+    const words = meaning.words.map((word) => Own.signOf(this.session, word));
+    return this.send({ ...meaning, words, line: [meaning.name, ...words].join(" ") }, typed);
   }
 
   async on_keep(meaning, typed) {
@@ -350,33 +346,6 @@ class Front {
     return this.note(Saving.whyRefused(refusal));
   }
 
-  /** Warns once that steps would be lost; true where it does so now. */
-  warnsOfLoss(name) {
-    const { session } = this, state = `${name} ${session.kept.changes}`;
-    if (session.isSaved || this.warned === state) return false;
-    this.warned = state;
-    this.note(`${plural(session.kept.steps.size, "step")} kept and not saved: save FILE keeps them; ${ASK_AGAIN[name]}`);
-    return true;
-  }
-
-  /** A new session; where the file is refused now, the old one stands. */
-  async on_restart() {
-    if (this.warnsOfLoss("restart")) return undefined;
-    const { words, native, given: { file } } = this.session, next = new Session(words, native);
-    if (isNoFile(file)) return this.note(`${file} is no file that can be read again; the session stands`);
-    try {
-      await this.start(next);
-    } catch (error) {
-      if (!(error instanceof Ended)) throw error;
-      this.tellRefusal(error, next, this.out);
-      return this.note("the session before stands");
-    }
-    await this.session.end();
-    this.session = next;
-    this.blaming = new Blaming(next);
-    return this.greet();
-  }
-
   async on_quit() {
     if (this.warnsOfLoss("quit")) return;
     this.forgetLeft();
@@ -385,6 +354,6 @@ class Front {
   }
 }
 
-Object.assign(Front.prototype, Watching, Judging);
+Object.assign(Front.prototype, Beginning, Displaying, Judging, Reloading, Running, Showing, Spying, Watching);
 
-export { Front, MARK };
+export { Front };

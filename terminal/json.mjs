@@ -1,5 +1,6 @@
 // What terminal/json does; how it is called stands there.
-import { ObjectText } from "./objects.mjs";
+import { readRefusal, whyRefused } from "../front/session/refused.mjs";
+import { ObjectText, refusedText } from "./objects.mjs";
 import { playStandardInput, write } from "./scripted.mjs";
 
 const LOOKS = /^ *(records|since|explain)( |$)/; // lines of whose objects the run is a part
@@ -29,8 +30,9 @@ class Teller {
     this.object = undefined;
   }
 
-  ended({ errors, status }) {
-    return write((this.object ?? new ObjectText(null)).ended(errors.trimEnd(), status));
+  ended({ errors, status }, session) {
+    const ended = errors.trimEnd(), why = refusedText(readRefusal(ended), whyRefused(ended, session));
+    return write((this.object ?? new ObjectText(null)).ended({ ...why, ended, status }));
   }
 }
 

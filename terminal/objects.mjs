@@ -108,6 +108,14 @@ function objectOf(line, reply, textOf) {
   return { ...start, ...(REPLIES[word]?.(reply, textOf) ?? { lines: reply }), ...holesIn(reply) };
 }
 
+/** A program, a query or a history that was refused at the start: which, the refusal, its place in the text, the cause, and what helps. */
+function refusedText({ who, refusal }, { lines: [first, ...more], cause }) {
+  if (who === undefined) return {};
+  const why = cause === undefined ? { ...(first !== undefined && { cause: first, hints: more }) }
+    : { place: `${cause.line}:${cause.column}`, cause: cause.title, hints: cause.hints };
+  return { text: who, fault: refusal.split(" ", 1)[0], refused: refusal, ...why };
+}
+
 // The text of a line's object, made as the reply comes: of a change the ports are told at once, of other lines all at
 // the end.
 class ObjectText {
@@ -145,11 +153,11 @@ class ObjectText {
     return `${JSON.stringify(objectOf(this.line, [...this.parts.flat(), ...lines], this.textOf))}\n`;
   }
 
-  /** The rest of it where the program has ended: what it said last, and its status. */
-  ended(text, status) {
-    Object.assign(this.told, { ended: text, status });
+  /** The rest of it where the program has ended: what is told of the end. */
+  ended(end) {
+    Object.assign(this.told, end);
     return this.isOpen ? this.close() : `${JSON.stringify({ command: this.line, ok: false, ...this.told })}\n`;
   }
 }
 
-export { objectOf, ObjectText };
+export { objectOf, refusedText, ObjectText };

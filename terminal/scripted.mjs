@@ -1,13 +1,15 @@
 // A session whose lines come from standard input, for scripts: replies are handed on as they come, and a status tells
 // how it went.
 import { Ended } from "../front/session/program.mjs";
+import { whyRefused } from "../front/session/refused.mjs";
 import { ScriptSession } from "../front/session/script_session.mjs";
 import { withQuery } from "../front/session/words_with_query.mjs";
 import { isWhole } from "../front/session/way_back.mjs";
 import { readWords, isSession } from "../front/protocol/words.mjs";
 import Replies from "../front/protocol/replies.mjs";
+import { MARK, plain } from "./plain.mjs";
 
-const STATUS = { done: 0, commandLine: 2, device: 3, refusedLine: 4, failed: 5, waits: 6, unfinished: 7, untold: 9 };
+const STATUS = { done: 0, commandLine: 2, device: 3, refusedLine: 4, failed: 5, waits: 6, unfinished: 7, otherValue: 8, untold: 9 };
 
 const LINE_FEED = 10, RETURN = 13;
 const MOST_BYTES = 1_048_576; // of a line
@@ -124,47 +126,70 @@ async function statusOfGoals(session) {
   return statuses.size === 0 ? STATUS.done : STATUS.waits;
 }
 
-/** Plays a session to its end: its exit status. */
+/** Plays the lines of the input to their end: the exit status. */
 async function statusOf(session, input, teller) {
-  await session.begin();
   const { wasRefused, hasHole } = await playLines(session, input, teller);
   if (wasRefused || hasHole) return wasRefused ? STATUS.refusedLine : STATUS.untold;
   return statusOfGoals(session);
 }
 
+/** Tells lines that are added to what the console says. */
+const addLines = (errors, lines) => lines.forEach((line) => errors(`${MARK}${plain(line)}\n`));
+
+/** Tells what the program said at its end, and why it refused a text or a file. */
+function tellEnd({ errors: said }, session, errors) {
+  errors(said);
+  addLines(errors, said.trimEnd().split("\n").flatMap((line) => whyRefused(line, session).lines));
+}
+
 /**
- * Gives the lines of the input to a session. `teller` hears of each line: its `begin(line, session)`, then
- * `hear(lines)` of the reply as it comes, and `end(lines)` with its last lines; `ended(error)` where the program has
- * ended by itself. The exit status.
+ * Begins a session for the words of a command line, and gives the exit status that comes of `plays(session)`. Where the
+ * program ends by itself, `errors` takes texts that say why, and `ended(error, session)` hears of it.
  */
-async function play(words, input, teller, errors) {
+async function withSession(words, { plays, errors, ended = () => {} }) {
   if (!isSession(readWords(words))) {
     errors("PROGRAM --query QUERY and the options of a session are wanted\n");
     return STATUS.commandLine;
   }
   const session = new ScriptSession(words);
   try {
-    const status = await statusOf(session, input, teller);
+    await session.begin();
+    const status = await plays(session);
     await session.end();
     return status;
   } catch (error) {
     if (!(error instanceof Ended)) throw error;
-    errors(error.errors);
-    await teller.ended(error);
+    tellEnd(error, session, errors);
+    await ended(error, session);
     return error.status;
   } finally {
     await session.program?.kill(); // whatever it is at
   }
 }
 
+/**
+ * Gives the lines of the input to a session. `teller` hears of each line: its `begin(line, session)`, then
+ * `hear(lines)` of the reply as it comes, and `end(lines)` with its last lines; `ended(error, session)` where the
+ * program has ended by itself. The exit status.
+ */
+function play(words, input, teller, errors) {
+  const ended = (error, session) => teller.ended(error, session);
+  return withSession(words, { plays: (session) => statusOf(session, input, teller), errors, ended });
+}
+
 /** Writes a text to standard output; it is done when the text was taken. */
 const write = (text, encoding) => new Promise((resolve) => { process.stdout.write(text, encoding, resolve); });
 
+/** Ends with the status that comes of the words of the command line. */
+async function endWith(plays) {
+  process.stdout.on("error", () => process.exit(STATUS.device));
+  process.exitCode = await plays(process.argv.slice(2), (text) => process.stderr.write(text));
+}
+
 /** Plays the lines of standard input for the words of the command line, and ends with the status. */
 async function playStandardInput(teller) {
-  process.stdout.on("error", () => process.exit(STATUS.device));
-  process.exitCode = await play(withQuery(process.argv.slice(2)), process.stdin, teller, (text) => process.stderr.write(text));
+  await endWith((words, errors) => play(withQuery(words), process.stdin, teller, errors));
   process.stdin.destroy();
 }
 
-export { play, playStandardInput, write, STATUS };
+export { addLines, endWith, play, playStandardInput, statusOfGoals, withSession, write, STATUS };

@@ -21,7 +21,7 @@ const Watching = {
       now = await this.session.ask(line);
     }
     now = await this.session.ask(line);
-    now.forEach((told) => this.out(told));
+    await this.show(now, { name: "show", words: [name], line });
     if (isUnbound(now)) return this.note(this.isInterrupted ? "ended: it is not bound" : `it is not bound: ${last}`);
     return this.note(isUnbound(was) ? `bound by step ${this.session.kept.last}; sent: leap 1, ${plural(taken, "time")}` : "it is bound already");
   },

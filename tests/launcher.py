@@ -398,10 +398,15 @@ def without_what_tests_need(copy):
 
 
 def with_words_for_scripts(copy):
-    """Cases of --check and --json, which a command of terminal/ serves by Node, on the program that would run."""
+    """Cases of --check, --json and --run, which a command of terminal/ serves by Node, on the program that would run."""
     told = "node: {} a --query q, on ghcdb\n"
     for word in ("check", "json"):
         yield f"--{word}", copy.run(f"--{word}", "a", "--query", "q", path=["node"]), (told.format(word), "", 4)
+    told = "node: run {}, on ghcdb\n"
+    for words in ("a --run", "--run a", "a --query q --run", "a --expect --run --run"):
+        yield words, copy.run(*words.split(), path=["node"]), (told.format(words), "", 4)
+    for words in ("a --query --run", "a --load --run", "a --run="):
+        yield words, copy.run(*words.split(), path=["node"]), (f"the program: {words}\n", "", 3)
 
 
 def at_a_terminal(copy):

@@ -183,6 +183,7 @@ def try_sessions(place):
     is_same(place.told("b.ghc", "--query", QUERY, given="leap\nT\n"), [*STEPS, "stopped quiet", "F25 command"])
     is_same(place.told("--check", "b.ghc", "--query", QUERY, given="leap\n"), [*STEPS, "stopped quiet"])
     is_same(place.told("--check", "b.ghc", "--query", QUERY, given="leap 1\n", status=7), [STEPS[0], "stopped limit"])
+    is_same(place.told("b.ghc", "--run"), ["T = 150"])
     told = json.loads(place.told("--json", "b.ghc", "--query", QUERY, given="leap\nshow T\n")[1])
     is_same((told["variable"], told["value"]), ("T", "150"))
     try_others(place)

@@ -2,46 +2,23 @@
 // cannot be read is refused, with words that say what would be.
 import Print from "../../front/text/print.mjs";
 import Reader from "../../front/text/reader.mjs";
+import { fits, formOf, predicateOf, repeatedIn, whyRepeated } from "../../front/run/patterns.mjs";
 import { refused } from "./refused.mjs";
 
 const isGiven = (text) => text !== undefined && text !== null && String(text).trim() !== "";
 
-/** How a goal of a predicate, as `price/2`, is written: `price(_,_)`. */
-function formOf(predicate) {
-  const [name, arity] = predicate.split("/"), places = Array(Number(arity)).fill("_").join(",");
-  return places === "" ? name : `${name}(${places})`;
-}
-
-/** The term that a text is; undefined where it is none, or is nested too deeply to be read. */
-function termOf(text) {
-  try {
-    return Reader.readTerm(String(text));
-  } catch (error) {
-    if (error instanceof SyntaxError || error instanceof RangeError) return undefined;
-    throw error;
-  }
-}
-
-/** The names of a term's variables that stand in it twice. */
-function repeatedIn(term) {
-  const seen = new Set(), repeated = new Set();
-  const note = ({ variable }) => variable !== undefined && (seen.has(variable) ? repeated : seen).add(variable);
-  Reader.fold(term, note, () => undefined);
-  return [...repeated];
-}
-
-const isOf = (term, predicate) => `${term.name}/${term.arguments?.length}` === predicate;
+const termOf = (text) => Reader.termIn(String(text));
 
 /** The pattern of a condition on goals of a predicate, as `price(3,_)`; undefined where there is no condition. */
 function readCondition(text, predicate) {
   if (!isGiven(text)) return undefined;
   const pattern = termOf(text), form = formOf(predicate);
-  if (pattern === undefined || !isOf(pattern, predicate)) {
+  if (predicateOf(pattern) !== predicate) {
     throw refused(`${text}: a condition is a pattern of the whole goal, ${form} with values in some places`);
   }
   const [repeated] = repeatedIn(pattern);
   if (repeated === undefined) return pattern;
-  throw refused(`${text}: a variable of a pattern fits everything, so that ${repeated} twice compares nothing`);
+  throw refused(`${text}: ${whyRepeated(repeated)}`);
 }
 
 /**
@@ -52,20 +29,9 @@ function readFunction(text, predicates) {
   const name = String(text).trim(), isNamed = (predicate) => [predicate, predicate.split("/")[0]].includes(name);
   const named = predicates.filter(isNamed).map((predicate) => ({ predicate }));
   if (named.length > 0) return named;
-  const term = termOf(name), predicate = term && predicates.find((other) => isOf(term, other));
+  const term = termOf(name), predicate = term && predicates.find((other) => predicateOf(term) === other);
   if (predicate !== undefined) return [{ predicate, pattern: readCondition(name, predicate) }];
   throw refused(`${name}: no predicate, and no pattern of one's goals; there are: ${predicates.map(formOf).join(" ")}`);
-}
-
-/** Does a goal fit a pattern? A variable of the pattern fits everything. */
-function fits(pattern, term, run) {
-  if (pattern.variable !== undefined) return true;
-  const end = run.endOf(term);
-  if (pattern.integer !== undefined || end.arguments === undefined) {
-    return pattern.integer === end.integer && pattern.arguments === end.arguments;
-  }
-  if (pattern.name !== end.name || pattern.arguments.length !== end.arguments.length) return false;
-  return pattern.arguments.every((argument, place) => fits(argument, end.arguments[place], run));
 }
 
 /** From which hit on a breakpoint stops. */

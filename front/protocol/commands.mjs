@@ -16,10 +16,10 @@ const byName = new Map(COMMANDS.map((command) => [command.name, command]));
 const OTHER_NAMES = new Map(Object.entries({
   s: "step", n: "step", next: "step", stepi: "step", r: "leap", run: "leap", c: "leap", cont: "leap", continue: "leap", go: "leap", j: "leap",
   finish: "skip", p: "show", print: "show", inspect: "show", x: "show", l: "list", ls: "list", listing: "list", w: "goals", where: "goals", bt: "goals",
-  backtrace: "goals", info: "goals", threads: "goals", b: "spy", break: "spy", breakpoint: "spy", tbreak: "spy", delete: "nospy", clear: "nospy",
+  backtrace: "goals", info: "goals", threads: "goals", b: "spy", break: "spy", breakpoint: "spy", tbreak: "spy", delete: "nospy", clear: "nospy", advance: "until",
   u: "undo", "reverse-step": "back", prev: "back", previous: "back", retry: "back", q: "quit", exit: "quit", bye: "quit", halt: "quit", h: "help",
-  "?": "help", man: "help", commands: "help", deadlock: "stuck", history: "records", trace: "records", log: "records", reload: "restart", reset: "restart",
-  write: "save", call: "ask", query: "ask", rollback: "roll", rewind: "roll",
+  "?": "help", man: "help", commands: "help", deadlock: "stuck", history: "records", trace: "records", log: "records", reset: "restart",
+  write: "save", call: "ask", rollback: "roll", rewind: "roll",
 }));
 
 const VARIABLE = /^[A-Z_]\w*$/;
@@ -51,17 +51,20 @@ function uncalled(text) {
   return byName.has(name) && !FREE.has(name) ? `${name} ${given}` : text;
 }
 
-/** What a typed line means: a command's name and words, and the line of the console that says so. `variables` are the query's. */
+/**
+ * What a typed line means: a command's name and words, the text after the name as it was typed, and the line of the console that says so.
+ * `variables` are the query's.
+ */
 function meaningOf(typed, variables = []) {
   const text = uncalled(typed.trim()), words = text.split(/[ \t]+/);
   const first = byName.has(words[0]) ? words[0] : bare(words[0]) || words[0];
-  if (words.length === 1 && isVariable(first, variables)) return { name: "show", words: [first], line: `show ${first}` };
+  if (words.length === 1 && isVariable(first, variables)) return { name: "show", words: [first], rest: first, line: `show ${first}` };
   const name = words.length > 1 && variables.includes(first) ? undefined : commandOf(first);
   if (name === undefined) return { name: undefined, words: words.slice(1), line: typed };
   const rest = text.slice(words[0].length).trim();
-  if (FREE.has(name)) return { name, words: rest === "" ? [] : rest.split(/ +/), line: rest === "" ? name : `${name} ${rest}` };
+  if (FREE.has(name)) return { name, words: rest === "" ? [] : rest.split(/ +/), rest, line: rest === "" ? name : `${name} ${rest}` };
   const kept = words.slice(1).flatMap((word) => word.split(",")).map(bare).filter((word) => word !== "");
-  return { name, words: kept, line: [name, ...kept].join(" ") };
+  return { name, words: kept, rest, line: [name, ...kept].join(" ") };
 }
 
 const widest = Math.max(...COMMANDS.map(({ form }) => form.length));
@@ -71,8 +74,8 @@ const usageOf = (name) => `usage: ${helpLine(byName.get(name))}`;
 // Words for what is done otherwise here.
 const ELSEWHERE = {
   load: "a history is loaded at the start: ./ghcdb FILE --query GOALS --load HISTORY", open: "a program is named at the start: ./ghcdb FILE --query GOALS",
-  edit: "edit the file elsewhere, then restart", set: "ask X = TERM binds a variable that is unbound", jump: "roll N goes back to before step N",
-  until: "watch X runs until X is bound", cut: "there is no cut: step G C takes goal G by clause C", fail: "there is no fail: roll N takes a step back",
+  edit: "edit the file elsewhere, then reload keeps the steps, and restart begins anew", set: "ask X = TERM binds a variable that is unbound", jump: "roll N goes back to before step N",
+  cut: "there is no cut: step G C takes goal G by clause C", fail: "there is no fail: roll N takes a step back",
   y: "y and n answer a question of blame: blame X asks whose clause made X wrong",
 };
 
@@ -103,7 +106,7 @@ function suggestion(word) {
 }
 
 const LETTERS = "A beginning of a word will do where it is clear; G is a goal, as 1.2, N a step's number, X a variable, " +
-  "F/N a predicate, as price/2.";
+  "F/N a predicate, as price/2. `all` as the last word shows a listing, or a long value, whole.";
 
 /** What follows a command, as commands.table tells. */
 const followsOf = (name) => byName.get(name)?.follows ?? "";

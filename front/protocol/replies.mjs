@@ -155,6 +155,11 @@ const Replies = (() => {
   /** What stands in front of the goal's text in a line that tells one. */
   const beforeGoal = (line) => (/^(?:CALL )?\d+\.\d+ (?:ready |waits \S+ |failed \S+ |stream )?/.exec(line) || [""])[0];
 
+  const BEFORE_TERM = /^(?:[A-Z_]\w* = |given |gave |\d+\.\d+ (?:gave|left|stands) |\d+ \d+\.\d+ (?:by \d+|eq|is|end) )/;
+
+  /** What stands in front of the one term, or goal, that a line tells; empty where it tells none. */
+  const beforeTerm = (line) => BEFORE_TERM.exec(line)?.[0] ?? beforeGoal(line);
+
   const REDU = /^REDU (\d+) (\d+\.\d+|-) (.+)$/, CALL = /^CALL (\d+\.\d+) (.*)$/, UNDONE = /^undone ([\d,]+)$/;
 
   /**
@@ -260,7 +265,7 @@ const Replies = (() => {
   }
 
   return {
-    isRefusal, isRefused, limitIn, hasHole, NO_MEMORY, readRecord, readRecords, withTerms, numberIn, beginsWithStep, numberAt, readShelf, wordsOf, readGoals, beforeGoal,
+    isRefusal, isRefused, limitIn, hasHole, NO_MEMORY, readRecord, readRecords, withTerms, numberIn, beginsWithStep, numberAt, readShelf, wordsOf, readGoals, beforeGoal, beforeTerm,
     readTaken, readCall, readUndone, readPort, readExplained, readCause, readDependence, readValue, readHolder, readExtent, readTakenGoal, readChoice, readBinder, namedIn,
   };
 })();

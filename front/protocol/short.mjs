@@ -36,6 +36,13 @@ const Short = (() => {
     return before + term(line.slice(before.length), most);
   }
 
+  /** A line of any reply, with its terms shortened; the same where it is short, or tells none. */
+  function line(text, most = MOST) {
+    if (text.length <= most) return text;
+    const changed = record(text, most), before = Replies.beforeTerm(text);
+    return changed !== text || before === "" ? changed : before + term(text.slice(before.length), most);
+  }
+
   /** Where the lines stand that have more bytes than some: where they begin, and their line ends. */
   function longLines(bytes, most) {
     const found = [];
@@ -70,7 +77,7 @@ const Short = (() => {
     return joined([...parts, bytes.subarray(at)]);
   }
 
-  return { term, record, goal, lines, MOST };
+  return { term, record, goal, line, lines, MOST };
 })();
 
 export default Short;

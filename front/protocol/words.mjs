@@ -30,7 +30,37 @@ function wordsFrom(words, { history, program }) {
   return [...kept, "--load", history];
 }
 
+/**
+ * What a run asks for that gives its answers alone: whether it is one, the values that are expected, and the words that are left
+ * for the program. A value that is lacking is undefined.
+ */
+function readRun(words) {
+  const left = [], expected = [];
+  let isRun = false;
+  for (let at = 0; at < words.length; at += 1) {
+    const word = words[at];
+    if (word === "--run") isRun = true;
+    else if (word === "--expect") expected.push(words[at += 1]);
+    else if (word.startsWith("--expect=")) expected.push(word.slice("--expect=".length));
+    else {
+      left.push(word);
+      if (WITH_VALUE.includes(word)) left.push(...words.slice(at += 1, at + 1));
+    }
+  }
+  return { isRun, expected, words: left };
+}
+
+/** The words with another query: a history of the query before is none of it. */
+function wordsOfQuery(words, query) {
+  const kept = [];
+  for (let at = 0; at < words.length; at += 1) {
+    if (["--load", "--query"].includes(words[at])) at += 1;
+    else if (!/^--(load|query)=/.test(words[at])) kept.push(words[at]);
+  }
+  return [...kept, `--query=${query}`];
+}
+
 /** The words with the program in another file. */
 const wordsOfProgram = (words, program) => words.map((word, at) => (at === readWords(words).fileAt ? program : word));
 
-export { wordsOfProgram, readWords, isSession, wordsFrom };
+export { readRun, wordsOfQuery, wordsOfProgram, readWords, isSession, wordsFrom };

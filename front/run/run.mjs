@@ -4,6 +4,7 @@ import Reader from "../text/reader.mjs";
 import Printed from "../text/printed.mjs";
 import Print from "../text/print.mjs";
 import Replies from "../protocol/replies.mjs";
+import Consequences from "./consequences.mjs";
 
 const Run = (() => {
   const numbersOf = (name) => name.match(/\d+/g).map(Number);
@@ -229,13 +230,7 @@ const Run = (() => {
 
     /** The numbers of a step and of all that depends on it, in recorded order. */
     consequencesOf(number) {
-      const reached = new Set([number]);
-      for (const step of this.kept.steps.values()) {
-        const { reads, names } = this.records.get(step.number) ?? { reads: NONE, names: NONE };
-        const depends = (step.goal !== null && reached.has(Number.parseInt(step.goal, 10))) || reads.some((variable) => reached.has(this.binders.get(variable))) ||
-          names.some((variable) => reached.has(numbersOf(variable)[0]));
-        if (depends) reached.add(step.number);
-      }
+      const steps = [...this.kept.steps.values()].map((step) => ({ ...step, ...this.records.get(step.number) })), reached = Consequences.reachedFrom([number], steps);
       return [...this.kept.steps.keys()].filter((kept) => reached.has(kept));
     }
   }

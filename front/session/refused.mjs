@@ -20,15 +20,21 @@ function whyNotRead(file) {
 /** The line of a history at which loading it stopped. */
 function whyNotLoaded(file, refusal) {
   const [, number] = /^F24 history line (\d+)$/.exec(refusal) ?? [];
-  if (number === undefined) return [];
+  if (number === undefined || file === undefined) return []; // a history that is in no file was made by the front
   if (!isFile(file)) return [`${file}: line ${number} is wrong`];
   const line = tried(() => lineOf(file, Number(number), MOST_SHOWN));
   return [`${file}:${number}: ${line ?? "the file ends before this line"}`, "the line is not of its form, or its step cannot be taken: is it of this program and query?"];
 }
 
+/** The line of standard error that refuses a text or a file: which of them, and the refusal. Nothing where it refuses none. */
+function readRefusal(line) {
+  const [, who, refusal] = /^(program|query|history|schedule): (F\d+ .*)$/.exec(line) ?? [];
+  return { who, refusal };
+}
+
 /** What helps with a line of standard error that refuses a text or a file: lines, and the cause in a text where there is one. `name` is the program's. */
 function whyRefused(line, { text, given }, name = given.file) {
-  const [, who, refusal] = /^(program|query|history|schedule): (F\d+ .*)$/.exec(line) ?? [];
+  const { who, refusal } = readRefusal(line);
   if (who === undefined) return { lines: [] };
   const file = who === "history" ? given.load : given.file;
   if (refusal.startsWith("F26")) return { lines: whyNotRead(file) };
@@ -40,4 +46,4 @@ function whyRefused(line, { text, given }, name = given.file) {
   return cause === undefined ? { lines: [] } : { lines: Causes.linesOf(cause, source), cause: { ...cause, isQuery } };
 }
 
-export { whyNotRead, whyRefused };
+export { readRefusal, whyNotRead, whyRefused };

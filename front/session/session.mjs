@@ -28,34 +28,51 @@ const bytesOf = (file) => tried(() => beginningOf(file, MOST_BYTES + 1));
 const textOf = (lines) => `${lines.join("\n")}\n`;
 
 class Session {
-  /** A session for the words of a command line, which is not begun yet. */
-  constructor(words, native = Program.nativeProgram()) {
+  /**
+   * A session for the words of a command line, which is not begun yet. `handed` may have the program's bytes and a history's text:
+   * these count, whatever the files that the words name hold.
+   */
+  constructor(words, native = Program.nativeProgram(), handed = {}) {
     this.words = words;
     this.native = native;
+    this.handed = handed;
     this.given = readWords(words);
     this.savedAt = 0; // the number of changes when the session was saved last
   }
 
   /** Begins anew with the files as they are now. Throws `Program.Ended` where ghcdb refuses them. */
   async begin() {
-    this.bytes = bytesOf(this.given.file);
+    this.bytes = this.handed.program ?? bytesOf(this.given.file);
     this.text = (this.bytes ?? "").toString("utf8");
     this.program = this.open();
     const goals = await this.program.ask("goals");
     this.clauses = Reader.readProgram(this.text);
     this.kept = new Kept();
-    if (this.given.load !== undefined) this.kept.begin(await this.program.ask("records"));
+    if (this.isLoaded) this.kept.begin(await this.program.ask("records"));
     this.run = new Run(this.clauses, this.given.query, this.kept);
     this.seen = { records: -1, goals: isWhole(goals) ? 0 : -1, reply: goals, list: Replies.readGoals(goals) };
     this.savedAt = 0;
     this.way = undefined; // the way back to it, where somebody may end a line
   }
 
-  /** The program, begun with the words; a native one reads the program's file itself, where that can be read twice. */
+  /** Did the session go on from a history? */
+  get isLoaded() {
+    return this.given.load !== undefined || this.handed.history !== undefined;
+  }
+
+  /** The program, begun with the words; a native one reads the program's file itself, where that can be read twice and nothing is handed. */
   open() {
-    const { words, native, bytes } = this;
-    if (bytes === undefined || (native !== undefined && !isNoFile(this.given.file))) return Program.open(words, native);
-    return Program.open(wordsOfProgram(words, HANDED.program), native, new Map([[HANDED.program, bytes]]));
+    const { words, native, bytes, handed: { program, history } } = this, isHanded = program !== undefined || history !== undefined;
+    if (!isHanded && (bytes === undefined || (native !== undefined && !isNoFile(this.given.file)))) return Program.open(words, native);
+    const begun = this.handing(history);
+    return Program.open(begun.words, native, begun.files);
+  }
+
+  /** The words with which the program is begun, and the texts that they name: the program as it is known, and a history where one is given. */
+  handing(history) {
+    const { words, bytes } = this, files = new Map([[HANDED.program, bytes]]);
+    if (history === undefined) return { words: wordsOfProgram(words, HANDED.program), files };
+    return { words: wordsFrom(words, HANDED), files: files.set(HANDED.history, Buffer.from(history, "latin1")) };
   }
 
   /** The names of the query's variables, as far as they are written. */
@@ -146,7 +163,7 @@ class Session {
   /** From now on each line can be ended, and the session comes back as it stood before. */
   async keepWayBack() {
     this.way = new WayBack(this.isByMany);
-    if (this.given.load !== undefined) await this.prepareForEnding();
+    if (this.isLoaded) await this.prepareForEnding();
   }
 
   /** Keeps a history that brings the session back. Without memory for it, the one before and the lines since do. */
@@ -158,16 +175,9 @@ class Session {
     else this.way.wait();
   }
 
-  /** The words with which the session is begun again, and the texts that they name: the program's is as it was. */
-  wordsAgain() {
-    const { words, bytes, way: { history } } = this, files = new Map([[HANDED.program, bytes]]);
-    if (history === undefined) return { words: wordsOfProgram(words, HANDED.program), files };
-    return { words: wordsFrom(words, HANDED), files: files.set(HANDED.history, Buffer.from(history, "latin1")) };
-  }
-
   /** Another program, at which the session stands as before the line that is asked. */
   async beginAgain() {
-    const { words, files } = this.wordsAgain(), program = this.beginning = Program.open(words, this.native, files);
+    const { words, files } = this.handing(this.way.history), program = this.beginning = Program.open(words, this.native, files);
     try {
       await program.ask("goals");
       await this.way.play(program);

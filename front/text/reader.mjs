@@ -228,7 +228,17 @@ const Reader = (() => {
     return term;
   }
 
-  return { NIL, isWritten, isState, addVariables, termsOf, fold, readProgram, readQuery, readTerm };
+  /** The term that a text is; undefined where it is none, or is nested too deeply to be read. */
+  function termIn(text) {
+    try {
+      return readTerm(text);
+    } catch (error) {
+      if (error instanceof SyntaxError || error instanceof RangeError) return undefined;
+      throw error;
+    }
+  }
+
+  return { NIL, isWritten, isState, addVariables, termsOf, fold, readProgram, readQuery, readTerm, termIn };
 })();
 
 export default Reader;

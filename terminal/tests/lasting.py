@@ -62,7 +62,7 @@ def test_any_line_is_ended(home):
     terminal = session.terminal
     terminal.type("leap 3")
     before = terminal.type("records")
-    lines = [("step", "step 1.2", LINE_ENDED), ("leap 9", None, LINE_ENDED), ("leap", None, RUN_ENDED)]
+    lines = [("step", "step 1.2", LINE_ENDED), ("leap 9", None, LINE_ENDED), ("leap", "leap 1000", RUN_ENDED)]
     for typed, sent, told in lines:
         session.hangs_at(typed, sent)
         terminal.press("\x03")
@@ -75,7 +75,7 @@ def test_any_line_is_ended(home):
 def test_tab_in_a_run_is_not_asked(home):
     session = Faulty(home)
     session.terminal.type("leap 3")
-    session.hangs_at("leap")
+    session.hangs_at("leap", "leap 1000")
     session.terminal.press("redo \t")
     session.terminal.read_until("redo ")
     session.terminal.press("\x03")
@@ -87,14 +87,14 @@ def test_tab_in_a_run_is_not_asked(home):
 def test_program_ends_with_the_front(home):
     for number in (signal.SIGKILL, signal.SIGTERM, signal.SIGHUP):
         session = Faulty(home)
-        program = session.hangs_at("leap")
+        program = session.hangs_at("leap", "leap 1000")
         os.kill(session.terminal.child, number)
         session.terminal.read()
         wants(session.terminal.status == -number, f"status {session.terminal.status}")
         wait_until(lambda: has_ended(program), f"the program's end after {number.name}")
         session.terminal.end()
     session = Faulty(home)
-    program = session.hangs_at("leap")
+    program = session.hangs_at("leap", "leap 1000")
     session.terminal.hang_up()
     wait_until(lambda: has_ended(program), "the program's end after a closed window")
 
@@ -124,7 +124,7 @@ def test_closed_window_in_a_line_leaves_what_was_before(home):
     session.terminal.type("leap 2")
     session.terminal.type("step")
     before = session.terminal.type("records")
-    session.hangs_at("leap")
+    session.hangs_at("leap", "leap 1000")
     session.terminal.hang_up()
     again = start(home, BILL, "--query", QUERY, "--load", str(Path(home, f"{UNSAVED}1")))
     wants(again.type("records") == before, "another session")

@@ -67,7 +67,7 @@ async function until(isSo) {
   while (!isSo()) await new Promise((resolve) => { setTimeout(resolve, 5); });
 }
 
-const LINE_ENDED = "% the line was ended; the session stands as before it";
+const LINE_ENDED = "% the line was ended; the session stands as before it", RUN_ENDED = "% the run was ended; the session stands as before it";
 
 test("a history with a hole is not saved", AT_MOST, async () => {
   const { front, type } = await begin(), file = place("hole.history");
@@ -93,8 +93,8 @@ test("the way back has no hole", AT_MOST, async () => {
   const before = await type("records");
   has({ hole: 4 });
   await front.session.prepareForEnding();
-  const [shown] = (await interrupted({ front, type }, "leap", { hole: 4 })).slice(-1);
-  assert.match(shown, /^% the run was ended; the session stands as before it\. /);
+  const [shown] = (await interrupted({ front, type }, "leap", { sent: "leap 1000", hole: 4 })).slice(-1);
+  assert.strictEqual(shown, RUN_ENDED);
   assert.deepStrictEqual(await type("records"), before);
 });
 
@@ -111,6 +111,22 @@ test("each line can be ended, and the session stands", AT_MOST, async () => {
   const shown = await interrupted(session, "back 3", { sent: "undo 2" });
   assert.deepStrictEqual(shown, ["% sent: undo 4", "undone 4", "% sent: undo 2", LINE_ENDED]);
   assert.deepStrictEqual(await type("redo 4"), ["REDU 4 1.2 by 2", "CALL 4.1 _1_2 := 3 * 10"]);
+});
+
+test("where a slice of a run does not answer, the slices before it are kept", AT_MOST, async () => {
+  fs.writeFileSync(place("endless.ghc"), "p(N) :- true | M := N + 1, p(M).\n");
+  const { front, type } = await begin({ file: place("endless.ghc"), query: "p(0)" }), shown = type("leap");
+  await until(() => front.session.kept.steps.size >= 2000);
+  has({ hangs: ["leap 1000"] });
+  await until(() => fs.existsSync(hung));
+  has(NONE);
+  front.interrupt();
+  front.interrupt(); // which waits no longer
+  const lines = await shown, { size } = front.session.kept.steps;
+  assert.deepStrictEqual(lines.slice(-2), ["stopped limit", `% the run was ended where it did not answer; the ${size} steps before stand`]);
+  assert.strictEqual(size % 1000, 0);
+  assert.strictEqual((await front.session.ask("records")).length, size);
+  assert.deepStrictEqual(await type("leap 1"), [`REDU ${size + 1} ${size - 1}.2 by 1`, "stopped limit", "% leap goes on"]);
 });
 
 test("where several workers make the runs, a history is kept after each", AT_MOST, async () => {
@@ -173,7 +189,7 @@ test("no folder is wanted for the way back", AT_MOST, async () => {
   try {
     const session = await begin(), { type } = session;
     await type("leap 3");
-    assert.match((await interrupted(session, "leap 2000")).join("\n"), /the session stands as before it/);
+    assert.deepStrictEqual(await interrupted(session, "leap 2000", { sent: "leap 1000" }), [RUN_ENDED]);
     assert.strictEqual((await type("records")).length, 3);
   } finally {
     Object.assign(process.env, { TMPDIR: TMPDIR ?? "", HOME });
@@ -185,7 +201,7 @@ test("a program that a signal ended is begun again", AT_MOST, async () => {
   const { front, type } = await begin();
   await type("leap 3");
   const before = await type("records");
-  has({ dies: ["leap"] });
+  has({ dies: ["leap 1000"] });
   assert.deepStrictEqual(await type("leap"),
     ["ghcdb was ended by SIGKILL", "% the program was started again; the session stands as before the last line"]);
   assert.deepStrictEqual([await type("records"), front.hasEnded], [before, false]);

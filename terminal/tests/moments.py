@@ -1,7 +1,7 @@
 #!/usr/bin/env python3
 """Breaks sessions off at random moments of runs and saves: by ^C, TERM, HUP, a closed window, and KILL.
 
-    python3 terminal/tests/moments.py [N]      N moments, 12 where none is named; several at once
+    python3 terminal/tests/moments.py [N]      N moments; else as many as MOMENTS says, or 20; several at once
 
 Whatever is broken off: the file that was saved before loads, the native program ends with the front, and what was
 left for the next start loads and has the steps that were told. A session that goes on after ^C has all steps that
@@ -31,7 +31,7 @@ CONSOLE = [NATIVE] if os.access(NATIVE, os.X_OK) else ["node", str(ROOT / "web" 
 # variable that nobody binds, the second makes two closed terms whose copies stand in each other, and then equal:
 # comparing these takes very long.
 COUNTING = ("p(N,_) :- true | M := N + 1, p(M,_).\n", "p(0,X)", "leap 3000",
-            ["leap 30000", "leap 900", "step", "back 60", "watch X", "roll 2000", "records",
+            ["leap", "leap 30000", "leap 900", "step", "back 60", "watch X", "roll 2000", "records",
              "save {file}", "save {file}", "save 1 {file}"])
 DOUBLED = ("d(0,T,S) :- true | T = S.\nd(N,T,S) :- N > 0 | M := N - 1, d(M,f(T,T),f(S,S)).\n", "d(40,a,a), W = 1", "leap 79",
            ["leap 900", "step", "leap", "stat", "save {file}"])
@@ -86,8 +86,13 @@ class Moment:
 
     def go_on(self, terminal):
         terminal.press("\x03list none/0\r")  # so its reply is the last, whether the line had ended before or not
-        self.learn(terminal.read(after="no clause of none/0"))
-        self.has_told("\n".join(terminal.type("records")), "the session")
+        shown = terminal.read(after="no clause of none/0")
+        self.learn(shown)
+        stand = re.search(r"after (\d+) steps, which stand|the (\d+) steps before stand", shown)
+        if stand:  # those that were told by a number alone stand too
+            last = max(self.told)
+            self.told |= set(range(last - int(stand[1] or stand[2]) + 1, last + 1))
+        self.has_told("\n".join(terminal.type("records all")), "the session")
         shown = terminal.type(f"save {self.file}")
         wants(any("saved in" in line for line in shown), f"{self.line!r}: {shown}")
         self.has_told(self.loaded(self.file, "records\n"), "the file")
@@ -114,5 +119,5 @@ def child_of(number):
 
 
 if __name__ == "__main__":
-    count = int(sys.argv.pop(1)) if len(sys.argv) > 1 else 12
+    count = int(sys.argv.pop(1)) if len(sys.argv) > 1 else int(os.environ.get("MOMENTS", "20"))
     trying.main([(f"moment {n}", lambda home, n=n: Moment(home, n).play()) for n in range(1, count + 1)])

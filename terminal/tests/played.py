@@ -148,14 +148,15 @@ def test_interrupt_in_a_run(home):
         program.write_text(ENDLESS)
         terminal = start(home, str(program), "--query", "p(0)")
         terminal.type("leap 3")
-        before = terminal.type("records")
         terminal.send("leap")
-        time.sleep(0.1)
+        time.sleep(1)
         terminal.press("\x03")
         shown = terminal.read()
-        wants("% the run was ended; the session stands as before it" in shown, shown[-500:])
-        wants(terminal.type("records") == before, "the session is another one")
-        wants(is_met("stopped limit", terminal.type("leap 5")), "no run after it")
+        ended = re.search(r"% ended by \^C after (\d+) steps, which stand; leap goes on\n", shown)
+        wants(ended and "\nstopped limit\n" in shown, shown[-500:])
+        count = 3 + int(ended[1])
+        wants(is_met(f"% {count} steps, longest chain", terminal.type("stat")), f"not {count} steps")
+        wants(is_met(f"REDU {count + 1} ", terminal.type("leap 5")), "no run after it")
         terminal.end()
 
 
@@ -165,7 +166,11 @@ def test_interrupt_of_a_long_list(home):
         program.write_text(ENDLESS)
         terminal = start(home, str(program), "--query", "p(0)")
         terminal.type("leap 20000")
-        for listing, first in (("records", "1 0.1 by 1"), ("records p/1", "1 p(0) by 1"), ("causes", "2 1 made")):
+        for listing, first in (
+            ("records all", "1 0.1 by 1"),
+            ("records p/1 all", "1 p(0) by 1"),
+            ("causes all", "2 1 made"),
+        ):
             terminal.press(f"{listing}\r")
             terminal.read_until(first)  # nobody reads on, so that the terminal is full, and the rest is not shown yet
             terminal.press("\x03")
@@ -186,8 +191,9 @@ def test_interrupt_drops_the_lines_that_wait(home):
         terminal.send("leap")
         terminal.send("leap 7")
         terminal.press("\x03")
-        wants("% the run was ended; the session stands as before it" in terminal.read(), "no end")
-        wants(is_met("=0.1 ready p(0)", terminal.type("goals")), "the next line was played")
+        ended = re.search(r"% ended by \^C after (\d+) steps", terminal.read())
+        wants(ended, "no end")
+        wants(is_met(f"% {ended[1]} steps, longest chain", terminal.type("stat")), "the next line was played")
         terminal.end()
 
 
@@ -223,7 +229,7 @@ def test_interrupt_where_the_file_has_changed(home):
             terminal.type("leap 3")
             before = terminal.type("records")
             program.unlink() if text is None else program.write_text(text)
-            terminal.send("leap")
+            terminal.send("skip 3.2")  # which is made in one piece
             time.sleep(0.1)
             terminal.press("\x03")
             shown = terminal.read()
@@ -258,7 +264,7 @@ def test_interrupt_of_what_takes_many_lines(home):
         time.sleep(0.05)
         terminal.press("\x03")
         terminal.read()
-        left = len(terminal.type("records"))
+        left = len(terminal.type("records all"))
         wants(0 < left, "the steps are gone")
         terminal.end()
 
@@ -278,7 +284,7 @@ def test_long_run_is_shortened(home):
     shown = terminal.type("run")
     steps = int(terminal.type("stat")[-1].split()[1])
     wants(len([line for line in shown if line.startswith("REDU ")]) == 30, str(shown))
-    wants(f"% .. {steps - 30} steps more (records shows all) .." in shown, str(shown))
+    wants(f"% .. {steps - 30} steps more (records all shows all) .." in shown, str(shown))
     wants(shown[0] == "% sent: leap" and shown[-2:] == ["stopped quiet", "% all is done"], str(shown[-3:]))
     terminal.end()
 

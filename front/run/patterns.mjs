@@ -1,0 +1,76 @@
+// Patterns of goals, as `price(3,_)`: how one is read, and which goals fit it. Pure.
+import Print from "../text/print.mjs";
+import Reader from "../text/reader.mjs";
+
+/** How a goal of a predicate, as `price/2`, is written: `price(_,_)`. */
+function formOf(predicate) {
+  const [name, arity] = predicate.split("/"), places = Array(Number(arity)).fill("_").join(",");
+  return places === "" ? name : `${name}(${places})`;
+}
+
+/** The names of a term's variables that stand in it twice. */
+function repeatedIn(term) {
+  const seen = new Set(), repeated = new Set();
+  const note = ({ variable }) => variable !== undefined && (seen.has(variable) ? repeated : seen).add(variable);
+  Reader.fold(term, note, () => undefined);
+  return [...repeated];
+}
+
+/** Why a variable that stands twice in a pattern is refused. */
+const whyRepeated = (variable) => `a variable of a pattern fits everything, so that ${variable} twice compares nothing`;
+
+/** The predicate of a term, as `price/2`; undefined where it is no goal. */
+const predicateOf = (term) => (term?.arguments === undefined ? undefined : `${term.name}/${term.arguments.length}`);
+
+/** Does a goal fit a pattern? A variable of the pattern fits everything. */
+function fits(pattern, term, run) {
+  if (pattern.variable !== undefined) return true;
+  const end = run.endOf(term);
+  if (pattern.integer !== undefined || end.arguments === undefined) {
+    return pattern.integer === end.integer && pattern.arguments === end.arguments;
+  }
+  if (pattern.name !== end.name || pattern.arguments.length !== end.arguments.length) return false;
+  return pattern.arguments.every((argument, place) => fits(argument, end.arguments[place], run));
+}
+
+// The patterns to which the goals of a predicate are narrowed, at which a run stops.
+class Patterns {
+  constructor() {
+    this.ofPredicate = new Map(); // of each predicate its patterns, by their texts
+  }
+
+  /** Narrows the goals of the predicate to those that fit this pattern, beside those that fit the others. */
+  add(pattern) {
+    const predicate = predicateOf(pattern), patterns = this.ofPredicate.get(predicate) ?? new Map();
+    this.ofPredicate.set(predicate, patterns.set(Print.term(pattern), pattern));
+  }
+
+  /** Takes a pattern away; false where it is not there. */
+  remove(pattern) {
+    const predicate = predicateOf(pattern), patterns = this.ofPredicate.get(predicate), wasThere = patterns?.delete(Print.term(pattern)) ?? false;
+    if (patterns?.size === 0) this.forget(predicate);
+    return wasThere;
+  }
+
+  /** From now on no goal of the predicate is looked at. */
+  forget(predicate) {
+    this.ofPredicate.delete(predicate);
+  }
+
+  get isEmpty() {
+    return this.ofPredicate.size === 0;
+  }
+
+  /** The texts of a predicate's patterns. */
+  textsOf(predicate) {
+    return [...this.ofPredicate.get(predicate)?.keys() ?? []];
+  }
+
+  /** Is a goal of the predicate one of those at which a run stops? `call` is the goal as written. */
+  meets(predicate, call, run) {
+    const patterns = [...this.ofPredicate.get(predicate)?.values() ?? []];
+    return patterns.length === 0 || patterns.some((pattern) => fits(pattern, call, run));
+  }
+}
+
+export { Patterns, fits, formOf, predicateOf, repeatedIn, whyRepeated };

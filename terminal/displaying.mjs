@@ -1,0 +1,33 @@
+// What the terminal does for `display X`: X is shown after each line that changed the run, by a line of the console.
+import Replies from "../front/protocol/replies.mjs";
+import * as Own from "../front/run/own.mjs";
+
+const NONE = "nothing is displayed; display X shows X after each run and step";
+
+const Displaying = {
+  async on_display({ words: [word] }) {
+    if (word === undefined) return this.note(this.displayed.length === 0 ? NONE : `displayed: ${this.displayed.join(", ")}`);
+    const name = Own.signOf(this.session, word), line = `show ${name}`, reply = await this.send({ name: "show", words: [name], line });
+    if (!Replies.isRefused(reply) && !this.displayed.includes(name)) this.displayed.push(name);
+    return undefined;
+  },
+
+  on_undisplay({ words: [word] }) {
+    const name = word && Own.signOf(this.session, word);
+    if (name !== undefined && !this.displayed.includes(name)) this.note(`${word} is not displayed`);
+    this.displayed = this.displayed.filter((other) => name !== undefined && other !== name);
+    this.note(this.displayed.length === 0 ? NONE : `displayed: ${this.displayed.join(", ")}`);
+  },
+
+  /** Shows what is displayed, where the session has changed since so many changes. */
+  async showDisplayed(changes) {
+    if (this.session.kept.changes === changes) return;
+    for (const name of this.isInterrupted ? [] : this.displayed) {
+      const line = `show ${name}`, reply = await this.session.ask(line);
+      this.echo(line, "");
+      await this.show(reply, { name: "show", words: [name], line });
+    }
+  },
+};
+
+export default Displaying;

@@ -1,0 +1,64 @@
+// How much the terminal shows of a reply: of long runs and listings the first and the last lines, of long terms the beginning. `all` as
+// the last word shows a listing or a value whole.
+import Short from "../front/protocol/short.mjs";
+import { plural } from "../front/run/reasons.mjs";
+import { MARK } from "./plain.mjs";
+
+const FIRST = 20, LAST = 10, LONG = 40; // lines that are shown of a long run or listing, and how many one has that is shown whole
+const VALUE = 1600, LINE = 400; // letters that are shown of the terms of a lone line, and of a line among others
+const AT_ONCE = 500; // lines that are shown before keys are heard again
+
+const LISTINGS = new Set(["records", "since", "goal", "goals", "show", "causes", "why", "who", "explain", "shelf", "clauses", "part", "list", "holders"]);
+
+/** What is meant without `all`, the terminal's word for showing a listing whole. */
+function withoutAll(meaning) {
+  if (!LISTINGS.has(meaning.name) || meaning.words.at(-1) !== "all") return meaning;
+  const words = meaning.words.slice(0, -1);
+  return { ...meaning, words, line: [meaning.name, ...words].join(" "), isWhole: true };
+}
+
+/** The line that shows whole what is cut. */
+const wordForAll = ({ name, line }, isRun) => (isRun ? "records all" : LISTINGS.has(name) ? `${line} all` : "goals all");
+
+const Showing = {
+  /** Tells a reply, of which a part may be left out; then a note tells which line shows it. */
+  async show(reply, meaning = {}) {
+    const { name, isWhole } = meaning, last = reply.at(-1) ?? "", isRun = last.startsWith("stopped "), isListing = LISTINGS.has(name);
+    if (isWhole || name === undefined || name === "save") return this.showAll(reply);
+    const lines = reply.map((line) => Short.line(line, reply.length === 1 ? VALUE : LINE)), all = wordForAll(meaning, isRun);
+    if (isRun || isListing) await this.showEnds(lines, { all, ...(isRun || last.startsWith("steps ") ? { tail: 1, what: "step" } : { tail: 0, what: "line" }) });
+    else await this.showAll(lines);
+    if (lines.some((line, place) => line !== reply[place])) this.note(`… stands for what is left out; ${all} shows it`);
+    return undefined;
+  },
+
+  /** Shows lines; of many the first and the last, and `tail` lines more that tell of all. */
+  async showEnds(lines, { all, tail, what }) {
+    if (lines.length <= LONG) return this.showAll(lines);
+    await this.showAll(lines.slice(0, FIRST));
+    this.note(`.. ${plural(lines.length - tail - FIRST - LAST, what)} more (${all} shows all) ..`);
+    return this.showAll(lines.slice(-LAST - tail));
+  },
+
+  /** Tells lines, of which there may be many: between pieces of them keys are heard, and ^C ends it. */
+  async showAll(lines) {
+    for (let at = 0; at < lines.length; at += AT_ONCE) {
+      if (at > 0) await new Promise((resolve) => { setImmediate(resolve); });
+      if (at > 0 && this.isInterrupted) return this.note(`.. ${plural(lines.length - at, "line")} more ..`);
+      lines.slice(at, at + AT_ONCE).forEach((line) => this.out(line));
+    }
+    return undefined;
+  },
+
+  noteAll(lines) {
+    return this.showAll(lines.map((line) => MARK + line));
+  },
+
+  /** Notes that are a listing of their own, shown as much of as of a reply. */
+  noteListing(lines, { line, isWhole }) {
+    const notes = lines.map((told) => MARK + told);
+    return isWhole ? this.showAll(notes) : this.showEnds(notes, { all: `${line} all`, tail: 0, what: "line" });
+  },
+};
+
+export { Showing, withoutAll };

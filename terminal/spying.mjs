@@ -1,0 +1,98 @@
+// What the terminal does for `spy` and `nospy`: predicates without the number of their arguments, patterns of goals, and which are spied.
+import { usageOf } from "../front/protocol/commands.mjs";
+import Histories from "../front/protocol/histories.mjs";
+import Replies from "../front/protocol/replies.mjs";
+import { predicateOf, repeatedIn, whyRepeated } from "../front/run/patterns.mjs";
+import Reader from "../front/text/reader.mjs";
+
+const IS_PATTERN = /\(/;
+const NONE = "nothing is spied; spy F/N stops runs at calls of F/N, spy F(T,..) at goals that fit that";
+
+/** The pattern that a text is; of another text why it is none. */
+function readPattern(text, name) {
+  const pattern = Reader.termIn(text), [repeated] = pattern === undefined ? [] : repeatedIn(pattern);
+  if (predicateOf(pattern) === undefined) return { why: usageOf(name) };
+  return repeated === undefined ? { pattern } : { why: whyRepeated(repeated) };
+}
+
+const Spying = {
+  /** The predicates that are spied, as a history of the session tells them. */
+  async spied() {
+    const saved = await this.session.ask("save");
+    return Replies.isRefused(saved) ? [] : Histories.spiesIn(saved);
+  },
+
+  /** A predicate with the patterns to which its goals are narrowed. */
+  spiedLine(predicate) {
+    const texts = this.patterns.textsOf(predicate);
+    return texts.length === 0 ? predicate : `${predicate}, at goals that fit ${texts.join(" or ")}`;
+  },
+
+  async tellSpied() {
+    const spied = await this.spied();
+    return this.noteAll(spied.length === 0 ? [NONE] : spied.map((predicate) => this.spiedLine(predicate)));
+  },
+
+  /** The predicates of the program that a word names without the number of their arguments. */
+  predicatesOf([word, more]) {
+    return this.session.predicates.filter((predicate) => more === undefined && predicate.split("/")[0] === word);
+  },
+
+  sendSpy(name, predicate, typed = "") {
+    return this.send({ name, words: [predicate], line: `${name} ${predicate}` }, typed);
+  },
+
+  async on_spy({ words, rest }, typed) {
+    const text = rest.replace(/\.$/, "");
+    if (text === "") return this.tellSpied();
+    if (IS_PATTERN.test(text)) return this.spyPattern(text);
+    const named = this.predicatesOf(words);
+    for (const predicate of named.length > 0 ? named : words) this.patterns.forget(predicate);
+    for (const predicate of named) if (!this.isInterrupted) await this.sendSpy("spy", predicate, typed);
+    return named.length > 0;
+  },
+
+  /** Narrows what is spied to goals that fit a pattern. */
+  async spyPattern(text) {
+    const { pattern, why } = readPattern(text, "spy"), predicate = predicateOf(pattern);
+    if (why !== undefined) return this.note(why);
+    await this.sendSpy("spy", predicate);
+    if (!this.session.predicates.includes(predicate)) return undefined;
+    this.patterns.add(pattern);
+    return this.note(`runs stop at calls of ${this.spiedLine(predicate)}`);
+  },
+
+  async on_nospy({ words, rest }, typed) {
+    const text = rest.replace(/\.$/, "");
+    if (text === "") return this.spyNothing();
+    if (IS_PATTERN.test(text)) return this.forgetPattern(text);
+    const named = this.predicatesOf(words);
+    for (const predicate of named.length > 0 ? named : words) this.patterns.forget(predicate);
+    this.stoppedAt = undefined;
+    for (const predicate of named) if (!this.isInterrupted) await this.sendSpy("nospy", predicate, typed);
+    return named.length > 0;
+  },
+
+  async spyNothing() {
+    const spied = await this.spied();
+    if (spied.length === 0) return this.note(NONE);
+    for (const predicate of spied) {
+      this.patterns.forget(predicate);
+      if (!this.isInterrupted) await this.sendSpy("nospy", predicate);
+    }
+    this.stoppedAt = undefined;
+    return undefined;
+  },
+
+  /** Takes a pattern away; with the last one the predicate is spied no longer. */
+  async forgetPattern(text) {
+    const { pattern, why } = readPattern(text, "nospy"), predicate = predicateOf(pattern);
+    if (why !== undefined) return this.note(why);
+    if (!this.patterns.remove(pattern)) return this.note(`${text} is no pattern of what is spied; spy alone lists them`);
+    if (this.patterns.textsOf(predicate).length > 0) return this.note(`runs stop at calls of ${this.spiedLine(predicate)}`);
+    this.stoppedAt = undefined;
+    return this.sendSpy("nospy", predicate);
+  },
+};
+
+export default Spying;

@@ -1,0 +1,94 @@
+// Runs that tell their answers alone: what stands on output and errors, the status, values that are expected; and what is said of a
+// text that was refused.
+import assert from "node:assert";
+import fs from "node:fs";
+import os from "node:os";
+import path from "node:path";
+import test from "node:test";
+import { spawnSync } from "node:child_process";
+import { fileURLToPath } from "node:url";
+import { readExpected, whyOther } from "../../front/protocol/expected.mjs";
+import { readRun } from "../../front/protocol/words.mjs";
+
+const TERMINAL = path.join(path.dirname(fileURLToPath(import.meta.url)), ".."), EXAMPLES = path.join(TERMINAL, "..", "examples");
+const folder = fs.mkdtempSync(path.join(os.tmpdir(), "ghcdb-test-"));
+test.after(() => fs.rmSync(folder, { recursive: true }));
+
+const BILL = path.join(EXAMPLES, "bill.ghc"), DEADLOCK = path.join(EXAMPLES, "deadlock.ghc"), SUM = path.join(EXAMPLES, "sum.ghc");
+const LOST = path.join(folder, "lost.ghc"); // a program that ends without binding its result
+fs.writeFileSync(LOST, "sum([],A,S) :- true | true.\nsum([X|Xs],A,S) :- true | B := A + X, sum(Xs,B,S).\n% Query: sum([1,2],0,S)\n");
+
+/** What a command of terminal/ tells of words: output, errors, status. */
+function told(command, words, input = "") {
+  const { stdout, stderr, status } = spawnSync(process.execPath, [path.join(TERMINAL, command), ...words], { input, encoding: "utf8", env: { ...process.env, GHCDB: "page" } });
+  return [stdout, stderr, status];
+}
+
+// Words, what stands on standard output, what on standard error, the status.
+const RUNS = [
+  [[BILL, "--run"], "T = 150\n", "", 0],
+  [["--run", "--query", "bill(1,2,Sum), price(3,P)", BILL], "Sum = 30\nP = 30\n", "", 0],
+  [[BILL, "--run", "--query", "true"], "", "", 0],
+  [[BILL, "--run", "--expect", "T = 150", "--expect=T=150"], "T = 150\n", "", 0],
+  [[BILL, "--run", "--expect", "T = 126", "--expect", "Q = [1, a]"], "T = 150\n", "% expected T = 126, got T = 150\n% expected Q = [1,a], and the query has no variable Q\n", 8],
+  [[BILL, "--run", "--expect", "T = 126."], "", "--expect 'T = 126.': X = TERM is wanted\n", 2],
+  [[BILL, "--run", "--expect"], "", "--expect '': X = TERM is wanted\n", 2],
+  [["--run"], "", "PROGRAM --query QUERY and the options of a session are wanted\n", 2],
+  [[BILL, "--run", "--query", "price(0,T)", "--expect", "T = 1"], "T = _0_1\n",
+    "% price(0,_0_1) has failed: F10\n% clause 2: N > 0 says no (N = 0)\n% clause 3: N >= 10 says no (N = 0)\n% expected T = 1, got T = _0_1\n", 5],
+  [[DEADLOCK, "--run", "--query", "after(A,B)"], "A = _0_1\nB = _0_2\n", "% 0.1 waits for _0_1 (A of the query): nobody can bind it (no other goal has it)\n", 6],
+  [[SUM, "--run", "--query", "instream(S), sum(S,0,R)"], "S = _0_1\nR = _0_2\n",
+    "% 0.2 waits for _0_1 (S of the query): held by 0.1 stream\n% open at the end: 1 input stream\n", 7],
+  [[LOST, "--run"], "S = _0_1\n", "% _0_1 (S of the query) is unbound; no goal has it\n", 0],
+  [[BILL, "--run", "--query", "q(1)"], "", "query: F5 undefined q/1\n% undefined: no clause has the head q with 1 argument\n%  --> query:1:1\n%   |\n% 1 | q(1)\n%   | ^\n%   = defined are: bill/3, price/2\n", 1],
+  [["nosuch.ghc", "--run", "--query", "true"], "", "program: F26 device\n% nosuch.ghc: no such file\n", 3],
+];
+
+for (const [words, ...wanted] of RUNS) {
+  test(`ghcdb ${words.map((word) => path.basename(word)).join(" ")}`, () => assert.deepStrictEqual(told("run", words), wanted));
+}
+
+test("a refused text has an object, and its cause stands on standard error", () => {
+  const errors = "query: F2 syntax at 1:4\n% syntax: the query ends within brackets\n%  --> query:1:4\n%   |\n% 1 | q(1\n%   |    ^\n%   = '(' of line 1, column 2 is not closed\n";
+  const object = {
+    command: null, ok: false, text: "query", fault: "F2", refused: "F2 syntax at 1:4", place: "1:4",
+    cause: "syntax: the query ends within brackets", hints: ["'(' of line 1, column 2 is not closed"], ended: "query: F2 syntax at 1:4", status: 1,
+  };
+  const [out, ...rest] = told("json", [BILL, "--query", "q(1"], "leap\n");
+  assert.deepStrictEqual([JSON.parse(out), ...rest], [object, errors, 1]);
+  assert.deepStrictEqual(told("check", [BILL, "--query", "q(1"], "leap\n"), ["", errors, 1]);
+});
+
+test("a file that cannot be read, and a history that does not load, have objects without a place", () => {
+  const history = path.join(folder, "history"), load = ["--query", "true", "--load"];
+  fs.writeFileSync(history, "ghc-history 1\nsteps 1\n1 0.1 by 1\nend 2\n");
+  const objects = [told("json", [BILL, ...load, "/nosuch"]), told("json", [BILL, ...load, history])].map(([out]) => JSON.parse(out));
+  assert.deepStrictEqual(objects, [
+    { command: null, ok: false, text: "history", fault: "F26", refused: "F26 device", cause: "/nosuch: no such file", hints: [], ended: "history: F26 device", status: 3 },
+    {
+      command: null, ok: false, text: "history", fault: "F24", refused: "F24 history line 3", cause: `${history}:3: 1 0.1 by 1`,
+      hints: ["the line is not of its form, or its step cannot be taken: is it of this program and query?"], ended: "history: F24 history line 3", status: 1,
+    },
+  ]);
+});
+
+test("the words of a run", () => {
+  const cases = [
+    [["a.ghc", "--run"], { isRun: true, expected: [], words: ["a.ghc"] }],
+    [["--run", "a.ghc", "--query", "--run", "--workers", "2"], { isRun: true, expected: [], words: ["a.ghc", "--query", "--run", "--workers", "2"] }],
+    [["a.ghc", "--query", "--run"], { isRun: false, expected: [], words: ["a.ghc", "--query", "--run"] }],
+    [["a.ghc", "--expect", "--run", "--expect=X = a"], { isRun: false, expected: ["--run", "X = a"], words: ["a.ghc"] }],
+    [["a.ghc", "--run", "--expect"], { isRun: true, expected: [undefined], words: ["a.ghc"] }],
+  ];
+  for (const [words, wanted] of cases) assert.deepStrictEqual(readRun(words), wanted, words.join(" "));
+});
+
+test("what is expected is read as a term, and compared as ghcdb prints it", () => {
+  const read = [["X = [1, 2|T]", "X = [1,2|T]"], ["_y=f( a )", "_y = f(a)"], ["X = -07", "X = -7"], ["X = 1 = 2", undefined], ["x = 1", undefined], ["X", undefined], ["X = ", undefined], [`X = ${"f(".repeat(65)}`, undefined]];
+  for (const [text, wanted] of read) {
+    const found = readExpected(text);
+    assert.strictEqual(found && `${found.name} = ${found.value}`, wanted, text);
+  }
+  assert.strictEqual(whyOther({ name: "X", value: "1" }, "X = 1"), undefined);
+  assert.strictEqual(whyOther({ name: "X", value: "1" }, "F6 limit: print"), "expected X = 1, got F6 limit: print");
+});
