@@ -91,6 +91,9 @@ const REPLIES = new Map(Object.entries({
   SUSP: "G V,..: goal G waits until one of these variables is bound", FAIL: "G F10: goal G has failed, as help F10 tells",
   reads: "V,..: the bound variables at which the step looked", binds: "V=TERM;..: what the step bound",
   makes: "G,..: the goals that the step made",
+  undone: "N,..: these steps were taken back, in the record's order", kept: "K: so many steps are left",
+  stopped: "quiet: no goal is ready; clash G: goal G has failed; spied G: goal G, of a spied predicate, is next; limit: K steps were made; " +
+    "full: no step has room; memory: memory was refused",
 }));
 
 /** Which word was meant, in words. */

@@ -101,4 +101,7 @@ test("what is mistyped is near, what is another word is not", () => {
     assert.strictEqual(nearest(word, commands), undefined, word);
   }
   assert.strictEqual(nearest("pr", ["pl", "p"]), undefined);
+  assert.strictEqual(nearest("abcdefghijkl", ["abcdefghijxy"]), "abcdefghijxy");
+  assert.strictEqual(nearest("abcdefghijkl", ["abcdefghixyz"]), undefined);
+  assert.strictEqual(nearest("abcdefg", ["abcdexy"]), undefined);
 });

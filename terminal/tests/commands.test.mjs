@@ -11,6 +11,9 @@ test("help explains the words of the console's replies", () => {
     FAIL: "G F10: goal G has failed, as help F10 tells",
     reads: "V,..: the bound variables at which the step looked", binds: "V=TERM;..: what the step bound",
     makes: "G,..: the goals that the step made",
+    undone: "N,..: these steps were taken back, in the record's order", kept: "K: so many steps are left",
+    stopped: "quiet: no goal is ready; clash G: goal G has failed; spied G: goal G, of a spied predicate, is next; limit: K steps were made; " +
+      "full: no step has room; memory: memory was refused",
   };
   for (const [word, meaning] of Object.entries(told)) assert.deepStrictEqual(helpLines([word]), [`${word} ${meaning}`]);
   assert.strictEqual(suggestionFor("REDU 1 0.1 by 1"), "REDU: no such command; it stands in replies: help REDU");
@@ -19,11 +22,11 @@ test("help explains the words of the console's replies", () => {
 });
 
 test("a word is taken for another one only where few of its letters differ", () => {
-  const meant = { undoo: "undo", stp: "step", explian: "explain", recrods: "records", brekpoint: "spy", redu: "redo" };
+  const meant = { undoo: "undo", stp: "step", explian: "explain", recrods: "records", brekpoint: "spy", redu: "redo", breakpiont: "spy" };
   for (const [word, name] of Object.entries(meant)) {
     assert.deepStrictEqual(helpLines([word]), [`${word}: no such command; ${name}?  (help lists them)`]);
   }
-  for (const word of ["notrace", "rn", "rum", "spent", "constructor", "toString"]) {
+  for (const word of ["notrace", "rn", "rum", "spent", "constructor", "toString", "bckpont", "reverstps", "explicitly"]) {
     assert.deepStrictEqual(helpLines([word]), [`${word}: no such command  (help lists them)`]);
     assert.strictEqual(suggestionFor(word), `${word}: no such command  (help lists them)`);
   }
