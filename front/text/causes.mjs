@@ -111,11 +111,13 @@ const Causes = (() => {
   /** Notes on results that stand in a head, which binds nothing, where another clause of the predicate binds that argument in its body. */
   function resultsInHeads(program, which) {
     const clauses = Reader.readProgram(program), binders = CheckerCauses.bindersOf(clauses), notes = [];
+    const all = Tokens.clausesOf(Tokens.tokensOf(program)), cureOf = (number, place) => CheckerCauses.bindInBody(all[number - 1], place);
     for (const { head, predicate, number, line, letter, name } of clauses) {
       head.arguments.forEach((argument, place) => {
         const binder = argument.variable === undefined ? binders.get(`${predicate} ${place}`) : undefined;
         if (binder === undefined) return;
-        const cure = `a head binds nothing; clause ${binder} binds that argument in its body, by =`, token = { line, column: letter, text: name };
+        const cure = `a head binds nothing; clause ${binder} binds that argument in its body: ${cureOf(number, place)}`;
+        const token = { line, column: letter, text: name };
         notes.push(caused(which, { token, title: `note: clause ${number} waits until argument ${place + 1} is bound`, hints: [cure] }));
       });
     }
