@@ -5,7 +5,7 @@ import { Blaming } from "../front/run/blaming.mjs";
 import { Ended } from "../front/session/program.mjs";
 import { NotTold, Session } from "../front/session/session.mjs";
 import { isNoFile } from "../front/session/files.mjs";
-import { helpLines, meaningOf, suggestionFor, usageOf } from "../front/protocol/commands.mjs";
+import { helpLines, meaningOf, suggestionFor, usageOf, whyNoCommand } from "../front/protocol/commands.mjs";
 import Judging from "./judging.mjs";
 import * as Own from "../front/run/own.mjs";
 import { plain } from "./plain.mjs";
@@ -173,7 +173,7 @@ class Front {
     const reply = await this.run(meaning);
     if (reply[0] === "F25 command") {
       this.out(reply[0]);
-      return this.note(usageOf(meaning.name));
+      return this.note(...whyNoCommand(meaning));
     }
     await this.show(reply, meaning);
     return this.noteAll(await notesAfter(this.session, meaning, reply));

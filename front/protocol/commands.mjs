@@ -68,6 +68,14 @@ const widest = Math.max(...COMMANDS.map(({ form }) => form.length));
 const helpLine = ({ form, tells }) => `${form.padEnd(widest)}  ${tells}`;
 const usageOf = (name) => `usage: ${helpLine(byName.get(name))}`;
 
+const FOREIGN = /[^\x00-\x7f]/u;
+
+/** What helps where the console takes a command's line for none. */
+function whyNoCommand({ name, line }) {
+  const [letter] = FOREIGN.exec(line) ?? [], ascii = `a line has the letters of ASCII alone, and ${letter} is none of them`;
+  return [...(letter === undefined ? [] : [ascii]), usageOf(name)];
+}
+
 // Words for what is done otherwise here.
 const ELSEWHERE = {
   load: "a history is loaded at the start: ./ghcdb FILE --query GOALS --load HISTORY", open: "a program is named at the start: ./ghcdb FILE --query GOALS",
@@ -121,4 +129,4 @@ function helpLines(words) {
   return [...COMMANDS.map(helpLine), LETTERS];
 }
 
-export { COMMANDS, NAMES, commandOf, followsOf, meaningOf, helpLines, usageOf, suggestionFor };
+export { COMMANDS, NAMES, commandOf, followsOf, meaningOf, helpLines, usageOf, whyNoCommand, suggestionFor };

@@ -1,7 +1,7 @@
 // What the terminal says of words that are no commands: words of replies are explained, others are not guessed wildly.
 import assert from "node:assert";
 import test from "node:test";
-import { helpLines, suggestionFor } from "../../front/protocol/commands.mjs";
+import { helpLines, suggestionFor, usageOf, whyNoCommand } from "../../front/protocol/commands.mjs";
 
 test("help explains the words of the console's replies", () => {
   const told = {
@@ -30,4 +30,11 @@ test("a word is taken for another one only where few of its letters differ", () 
     assert.deepStrictEqual(helpLines([word]), [`${word}: no such command  (help lists them)`]);
     assert.strictEqual(suggestionFor(word), `${word}: no such command  (help lists them)`);
   }
+});
+
+test("a letter past ASCII is told as why a line is none of the console's", () => {
+  const ascii = (letter) => `a line has the letters of ASCII alone, and ${letter} is none of them`;
+  assert.deepStrictEqual(whyNoCommand({ name: "ask", line: "ask X = äöü" }), [ascii("ä"), usageOf("ask")]);
+  assert.deepStrictEqual(whyNoCommand({ name: "in", line: "in 1 😀" }), [ascii("😀"), usageOf("in")]);
+  assert.deepStrictEqual(whyNoCommand({ name: "ask", line: "ask" }), [usageOf("ask")]);
 });
