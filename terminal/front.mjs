@@ -8,8 +8,9 @@ import { isNoFile } from "../front/session/files.mjs";
 import { helpLines, meaningOf, suggestionFor, usageOf, whyNoCommand } from "../front/protocol/commands.mjs";
 import Judging from "./judging.mjs";
 import * as Own from "../front/run/own.mjs";
-import { plain } from "./plain.mjs";
+import { MARK, plain } from "./plain.mjs";
 import { whyRefused } from "../front/session/refused.mjs";
+import { everyRefusal } from "../front/session/every_refusal.mjs";
 import * as Saving from "./saving.mjs";
 import { plural } from "../front/run/reasons.mjs";
 import { notesAfter } from "../front/run/telling.mjs";
@@ -17,7 +18,6 @@ import * as Unsaved from "./unsaved.mjs";
 import Watching from "./watching.mjs";
 import Replies from "../front/protocol/replies.mjs";
 
-const MARK = "% ";
 const MOST_NOTES = 6; // on a program that are shown
 const FIRST = 20, LAST = 10, LONG = 40; // lines of a long run that are shown, and how many a run has that is shown whole
 const AT_ONCE = 500; // lines that are shown before keys are heard again
@@ -58,6 +58,7 @@ class Front {
     } catch (error) {
       if (!(error instanceof Ended)) throw error;
       this.finish(error);
+      await this.tellOthers(error, this.session, this.errors);
       return;
     }
     this.greet();
@@ -104,6 +105,12 @@ class Front {
       tell(line);
       whyRefused(line, session).lines.forEach((told) => tell(MARK + told));
     }
+  }
+
+  /** What else a program and a query are refused for. */
+  async tellOthers({ errors }, { text, given, native }, tell) {
+    const [, ...others] = await everyRefusal({ text, query: given.query, file: given.file }, native, errors.trim());
+    for (const { said, lines } of others) [said, ...lines].forEach((line) => tell(MARK + line));
   }
 
   /** Where steps are kept and not saved, they are left for the next start. */
@@ -369,6 +376,7 @@ class Front {
     } catch (error) {
       if (!(error instanceof Ended)) throw error;
       this.tellRefusal(error, next, this.out);
+      await this.tellOthers(error, next, this.out);
       return this.note("the session before stands");
     }
     await this.session.end();

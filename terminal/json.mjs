@@ -29,8 +29,8 @@ class Teller {
     this.object = undefined;
   }
 
-  ended({ errors, status }) {
-    return write((this.object ?? new ObjectText(null)).ended(errors.trimEnd(), status));
+  ended({ errors, status }, refusals) {
+    return write((this.object ?? new ObjectText(null)).ended(errors.trimEnd(), status, refusals));
   }
 }
 

@@ -108,6 +108,14 @@ function objectOf(line, reply, textOf) {
   return { ...start, ...(REPLIES[word]?.(reply, textOf) ?? { lines: reply }), ...holesIn(reply) };
 }
 
+/** What is refused of a program or a query: where, why, and what helps. */
+function refusal({ said, lines, cause }) {
+  const [, where, refused] = /^(\w+): (.*)$/.exec(said) ?? [], told = { in: where ?? null, refused: refused ?? said };
+  if (cause === undefined) return { ...told, hints: lines };
+  const { line, column, length, title, hints } = cause;
+  return { ...told, line, column, length, title, hints };
+}
+
 // The text of a line's object, made as the reply comes: of a change the ports are told at once, of other lines all at
 // the end.
 class ObjectText {
@@ -145,9 +153,9 @@ class ObjectText {
     return `${JSON.stringify(objectOf(this.line, [...this.parts.flat(), ...lines], this.textOf))}\n`;
   }
 
-  /** The rest of it where the program has ended: what it said last, and its status. */
-  ended(text, status) {
-    Object.assign(this.told, { ended: text, status });
+  /** The rest of it where the program has ended: what it said last, its status, and all that it refuses of its texts. */
+  ended(text, status, refusals = []) {
+    Object.assign(this.told, { ended: text, status, ...(refusals.length > 0 && { refusals: refusals.map(refusal) }) });
     return this.isOpen ? this.close() : `${JSON.stringify({ command: this.line, ok: false, ...this.told })}\n`;
   }
 }

@@ -2,6 +2,7 @@
 // how it went.
 import { Ended } from "../front/session/program.mjs";
 import { ScriptSession } from "../front/session/script_session.mjs";
+import { everyRefusal } from "../front/session/every_refusal.mjs";
 import { withQuery } from "../front/session/words_with_query.mjs";
 import { isWhole } from "../front/session/way_back.mjs";
 import { readWords, isSession } from "../front/protocol/words.mjs";
@@ -132,10 +133,16 @@ async function statusOf(session, input, teller) {
   return statusOfGoals(session);
 }
 
+/** All that a program and a query are refused for, where ghcdb has ended before the session began; else none. */
+async function refusalsOf({ errors }, { kept, text, given, native }) {
+  if (kept !== undefined || text === undefined) return [];
+  return everyRefusal({ text, query: given.query, file: given.file }, native, errors.trim());
+}
+
 /**
  * Gives the lines of the input to a session. `teller` hears of each line: its `begin(line, session)`, then
- * `hear(lines)` of the reply as it comes, and `end(lines)` with its last lines; `ended(error)` where the program has
- * ended by itself. The exit status.
+ * `hear(lines)` of the reply as it comes, and `end(lines)` with its last lines; `ended(error, refusals)` where the
+ * program has ended by itself, with all that it refuses of its texts. The exit status.
  */
 async function play(words, input, teller, errors) {
   if (!isSession(readWords(words))) {
@@ -150,7 +157,7 @@ async function play(words, input, teller, errors) {
   } catch (error) {
     if (!(error instanceof Ended)) throw error;
     errors(error.errors);
-    await teller.ended(error);
+    await teller.ended(error, await refusalsOf(error, session));
     return error.status;
   } finally {
     await session.program?.kill(); // whatever it is at
