@@ -44,23 +44,33 @@ const CheckerCauses = (() => {
 
   const headOf = (clause) => clause.slice(0, Tokens.endOfCall(clause, 0) + 1);
 
-  /** Where an argument of another clause's head is a number, and of this one a variable: that it is not this number. */
-  function otherNumbers(clause, other) {
-    const values = Cures.argumentsOf(headOf(other));
-    return Cures.argumentsOf(headOf(clause)).flatMap(([name, ...more], place) => {
-      const [value, ...rest] = values[place] ?? [], areLone = more.length + rest.length === 0;
-      return areLone && name.kind === "variable" && value?.kind === "integer" ? [`${name.text} =\\= ${value.text}`] : [];
-    });
+  /** The arguments of two clauses' heads side by side, each as its tokens. */
+  function besideEachOther(clause, other) {
+    const [own, others] = [clause, other].map((tokens) => Cures.argumentsOf(headOf(tokens)));
+    return own.map((argument, place) => ({ argument, beside: others[place] }));
   }
 
-  /** A test that says yes where the other clauses of a predicate say no, as far as one can be told; else one of its head. */
+  const isLone = (argument, kind) => argument.length === 1 && argument[0].kind === kind && argument[0].text !== "_";
+
+  /** A test of a clause that says yes where another clause with a number in its head, or one comparison, says no. */
+  function oppositeTo(clause, other) {
+    const pairs = besideEachOther(clause, other), { start, end } = guardOf(other), guard = other.slice(start, end);
+    const numbers = pairs.filter(({ argument, beside }) => isLone(argument, "variable") && isLone(beside, "integer"));
+    const areOnly = pairs.every(({ beside }) => beside.length === 1 && (beside[0].kind === "variable" || beside[0].kind === "integer"));
+    if (!areOnly || numbers.length > 1) return undefined;
+    if (numbers.length === 1) return guard.length === 1 ? `${numbers[0].argument[0].text} =\\= ${numbers[0].beside[0].text}` : undefined;
+    const named = pairs.filter(({ argument, beside }) => isLone(argument, "variable") && isLone(beside, "variable"));
+    const names = new Map(named.map(({ argument, beside }) => [beside[0].text, argument[0]]));
+    if (guard.some(({ kind, text }) => kind === "variable" && !names.has(text))) return undefined;
+    return Cures.oppositeOf(guard.map((token) => names.get(token.text) ?? token));
+  }
+
+  /** What says yes where no other clause of the predicate does: in words, where it can be told of all of them. */
   function oppositeOf(clauses, clause) {
     const predicateOf = (tokens) => `${tokens[0].text}/${Tokens.arityAt(tokens, 0)}`;
     const others = clauses.filter((other) => other !== clause && predicateOf(other) === predicateOf(clause));
-    const numbers = others.flatMap((other) => otherNumbers(clause, other));
-    const guards = others.map((other) => Cures.oppositeOf(other.slice(guardOf(other).start, guardOf(other).end)));
-    const variable = headOf(clause).find(({ kind, text }) => kind === "variable" && text !== "_")?.text;
-    return [...numbers, ...guards].find((test) => test !== undefined) ?? `${variable ?? "X"} =\\= 0`;
+    const tests = others.map((other) => oppositeTo(clause, other));
+    return tests.length > 0 && !tests.includes(undefined) ? `: ${[...new Set(tests)].join(", ")}` : undefined;
   }
 
   /** What is wrong with the test that begins at a place of a clause, outside of all brackets; undefined where nothing is. */

@@ -82,9 +82,9 @@ const Habits = (() => {
 
   // Tests of other languages.
   const TESTS = {
-    otherwise: ["otherwise is not of this language", "write the opposite of the other guards, as {OPPOSITE}"],
-    alternatively: ["alternatively is not of this language", "write the opposite of the other guards, as {OPPOSITE}"],
-    else: ["there is no else", "write the opposite of the other guards, as {OPPOSITE}"],
+    otherwise: ["otherwise is not of this language", "write the opposite of the other guards{OPPOSITE}"],
+    alternatively: ["alternatively is not of this language", "write the opposite of the other guards{OPPOSITE}"],
+    else: ["there is no else", "write the opposite of the other guards{OPPOSITE}"],
     nonvar: ["nonvar is written wait", "wait({V}) says yes when {V} is bound"],
     ground: ["there is no test ground", "wait({V}) says yes when {V} is bound, whatever stands in it"],
     var: ["no test tells that a variable is unbound", "it may be bound later; wait({V}), integer({V}), atom({V}), list({V}) wait until it is"],

@@ -3,7 +3,7 @@
 // A hint may hold {X} and {Y}, the two sides of the mark at the place; {N} and {N1}, the variable before it and a new
 // name; {B}, what stands before it, {R}, the variable to which it is assigned, {POWER} and {TWOS}, that power of it and
 // of two; {V} and {W}, the arguments of the test there; {HEAD}, its clause's head, {NAME} the name that begins it, and
-// {VALUE}, the head with {Y} in the place of {X}; {OPPOSITE}, a test that the other clauses do not have.
+// {VALUE}, the head with {Y} in the place of {X}; {OPPOSITE}, a test that no other clause has.
 import Tokens from "./tokens.mjs";
 import Cures from "./cures.mjs";
 
@@ -11,7 +11,7 @@ const OwnWords = (() => {
   const ENDS = [",", "|", ":-", "."], SYMBOLS = /^[^\w\s()[\],|.%"']+$/;
   const ANY = { // where the text shows none
     X: "X", Y: "Y", N: "N", N1: "N1", B: "X", R: "Y", POWER: "X * X", TWOS: "2", V: "X", W: "Y", HEAD: "p(X,Y)",
-    NAME: "p", VALUE: "p(a)", OPPOSITE: "X =\\= 0",
+    NAME: "p", VALUE: "p(a)", OPPOSITE: "; of terms that are no numbers write a clause for each other value",
   };
 
   const touches = (left, right) => left.end === right.at;
