@@ -8,10 +8,11 @@ import { Front, MARK } from "./front.mjs";
 
 const GREETING = `${MARK}Flat GHC. help`; // how the line begins that a session begins with
 const PROGRAM = "program.ghc"; // what a program of the lesson's own is called in replies
+const NO_QUERY = "no query is given, and no comment % Query: .. names one";
 const INDENT = " ".repeat(9);
 
 class Lesson {
-  /** `folder` is the lesson's, `draw(history, program, query)` gives a picture's text, `native` is the program to use. */
+  /** `folder` is the lesson's, `draw(history, program, query)` gives a picture's text, `native` plays sessions. */
   constructor({ folder, draw, native }) {
     Object.assign(this, { folder, draw, native, out: [] });
     this.own = fs.mkdtempSync(path.join(os.tmpdir(), "ghcdb-lesson-"));
@@ -89,7 +90,7 @@ class Lesson {
     if (this.isBegun !== false) return;
     this.isBegun = true;
     this.query ??= queryOf(fs.readFileSync(this.file, "utf8"));
-    if (this.query === undefined) throw new Error(`${this.name}: no query is given, and no comment % Query: .. names one`);
+    if (this.query === undefined) throw new Error(`${this.name}: ${NO_QUERY}`);
     await this.front?.session.program?.kill();
     const tell = (line) => this.tell(line);
     this.front = new Front({ words: [this.file, "--query", this.query], native: this.native, out: tell, errors: tell });

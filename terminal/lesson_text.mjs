@@ -1,7 +1,8 @@
-// A lesson: a text in Markdown whose blocks ```ghcdb hold programs, queries and typed lines. Reads it, and tells what is
-// wrong with it. Pure.
+// A lesson: a text in Markdown whose blocks ```ghcdb hold programs, queries and typed lines. It is read here. Pure.
 const FENCE = "```", OPENS = `${FENCE}ghcdb`;
 const FIRST = /^(program|query|file|picture) +(\S.*)$/, MORE = /^ {9}(.*)$/, TYPED = /^> ?(.*)$/;
+const BESIDE = "picture NAME.svg names a file beside the lesson";
+const NO_ITEM = "a block has lines \"program ..\", \"file ..\", \"query ..\", \"> ..\" and \"picture ..\"; this is none";
 const PICTURE = /^[\w-]+\.svg$/;
 
 // What is thrown where a lesson is wrong: why, and in which line.
@@ -14,11 +15,11 @@ class WrongLesson extends Error {
 /** What a line of a block says: `{ kind, text }`. */
 function itemOf(line, number) {
   const [, kind, text] = FIRST.exec(line) ?? [], [, typed] = TYPED.exec(line) ?? [];
-  if (kind === "picture" && !PICTURE.test(text)) throw new WrongLesson(number, "picture NAME.svg names a file beside the lesson");
+  if (kind === "picture" && !PICTURE.test(text)) throw new WrongLesson(number, BESIDE);
   if (kind !== undefined) return { kind, text, number };
   if (typed !== undefined) return { kind: "typed", text: typed, number };
   if (line.trim() === "" || line === "continued") return { kind: "blank", number };
-  throw new WrongLesson(number, `a block has lines "program ..", "file ..", "query ..", "> .." and "picture .."; this is none`);
+  throw new WrongLesson(number, NO_ITEM);
 }
 
 /** The items of a block's lines: further lines of a program are indented by nine blanks. */

@@ -21,7 +21,10 @@ function isNobodys(session, variable, places) {
   return goals !== undefined && name !== undefined && !goals.some((goal) => Builders.mayBind(goal, name, places));
 }
 
-/** The call that a goal's text is; undefined where it is none, or too long. */
+/**
+ * The call that a goal's text is; undefined where it is none, or too long.
+ * @returns {any}
+ */
 function callOf({ text }) {
   if (text.length > LONGEST || Printed.sortOfText(text) !== "call") return undefined;
   return Reader.readTerm(text);
