@@ -109,7 +109,7 @@ class Front {
 
   /** What else a program and a query are refused for. */
   async tellOthers({ errors }, { text, given, native }, tell) {
-    const [, ...others] = await everyRefusal({ text, query: given.query, file: given.file }, native, errors.trim());
+    const [, ...others] = await everyRefusal({ text, ...given }, native, errors.trim());
     for (const { said, lines } of others) [said, ...lines].forEach((line) => tell(MARK + line));
   }
 

@@ -136,7 +136,7 @@ async function statusOf(session, input, teller) {
 /** All that a program and a query are refused for, where ghcdb has ended before the session began; else none. */
 async function refusalsOf({ errors }, { kept, text, given, native }) {
   if (kept !== undefined || text === undefined) return [];
-  return everyRefusal({ text, query: given.query, file: given.file }, native, errors.trim());
+  return everyRefusal({ text, ...given }, native, errors.trim());
 }
 
 /**

@@ -44,8 +44,8 @@ function byPlace({ cause: one }, { cause: other }) {
 
 // The texts as they are judged, after what was refused is out.
 class Judged {
-  constructor({ text, query, file = "program" }) {
-    this.file = file;
+  constructor({ text, query, file = "program", load }) {
+    Object.assign(this, { file, load });
     this.original = text;
     this.readable = text; // without what is no syntax
     this.text = text; // without all that was refused
@@ -62,7 +62,8 @@ class Judged {
   told(said) {
     const [, who, number, rest] = SAID.exec(said) ?? [];
     if (number === "F5" && this.names.has(/^undefined (\w+)\//.exec(rest)[1])) return [];
-    const { lines, cause } = whyRefused(said, { text: this.readable, given: { file: this.file, query: this.query } });
+    const { readable: text, file, query, load } = this;
+    const { lines, cause } = whyRefused(said, { text, given: { file, query, load } });
     if (cause === undefined || who === "query") return [{ said, lines, cause }];
     return [{ said, lines: Causes.linesOf(cause, this.original), cause }];
   }
@@ -101,7 +102,8 @@ class Judged {
 
 /**
  * The refusals of a program and a query, each as `{ said, lines, cause }`: the one that ghcdb tells, then the others by
- * their places; at most 20. `first` is what it said of them, where it was asked already, and `native` judges.
+ * their places; at most 20. `given` has `text` and `query`, and the names of the program's and the history's files as
+ * `file` and `load`; `first` is what ghcdb said, where it was asked already, and `native` judges.
  */
 async function everyRefusal(given, native, first) {
   const judged = new Judged(given), refusals = [];

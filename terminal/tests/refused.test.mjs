@@ -29,20 +29,26 @@ const told = (file) => [
   "%   = defined are: p/1, q/2",
 ];
 
-/** What comes of a program in a file of its own. */
-async function withFile(use) {
-  const folder = fs.mkdtempSync(path.join(os.tmpdir(), "ghcdb-test-")), file = path.join(folder, "a.ghc");
-  fs.writeFileSync(file, PROGRAM);
+/** What comes of a use of a folder of its own. */
+async function inFolder(use) {
+  const folder = fs.mkdtempSync(path.join(os.tmpdir(), "ghcdb-test-"));
   try {
-    return await use(file);
+    return await use(folder);
   } finally {
     fs.rmSync(folder, { recursive: true });
   }
 }
 
-/** What a command of the terminal's folder tells of the program. */
-function run(command, file) {
-  const words = [path.join(TERMINAL, command), file, "--query", QUERY], env = { ...process.env, GHCDB: "page" };
+/** What comes of the program in a file of its own. */
+const withFile = (use) => inFolder((folder) => {
+  const file = path.join(folder, "a.ghc");
+  fs.writeFileSync(file, PROGRAM);
+  return use(file);
+});
+
+/** What a command of the terminal's folder tells of a program. */
+function run(command, file, query = QUERY, ...more) {
+  const words = [path.join(TERMINAL, command), file, "--query", query, ...more], env = { ...process.env, GHCDB: "page" };
   return spawnSync(process.execPath, words, { input: "leap\n", encoding: "utf8", env });
 }
 
@@ -69,4 +75,15 @@ test("--json tells it in the object of the end", () => withFile((file) => {
   ];
   assert.deepStrictEqual(JSON.parse(stdout), { command: null, ok: false, ended: FIRST, status: 1, refusals });
   assert.deepStrictEqual([stderr, status], [`${FIRST}\n`, 1]);
+}));
+
+test("--json tells why a history is refused, and --check says no more than ghcdb", () => inFolder((folder) => {
+  const program = path.join(folder, "b.ghc"), history = path.join(folder, "h");
+  fs.writeFileSync(program, "p(_).\n");
+  fs.writeFileSync(history, "ghc-history 1\nnothing\n");
+  const said = "history: F24 history line 2", hint = "the line is not of its form, or its step cannot be taken: is it of this program and query?";
+  const json = run("json", program, "p(1)", "--load", history), check = run("check", program, "p(1)", "--load", history);
+  const refusals = [{ in: "history", refused: "F24 history line 2", hints: [`${history}:2: nothing`, hint] }];
+  assert.deepStrictEqual(JSON.parse(json.stdout), { command: null, ok: false, ended: said, status: 1, refusals });
+  assert.deepStrictEqual([check.stdout, check.stderr, check.status], ["", `${said}\n`, 1]);
 }));
