@@ -21,8 +21,8 @@ _ghcdb() {
     --query) [[ -n $PREFIX$SUFFIX ]] || _ghcdb_query ;;
     *)
       if [[ $PREFIX == -* ]]; then
-        compadd -- --query --load --schedule --workers --run --expect --check --json --dap --lsp --picture --example --help \
-          --version
+        compadd -- --query --load --schedule --workers --run --expect --check --json --lesson --dap --lsp --picture --example \
+          --help --version
       else
         _files -g '*.ghc'
       fi

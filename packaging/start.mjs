@@ -3,6 +3,7 @@
 //     ghcdb FILE [--query GOALS] [OPTION ..]   a session: at a terminal with its help, else the console alone
 //     ghcdb FILE --run [--expect 'X = TERM']   the answers alone (terminal/run)
 //     ghcdb --check .. | --json ..             a session of a script (terminal/check, terminal/json)
+//     ghcdb --lesson FILE.md                   a lesson with its replies and pictures (terminal/lesson)
 //     ghcdb --dap                              the debug adapter of editors, on standard input and output
 //     ghcdb --lsp                              their language server
 //     ghcdb --picture ..                       a run as an SVG (web/picture)
@@ -37,6 +38,7 @@ function tellExample(name) {
 const AFTER = new Map(Object.entries({
   "--check": () => import("../terminal/check.mjs"),
   "--json": () => import("../terminal/json.mjs"),
+  "--lesson": () => import("../terminal/lesson.mjs"),
   "--dap": () => import("../editors/dap/main.mjs"),
   "--lsp": () => import("../editors/lsp/main.mjs"),
   "--picture": () => import("../web/draw.mjs"),

@@ -28,6 +28,7 @@ const Beginning = {
     } catch (error) {
       if (!(error instanceof Ended)) throw error;
       this.tellRefusal(error, next, this.out);
+      await this.tellOthers(error, next, this.out);
       this.note("the session before stands");
       return false;
     }

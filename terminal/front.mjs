@@ -4,7 +4,7 @@ import Causes from "../front/text/causes.mjs";
 import { Blaming } from "../front/run/blaming.mjs";
 import { Ended } from "../front/session/program.mjs";
 import { NotTold, Session } from "../front/session/session.mjs";
-import { helpLines, meaningOf, suggestionFor, usageOf } from "../front/protocol/commands.mjs";
+import { helpLines, meaningOf, suggestionFor, usageOf, whyNoCommand } from "../front/protocol/commands.mjs";
 import Beginning from "./beginning.mjs";
 import Displaying from "./displaying.mjs";
 import Judging from "./judging.mjs";
@@ -12,6 +12,7 @@ import * as Own from "../front/run/own.mjs";
 import { Patterns } from "../front/run/patterns.mjs";
 import { MARK, plain } from "./plain.mjs";
 import { whyRefused } from "../front/session/refused.mjs";
+import { everyRefusal } from "../front/session/every_refusal.mjs";
 import Reloading from "./reloading.mjs";
 import Running from "./running.mjs";
 import { Showing, withoutAll } from "./showing.mjs";
@@ -66,6 +67,7 @@ class Front {
     } catch (error) {
       if (!(error instanceof Ended)) throw error;
       this.finish(error);
+      await this.tellOthers(error, this.session, this.errors);
       return;
     }
     this.greet();
@@ -117,6 +119,12 @@ class Front {
       tell(line);
       whyRefused(line, session).lines.forEach((told) => tell(MARK + told));
     }
+  }
+
+  /** What else a program and a query are refused for. */
+  async tellOthers({ errors }, { text, given, native }, tell) {
+    const [, ...others] = await everyRefusal({ text, ...given }, native, errors.trim());
+    for (const { said, lines } of others) [said, ...lines].forEach((line) => tell(MARK + line));
   }
 
   /** Where steps are kept and not saved, they are left for the next start. */
@@ -198,7 +206,7 @@ class Front {
     const reply = await this.run(meaning);
     if (reply[0] === "F25 command") {
       this.out(reply[0]);
-      this.note(usageOf(meaning.name));
+      this.note(...whyNoCommand(meaning));
     } else {
       await this.show(reply, meaning);
       await this.noteAll(await notesAfter(this.session, meaning, reply));

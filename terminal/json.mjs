@@ -30,9 +30,8 @@ class Teller {
     this.object = undefined;
   }
 
-  ended({ errors, status }, session) {
-    const ended = errors.trimEnd(), why = refusedText(readRefusal(ended), whyRefused(ended, session));
-    return write((this.object ?? new ObjectText(null)).ended({ ...why, ended, status }));
+  ended({ errors, status }, refusals) {
+    return write((this.object ?? new ObjectText(null)).ended(errors.trimEnd(), status, refusals));
   }
 }
 

@@ -108,12 +108,12 @@ function objectOf(line, reply, textOf) {
   return { ...start, ...(REPLIES[word]?.(reply, textOf) ?? { lines: reply }), ...holesIn(reply) };
 }
 
-/** A program, a query or a history that was refused at the start: which, the refusal, its place in the text, the cause, and what helps. */
-function refusedText({ who, refusal }, { lines: [first, ...more], cause }) {
-  if (who === undefined) return {};
-  const why = cause === undefined ? { ...(first !== undefined && { cause: first, hints: more }) }
-    : { place: `${cause.line}:${cause.column}`, cause: cause.title, hints: cause.hints };
-  return { text: who, fault: refusal.split(" ", 1)[0], refused: refusal, ...why };
+/** What is refused of a program or a query: where, why, and what helps. */
+function refusal({ said, lines, cause }) {
+  const [, where, refused] = /^(\w+): (.*)$/.exec(said) ?? [], told = { in: where ?? null, refused: refused ?? said };
+  if (cause === undefined) return { ...told, hints: lines };
+  const { line, column, length, title, hints } = cause;
+  return { ...told, line, column, length, title, hints };
 }
 
 // The text of a line's object, made as the reply comes: of a change the ports are told at once, of other lines all at
@@ -153,9 +153,9 @@ class ObjectText {
     return `${JSON.stringify(objectOf(this.line, [...this.parts.flat(), ...lines], this.textOf))}\n`;
   }
 
-  /** The rest of it where the program has ended: what is told of the end. */
-  ended(end) {
-    Object.assign(this.told, end);
+  /** The rest of it where the program has ended: what it said last, its status, and all that it refuses of its texts. */
+  ended(text, status, refusals = []) {
+    Object.assign(this.told, { ended: text, status, ...(refusals.length > 0 && { refusals: refusals.map(refusal) }) });
     return this.isOpen ? this.close() : `${JSON.stringify({ command: this.line, ok: false, ...this.told })}\n`;
   }
 }

@@ -36,6 +36,7 @@ const Reloading = {
     } catch (error) {
       if (!(error instanceof Ended)) throw error;
       this.tellRefusal(error, probe, this.out);
+      await this.tellOthers(error, probe, this.out);
       this.note("the session before stands");
       return undefined;
     }

@@ -3,6 +3,7 @@
 import { Ended } from "../front/session/program.mjs";
 import { whyRefused } from "../front/session/refused.mjs";
 import { ScriptSession } from "../front/session/script_session.mjs";
+import { everyRefusal } from "../front/session/every_refusal.mjs";
 import { withQuery } from "../front/session/words_with_query.mjs";
 import { isWhole } from "../front/session/way_back.mjs";
 import { readWords, isSession } from "../front/protocol/words.mjs";
@@ -133,18 +134,25 @@ async function statusOf(session, input, teller) {
   return statusOfGoals(session);
 }
 
+/** All that a program and a query are refused for, or a history, where ghcdb has ended before the session began; else none. */
+async function refusalsOf({ errors }, session) {
+  const { kept, text, given, native } = session, said = errors.trim();
+  if (kept !== undefined) return [];
+  return text === undefined ? [{ said, ...whyRefused(said, session) }] : everyRefusal({ text, ...given }, native, said);
+}
+
 /** Tells lines that are added to what the console says. */
 const addLines = (errors, lines) => lines.forEach((line) => errors(`${MARK}${plain(line)}\n`));
 
-/** Tells what the program said at its end, and why it refused a text or a file. */
-function tellEnd({ errors: said }, session, errors) {
-  errors(said);
-  addLines(errors, said.trimEnd().split("\n").flatMap((line) => whyRefused(line, session).lines));
+/** Tells why texts are refused. What ghcdb says first stands there already. */
+function tellWhy([first, ...others], errors) {
+  addLines(errors, [...first?.lines ?? [], ...others.flatMap(({ said, lines }) => [said, ...lines])]);
 }
 
 /**
  * Begins a session for the words of a command line, and gives the exit status that comes of `plays(session)`. Where the
- * program ends by itself, `errors` takes texts that say why, and `ended(error, session)` hears of it.
+ * program ends by itself, `errors` takes texts that say why, and `ended(error, refusals)` hears of it, with all that it
+ * refuses of its texts.
  */
 async function withSession(words, { plays, errors, ended = () => {} }) {
   if (!isSession(readWords(words))) {
@@ -159,8 +167,10 @@ async function withSession(words, { plays, errors, ended = () => {} }) {
     return status;
   } catch (error) {
     if (!(error instanceof Ended)) throw error;
-    tellEnd(error, session, errors);
-    await ended(error, session);
+    const refusals = await refusalsOf(error, session);
+    errors(error.errors);
+    tellWhy(refusals, errors);
+    await ended(error, refusals);
     return error.status;
   } finally {
     await session.program?.kill(); // whatever it is at
@@ -169,11 +179,11 @@ async function withSession(words, { plays, errors, ended = () => {} }) {
 
 /**
  * Gives the lines of the input to a session. `teller` hears of each line: its `begin(line, session)`, then
- * `hear(lines)` of the reply as it comes, and `end(lines)` with its last lines; `ended(error, session)` where the
- * program has ended by itself. The exit status.
+ * `hear(lines)` of the reply as it comes, and `end(lines)` with its last lines; `ended(error, refusals)` where the
+ * program has ended by itself, with all that it refuses of its texts. The exit status.
  */
 function play(words, input, teller, errors) {
-  const ended = (error, session) => teller.ended(error, session);
+  const ended = (error, refusals) => teller.ended(error, refusals);
   return withSession(words, { plays: (session) => statusOf(session, input, teller), errors, ended });
 }
 

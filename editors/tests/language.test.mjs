@@ -69,6 +69,15 @@ test("a refusal comes with its cause while one types, and goes when the text is 
   assert.strictEqual(await client.end(), 0);
 });
 
+test("all refusals of a text are told, each at its place", LIMIT, async () => {
+  const client = await opened("% Query: p(1), r(2)\np(X) :- X == 1 | true.\n% ä\nq(X,X) :- true | p(X).\n");
+  assert.deepStrictEqual(await told(client), [
+    [range(1, 11, 12), 1, "F2", "syntax: == is not of the language"],
+    [range(3, 4, 5), 1, "F4", "not linear, clause 2: X stands twice in the head"],
+    [range(0, 15, 16), 1, "F5", "query: undefined: no clause has the head r with 1 argument"],
+  ]);
+});
+
 test("letters count as an editor counts them, after letters that are long and pairs of surrogates", LIMIT, async () => {
   const client = await opened("% größer 😀\np(X) :- true | q(X). % 😀\r\n");
   assert.deepStrictEqual(await told(client), [[range(1, 15, 16), 1, "F5", "undefined: no clause has the head q with 1 argument"]]);

@@ -71,6 +71,14 @@ const widest = Math.max(...COMMANDS.map(({ form }) => form.length));
 const helpLine = ({ form, tells }) => `${form.padEnd(widest)}  ${tells}`;
 const usageOf = (name) => `usage: ${helpLine(byName.get(name))}`;
 
+const FOREIGN = /[^\x00-\x7f]/u;
+
+/** What helps where the console takes a command's line for none. */
+function whyNoCommand({ name, line }) {
+  const [letter] = FOREIGN.exec(line) ?? [], ascii = `a line has the letters of ASCII alone, and ${letter} is none of them`;
+  return [...(letter === undefined ? [] : [ascii]), usageOf(name)];
+}
+
 // Words for what is done otherwise here.
 const ELSEWHERE = {
   load: "a history is loaded at the start: ./ghcdb FILE --query GOALS --load HISTORY", open: "a program is named at the start: ./ghcdb FILE --query GOALS",
@@ -94,6 +102,9 @@ const REPLIES = new Map(Object.entries({
   SUSP: "G V,..: goal G waits until one of these variables is bound", FAIL: "G F10: goal G has failed, as help F10 tells",
   reads: "V,..: the bound variables at which the step looked", binds: "V=TERM;..: what the step bound",
   makes: "G,..: the goals that the step made",
+  undone: "N,..: these steps were taken back, in the record's order", kept: "K: so many steps are left",
+  stopped: "quiet: no goal is ready; clash G: goal G has failed; spied G: goal G, of a spied predicate, is next; limit: K steps were made; " +
+    "full: no step has room; memory: memory was refused",
 }));
 
 /** Which word was meant, in words. */
@@ -121,4 +132,4 @@ function helpLines(words) {
   return [...COMMANDS.map(helpLine), LETTERS];
 }
 
-export { COMMANDS, NAMES, commandOf, followsOf, meaningOf, helpLines, usageOf, suggestionFor };
+export { COMMANDS, NAMES, commandOf, followsOf, meaningOf, helpLines, usageOf, whyNoCommand, suggestionFor };

@@ -1,5 +1,6 @@
 // The commands that the terminal answers itself: each gives lines, computed from what the session tells. Nothing here changes a session.
 import Stuck from "./stuck.mjs";
+import { buildingLines } from "./building.mjs";
 import { plural } from "./reasons.mjs";
 
 /** Is a clause or goal of the predicate that a word names, as `price/2` or `price`? */
@@ -15,7 +16,7 @@ function list(session, [word]) {
 async function stuck(session) {
   const goals = await session.goals(), lines = Stuck.linesOf(goals, (variable) => session.run.labelOf(variable));
   const failed = goals.filter(({ status }) => status === "failed").map(({ name, refusal }) => `${name} has failed: ${refusal}; explain ${name} and blame ${name} tell more`);
-  if (lines.length + failed.length > 0) return [...failed, ...lines];
+  if (lines.length + failed.length > 0) return [...failed, ...lines, ...buildingLines(session, goals)];
   return [goals.length === 0 ? "all is done" : "no goal waits"];
 }
 

@@ -5,6 +5,7 @@ import Printed from "../text/printed.mjs";
 import Reader from "../text/reader.mjs";
 import Refusals from "../protocol/refusals.mjs";
 import Stuck from "./stuck.mjs";
+import { buildingLines } from "./building.mjs";
 
 const MOST = 12; // lines of a kind that it tells
 const MOST_LOOKED = 200_000; // kept steps: of a longer run not all that depends on a step is looked for
@@ -47,7 +48,8 @@ async function whyNoValue(session, name) {
 
 /** Who could bind what a goal waits for. */
 async function whyWaits(session, name) {
-  return Stuck.linesOfGoal(await session.goals(), name, labelOf(session));
+  const goals = await session.goals();
+  return [...Stuck.linesOfGoal(goals, name, labelOf(session)), ...buildingLines(session, goals, name)];
 }
 
 /** What else goes where a step goes. */

@@ -96,6 +96,9 @@ const Stuck = (() => {
     return waiting.flatMap((goal) => waits.of(goal));
   }
 
+  /** The waits that nobody can end, of the first goals that wait. */
+  const helplessOf = (goals) => waitsOf(goals, waitingIn(goals).slice(0, TOLD)).filter(({ binders }) => binders.count === 0);
+
   const statusOf = (other) => `${other.name}, which ${other.status === "failed" ? "has failed" : "waits for it too"}`;
   const namesOf = ({ first, count }, nameOf) => [...first.slice(0, NAMED).map(nameOf), ...(count > NAMED ? [`.. (${count} goals)`] : [])].join(", ");
 
@@ -219,7 +222,7 @@ const Stuck = (() => {
     return waitsAmong(goals).circle;
   }
 
-  return { study, holdersOf, linesOf, linesOfGoal, lineOfOne, edgesOf, circleOf };
+  return { study, holdersOf, helplessOf, linesOf, linesOfGoal, lineOfOne, edgesOf, circleOf };
 })();
 
 export default Stuck;

@@ -307,4 +307,4 @@ function open(words, native = nativeProgram(), files = new Map()) {
   return native === undefined ? new EngineSession(words, files) : new NativeSession(native, words, files);
 }
 
-export { open, nativeProgram, Ended, HANDED };
+export { open, nativeProgram, ofPage, Ended, HANDED };

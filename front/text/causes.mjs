@@ -61,17 +61,42 @@ const Causes = (() => {
   const lettersOf = (name) => name.replace(/\d+$/, "");
   const mayBeMeant = (name, other) => name.length > 2 && other.length > 2 && lettersOf(name) !== lettersOf(other);
 
+  /** The assignments of a clause that wait for what they are to bind: the place of the variable, and the right side. */
+  function ownSums(clause) {
+    return clause.flatMap(({ text }, place) => {
+      if (text !== ":=") return [];
+      const right = clause.slice(place + 1), end = right.findIndex((token) => token.text === "," || token.text === ".");
+      const isOwn = right.slice(0, end).some((token) => token.kind === "variable" && token.text === clause[place - 1].text);
+      return isOwn ? [{ place: place - 1, right: right.slice(0, end) }] : [];
+    });
+  }
+
+  /** The lone variables that are meant in assignments of a like name, as F1 in F := N * F. */
+  function meantInSums(clause, lone) {
+    return ownSums(clause).flatMap(({ place }) => lone.filter(({ text }) => lettersOf(text) === lettersOf(clause[place].text)).slice(0, 1));
+  }
+
+  /** What is written instead of an assignment that waits for what it is to bind. */
+  function cureOfSum(clause, { place, right }) {
+    const { text } = clause[place], lone = clause.filter((token) => clause.filter((other) => other.text === token.text).length === 1);
+    const [meant] = lone.filter((token) => token.kind === "variable" && lettersOf(token.text) === lettersOf(text));
+    const told = (name, tokens) => `${name} := ${Cures.textOf(tokens) ?? ".."}`;
+    if (meant === undefined) return `a variable gets one value; name a new one: ${told(Cures.newName(text, clause), right)}`;
+    return `a variable gets one value; is ${meant.text} meant? ${told(text, right.map((token) => (token.text === text ? meant : token)))}`;
+  }
+
   /** Notes on the variables of a clause that stand once in it. */
   function loneVariables(clause, number, which) {
     const places = new Map();
     for (const token of clause) {
       if (token.kind === "variable" && !token.text.startsWith("_")) places.set(token.text, places.has(token.text) ? undefined : token);
     }
-    const lone = [...places.values()].filter((token) => token !== undefined);
+    const lone = [...places.values()].filter((token) => token !== undefined), isMeant = new Set(meantInSums(clause, lone));
     const names = [...lone.map(({ text }) => text), ...places.keys()]; // two that stand once may be meant to be one
     return lone.map((token) => {
       const near = Nearest.nearest(token.text, names.filter((name) => mayBeMeant(token.text, name)));
-      const hint = near === undefined ? `${UNUSED}; write _ where that is meant` : `is it ${near}? ${UNUSED}`;
+      const other = isMeant.has(token) ? UNUSED : `${UNUSED}; write _ where that is meant`;
+      const hint = near === undefined ? other : `is it ${near}? ${UNUSED}`;
       return caused(which, { token, title: `note: ${token.text} stands once in clause ${number}`, hints: [hint] });
     });
   }
@@ -83,13 +108,13 @@ const Causes = (() => {
     const notes = [];
     clause.forEach((token, place) => {
       if (token.text !== ":=") return;
-      const left = clause[place - 1], right = clause.slice(place + 1), end = right.findIndex(({ text }) => text === "," || text === ".");
-      const lone = `note: nobody gets what _ := computes in clause ${number}`;
-      if (left.text === "_") notes.push(caused(which, { token: left, title: lone, hints: [NOBODYS] }));
-      if (!right.slice(0, end).some(({ kind, text }) => kind === "variable" && text === left.text)) return;
-      const cure = `a variable gets one value; name a new one: ${Cures.newName(left.text, clause)} := ${left.text} + ..`;
-      notes.push(caused(which, { token: left, title: `note: ${left.text} stands on both sides of := in clause ${number}`, hints: [cure] }));
+      const left = clause[place - 1], title = `note: nobody gets what _ := computes in clause ${number}`;
+      if (left.text === "_") notes.push(caused(which, { token: left, title, hints: [NOBODYS] }));
     });
+    for (const sum of ownSums(clause)) {
+      const token = clause[sum.place], title = `note: ${token.text} stands on both sides of := in clause ${number}`;
+      notes.push(caused(which, { token, title, hints: [cureOfSum(clause, sum)] }));
+    }
     return notes;
   }
 
@@ -111,11 +136,13 @@ const Causes = (() => {
   /** Notes on results that stand in a head, which binds nothing, where another clause of the predicate binds that argument in its body. */
   function resultsInHeads(program, which) {
     const clauses = Reader.readProgram(program), binders = CheckerCauses.bindersOf(clauses), notes = [];
+    const all = Tokens.clausesOf(Tokens.tokensOf(program)), cureOf = (number, place) => CheckerCauses.bindInBody(all[number - 1], place);
     for (const { head, predicate, number, line, letter, name } of clauses) {
       head.arguments.forEach((argument, place) => {
         const binder = argument.variable === undefined ? binders.get(`${predicate} ${place}`) : undefined;
         if (binder === undefined) return;
-        const cure = `a head binds nothing; clause ${binder} binds that argument in its body, by =`, token = { line, column: letter, text: name };
+        const cure = `a head binds nothing; clause ${binder} binds that argument in its body: ${cureOf(number, place)}`;
+        const token = { line, column: letter, text: name };
         notes.push(caused(which, { token, title: `note: clause ${number} waits until argument ${place + 1} is bound`, hints: [cure] }));
       });
     }

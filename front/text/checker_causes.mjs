@@ -5,6 +5,7 @@ import Reader from "./reader.mjs";
 import Habits from "./habits.mjs";
 import Nearest from "./nearest.mjs";
 import Cures from "./cures.mjs";
+import OwnWords from "./own_words.mjs";
 
 const CheckerCauses = (() => {
   const TESTS = ["true", "wait", "integer", "atom", "list"];
@@ -18,7 +19,10 @@ const CheckerCauses = (() => {
     return { start, end: bar < 0 ? clause.length : bar };
   }
 
-  const NO_BINDING = ["a guard binds nothing: = and := stand in the body", "to test for a value write it in the head, as p(1,Y) :- .., or compare numbers by =:="];
+  const NO_BINDING = "a guard binds nothing: = and := stand in the body";
+  const VALUE = "to test for a value write it in the head, as {VALUE} :- ..";
+  const NUMBER = `${VALUE}, or compare numbers by =:=, as {X} =:= {Y}`;
+  const ALIKE = "to compare numbers write {X} =:= {Y}; other terms have no test of equality: write a clause for each value, as {VALUE} :- ..";
   const NOT_THERE_YET = "a guard tests what the goal brings; what the body makes is not there yet";
 
   /** How a predicate that stands in a clause's guard as a test is asked instead. */
@@ -31,12 +35,54 @@ const CheckerCauses = (() => {
     return `${start}: ${head} :- true | ${asked}, ${clause[0].text}1(${answer}).`;
   }
 
+  /** The cause of an equation in a guard: to compare with a value, or two variables with each other. */
+  function bindingInGuard(clause, place) {
+    const [, right = ""] = OwnWords.sidesOf(clause, { from: place, to: place + 1 });
+    const hint = /^[A-Z_]/.test(right) ? ALIKE : /^-?\d/.test(right) ? NUMBER : VALUE;
+    return causeAt(clause[place], NO_BINDING, OwnWords.fill(hint, clause, place));
+  }
+
+  const headOf = (clause) => clause.slice(0, Tokens.endOfCall(clause, 0) + 1);
+
+  /** The arguments of two clauses' heads side by side, each as its tokens. */
+  function besideEachOther(clause, other) {
+    const [own, others] = [clause, other].map((tokens) => Cures.argumentsOf(headOf(tokens)));
+    return own.map((argument, place) => ({ argument, beside: others[place] }));
+  }
+
+  const isLone = (argument, kind) => argument.length === 1 && argument[0].kind === kind && argument[0].text !== "_";
+
+  /** A test of a clause that says yes where another clause with a number in its head, or one comparison, says no. */
+  function oppositeTo(clause, other) {
+    const pairs = besideEachOther(clause, other), { start, end } = guardOf(other), guard = other.slice(start, end);
+    const numbers = pairs.filter(({ argument, beside }) => isLone(argument, "variable") && isLone(beside, "integer"));
+    const areOnly = pairs.every(({ beside }) => beside.length === 1 && (beside[0].kind === "variable" || beside[0].kind === "integer"));
+    if (!areOnly || numbers.length > 1) return undefined;
+    if (numbers.length === 1) return guard.length === 1 ? `${numbers[0].argument[0].text} =\\= ${numbers[0].beside[0].text}` : undefined;
+    const named = pairs.filter(({ argument, beside }) => isLone(argument, "variable") && isLone(beside, "variable"));
+    const names = new Map(named.map(({ argument, beside }) => [beside[0].text, argument[0]]));
+    if (guard.some(({ kind, text }) => kind === "variable" && !names.has(text))) return undefined;
+    return Cures.oppositeOf(guard.map((token) => names.get(token.text) ?? token));
+  }
+
+  /** What says yes where no other clause of the predicate does: in words, where it can be told of all of them. */
+  function oppositeOf(clauses, clause) {
+    const predicateOf = (tokens) => `${tokens[0].text}/${Tokens.arityAt(tokens, 0)}`;
+    const others = clauses.filter((other) => other !== clause && predicateOf(other) === predicateOf(clause));
+    const tests = others.map((other) => oppositeTo(clause, other));
+    return tests.length > 0 && !tests.includes(undefined) ? `: ${[...new Set(tests)].join(", ")}` : undefined;
+  }
+
   /** What is wrong with the test that begins at a place of a clause, outside of all brackets; undefined where nothing is. */
-  function badTest(clause, place) {
+  function badTest(clauses, clause, place) {
     const token = clause[place], { text } = token, arity = Tokens.arityAt(clause, place);
-    if (text === "=" || text === ":=") return causeAt(token, ...NO_BINDING);
+    if (text === "=") return bindingInGuard(clause, place);
+    if (text === ":=") return causeAt(token, NO_BINDING, "compute in the body; to compare numbers write =:=");
     if (token.kind !== "name" || text === "mod") return undefined;
-    if (Object.hasOwn(Habits.TESTS, text)) return causeAt(token, ...Habits.TESTS[text]);
+    if (Object.hasOwn(Habits.TESTS, text)) {
+      const more = { OPPOSITE: oppositeOf(clauses, clause) };
+      return causeAt(token, ...Habits.TESTS[text].map((told) => OwnWords.fill(told, clause, place, more)));
+    }
     const near = TESTS.includes(text) ? text : Nearest.nearest(text, TESTS);
     if (near === undefined) return causeAt(token, `${text}/${arity} is no test`, ALL_TESTS, askInstead(clause, place));
     if (near !== text) return causeAt(token, `${text}/${arity} is no test`, `is it ${near}?`, ALL_TESTS);
@@ -52,11 +98,11 @@ const CheckerCauses = (() => {
 
   /** F3: the first test of a clause that is none, or the first variable of its guard that the head does not have. */
   function notFlat(tokens, number) {
-    const clause = Tokens.clausesOf(tokens)[number - 1], { start, end } = guardOf(clause);
+    const clauses = Tokens.clausesOf(tokens), clause = clauses[number - 1], { start, end } = guardOf(clause);
     const head = new Set(clause.slice(0, start).filter(({ kind, text }) => kind === "variable" && text !== "_").map(({ text }) => text));
     let found, depth = 0;
     for (let place = start; place < end && found === undefined; place += 1) {
-      found = (depth === 0 ? badTest(clause, place) : undefined) ?? badVariable(clause[place], head);
+      found = (depth === 0 ? badTest(clauses, clause, place) : undefined) ?? badVariable(clause[place], head);
       depth += Tokens.depthOf([clause[place]]);
     }
     found ??= causeAt(clause[start] ?? clause[0], "this guard is no test", ALL_TESTS);
@@ -102,32 +148,48 @@ const CheckerCauses = (() => {
 
   const NO_EQUALITY = "other terms have no test of equality: write a clause for each value";
 
+  /** How a body makes what a head cannot: an argument of the head, at its place. */
+  function bindInBody(tokens, place) {
+    const built = Cures.newName("A", tokens), text = Cures.textOf(Cures.argumentsOf(headOf(tokens))[place]) ?? "..";
+    return `write ${built} for argument ${place + 1}, and ${built} = ${text} in the body`;
+  }
+
+  /** Where a head would have to build an argument: that its body does, and the other clauses with such a head. */
+  function buildInBody(clauses, number, tokens, place) {
+    const { predicate } = clauses[number - 1], isOther = (other) => other.predicate === predicate && other.number !== number;
+    const others = clauses.filter((other) => isOther(other) && other.head.arguments[place].variable === undefined);
+    const also = others.length === 0 ? "" : `; so also in clause ${others.map((other) => other.number).join(", ")}`;
+    return `a head builds nothing: ${bindInBody(tokens, place)}${also}`;
+  }
+
   /**
    * The cures of a variable that stands twice in a clause's head, by what it is.
-   * @param {object[]} clause its tokens
+   * @param {object[]} clauses
+   * @param {number} number
+   * @param {object[]} tokens of the clause
    * @param {string} name
-   * @param {{ role?: string, place?: number }} what
+   * @param {{ role?: string, place?: number, within?: number }} what
    */
-  function curesOf(clause, name, { role, place }) {
-    const other = Cures.newName(name, clause), head = clause.slice(0, Tokens.endOfCall(clause, 0) + 1);
+  function curesOf(clauses, number, tokens, name, { role, place, within }) {
+    const other = Cures.newName(name, tokens), head = headOf(tokens);
     const value = Cures.textOf(head.map((token) => (token.text === name ? { text: "a" } : token)));
     const bind = `name the second one ${other}, and write ${other} = ${name} in the body`;
     const compare = `name the second one ${other}, and write ${name} =:= ${other} in the guard`;
     const values = `${NO_EQUALITY}${value === undefined ? "" : `, as ${value} :- ..`}`;
+    if (role === "part") return [buildInBody(clauses, number, tokens, place)];
     if (role === "result") return [`a head binds nothing: ${bind}`];
     if (role === "test") return [`to compare numbers ${compare}`, values];
-    if (role === undefined) return [`is it a result? ${bind}`, `is it a test of numbers? ${compare}`, values];
-    const built = Cures.newName("A", clause), text = Cures.textOf(Cures.argumentsOf(clause)[place]) ?? "..";
-    return [`a head builds nothing: write ${built} for argument ${place + 1}, and ${built} = ${text} in the body`];
+    const result = within === undefined ? bind : buildInBody(clauses, number, tokens, within);
+    return [`is it a result? ${result}`, `is it a test of numbers? ${compare}`, values];
   }
 
   /** F4: the second place of the variable in the head. */
   function notLinear(tokens, name, number, program) {
     const clause = Tokens.clausesOf(tokens)[number - 1], token = clause.filter(({ text }) => text === name)[1];
-    const clauses = Reader.readProgram(program);
-    const has = (argument) => argument.some(({ text }) => text === name);
-    const places = Cures.argumentsOf(clause).flatMap((argument, place) => (has(argument) ? [place] : []));
-    const cures = curesOf(clause, name, roleOf(clauses, clauses[number - 1], name, places));
+    const clauses = Reader.readProgram(program), given = Cures.argumentsOf(headOf(clause));
+    const places = given.flatMap((argument, place) => (argument.some(({ text }) => text === name) ? [place] : []));
+    const second = places.find((place) => given[place].includes(token)), within = given[second].length > 1 ? second : undefined;
+    const what = { ...roleOf(clauses, clauses[number - 1], name, places), within }, cures = curesOf(clauses, number, clause, name, what);
     return causeAt(token, `not linear, clause ${number}: ${name} stands twice in the head`, ...cures);
   }
 
@@ -158,7 +220,7 @@ const CheckerCauses = (() => {
       callIn(tokens, name, arity, isQuery), `undefined: no clause has the head ${name} with ${arity} argument${arity === 1 ? "" : "s"}`, ...hints);
   }
 
-  return { notFlat, notLinear, undefinedCall, bindersOf };
+  return { notFlat, notLinear, undefinedCall, bindersOf, bindInBody };
 })();
 
 export default CheckerCauses;

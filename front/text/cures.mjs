@@ -3,7 +3,9 @@ import Tokens from "./tokens.mjs";
 
 const Cures = (() => {
   const LONGEST = 70; // letters of a goal or a head that a cure repeats
-  const OPERATORS = ["+", "-", "*", "/", "mod"], SPACED = [...OPERATORS, "=", ":="];
+  const OPERATORS = ["+", "-", "*", "/", "mod"];
+  const OPPOSITES = { "<": ">=", ">": "=<", "=<": ">", ">=": "<", "=:=": "=\\=", "=\\=": "=:=" }; // of comparisons
+  const SPACED = [...OPERATORS, ...Object.keys(OPPOSITES), "=", ":="];
 
   /** Tokens of a term or a goal as a text; undefined where it is too long for a cure. */
   function textOf(tokens) {
@@ -31,11 +33,11 @@ const Cures = (() => {
     });
   }
 
-  /** The tokens around a place, up to marks at a level of brackets or a bracket outside: from where to where. */
-  function rangeAt(tokens, place, level, marks) {
+  /** The tokens around some, up to marks at a level of brackets or a bracket outside: from where to where. */
+  function rangeAt(tokens, around, level, marks) {
     const levels = levelsOf(tokens);
     const isWithin = (at) => levels[at] > level || (levels[at] === level && !marks.includes(tokens[at].text));
-    let from = place, to = place + 1;
+    let { from, to } = around;
     while (from > 0 && isWithin(from - 1)) from -= 1;
     while (to < tokens.length && isWithin(to)) to += 1;
     return { from, to };
@@ -46,8 +48,9 @@ const Cures = (() => {
 
   /** An assignment of the expression at a place, and the goal in which that stands; undefined where it is none. */
   function assigned(clause, place) {
-    const inner = rangeAt(clause, place, Tokens.depthOf(clause.slice(0, place)), [",", "|"]);
-    const goal = rangeAt(clause, place, 0, [",", "|", ":-"]), expression = clause.slice(inner.from, inner.to);
+    const at = { from: place, to: place + 1 }, level = Tokens.depthOf(clause.slice(0, place));
+    const inner = rangeAt(clause, at, level, [",", "|"]);
+    const goal = rangeAt(clause, at, 0, [",", "|", ":-"]), expression = clause.slice(inner.from, inner.to);
     if (Tokens.depthOf(clause) !== 0 || !expression.every(isOfExpression)) return undefined;
     const name = newName(expression.find(({ kind }) => kind === "variable")?.text ?? "N", clause);
     const changed = [...clause.slice(goal.from, inner.from), { text: name }, ...clause.slice(inner.to, goal.to)];
@@ -57,14 +60,15 @@ const Cures = (() => {
 
   /** How an argument of a clause's goal is computed first; the place is one of the argument. */
   function computeFirst(clause, place) {
-    return `compute it first: ${assigned(clause, place) ?? "N1 := N - 1, and hand on N1"}`;
+    const goals = assigned(clause, place);
+    return goals === undefined ? "compute it first, by :=, and hand on the variable" : `compute it first: ${goals}`;
   }
 
   /** The arguments of the call that begins a clause, each as its tokens. */
   function argumentsOf(clause) {
     const found = [];
     for (let place = 2; Tokens.depthOf(clause.slice(0, place)) > 0;) {
-      const { from, to } = rangeAt(clause, place, 1, [","]);
+      const { from, to } = rangeAt(clause, { from: place, to: place + 1 }, 1, [","]);
       found.push(clause.slice(from, to));
       place = to + 1;
     }
@@ -78,7 +82,13 @@ const Cures = (() => {
     return arity === 0 ? program[0].text : `${program[0].text}(${names.join(",")})`;
   }
 
-  return { textOf, newName, computeFirst, argumentsOf, exampleOf };
+  /** A comparison that says yes where another one says no; undefined of other tokens. */
+  function oppositeOf(test) {
+    const text = textOf(test.map((token) => ({ text: OPPOSITES[token.text] ?? token.text })));
+    return test.filter((token) => token.text in OPPOSITES).length === 1 ? text : undefined;
+  }
+
+  return { textOf, newName, computeFirst, argumentsOf, exampleOf, rangeAt, oppositeOf };
 })();
 
 export default Cures;

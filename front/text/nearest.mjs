@@ -16,15 +16,20 @@ const Nearest = (() => {
     return last[other.length];
   }
 
-  const LEAST = 3; // letters: a shorter word is near to nothing
+  const LEAST = 3, SOME = 4, LONG = 8; // letters: of a word that is near to another, near by one mistake, near by two
 
-  /** The nearest word, where at most a quarter of the letters of the longer one differ; else undefined. */
+  /** How many mistakes may lie between two words: one, in long words two, in the shortest none. */
+  function mostMistakes(one, other) {
+    const length = Math.min(one.length, other.length) < LEAST ? 0 : Math.max(one.length, other.length);
+    return length >= LONG ? 2 : length >= SOME ? 1 : 0;
+  }
+
+  /** The nearest word, where so few mistakes lie between that it may be meant; else undefined. */
   function nearest(word, words) {
     let best, least = Infinity;
     for (const other of words) {
-      if (Math.min(word.length, other.length) < LEAST) continue;
       const far = distance(word.toLowerCase(), other.toLowerCase());
-      if (far < least && far <= Math.max(word.length, other.length) / 4) [best, least] = [other, far];
+      if (far < least && far <= mostMistakes(word, other)) [best, least] = [other, far];
     }
     return best;
   }

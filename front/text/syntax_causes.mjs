@@ -3,10 +3,12 @@
 import Tokens from "./tokens.mjs";
 import Habits from "./habits.mjs";
 import Cures from "./cures.mjs";
+import OwnGoals from "./own_goals.mjs";
+import OwnWords from "./own_words.mjs";
 
 const SyntaxCauses = (() => {
   const COMPARISONS = new Set(["<", ">", "=<", ">=", "=:=", "=\\="]), OPERATIONS = new Set(["+", "-", "*", "/", "mod"]);
-  const IF_THEN_ELSE = ["there is no if-then-else", "write two clauses, each with its guard: p(X,Y) :- X > 0 | ..   p(X,Y) :- X =< 0 | .."];
+  const NO_IF = "there is no if-then-else", NO_SUM = "= does not compute";
   const CLAUSE = "a clause is: head :- guard | body.";
   const goalsAs = (example) => `a query is goals with commas between them, as ${example}`;
   const ARGUMENT = "an argument is a term, and is not computed", PAIR = "a pair is a structure, as pair(A,B), or two arguments";
@@ -44,11 +46,12 @@ const SyntaxCauses = (() => {
   const hasArrow = (tokens) => tokens.some((token, place) => token.text === "-" && tokens[place + 1]?.text === ">" && touches(token, tokens[place + 1]));
 
   /** A semicolon, which is "or" in a body, the end of a clause elsewhere, or what stands before an else. */
-  function semicolon({ token, next, here, isQuery }) {
+  function semicolon(where) {
+    const { token, next, here, isQuery } = where;
     if (token.text !== ";") return undefined;
     const isAfterNeck = here.some(({ text }) => text === ":-"), ends = next.kind === "end" || next.line > token.line;
     if (isQuery) return cause("there is no \"or\"", "a query is one row of goals: separate them by commas");
-    if (hasArrow(here)) return cause(...(isAfterNeck ? IF_THEN_ELSE : ["-> is written :-, and a clause ends with a full stop", CLAUSE]));
+    if (hasArrow(here)) return isAfterNeck ? cause(NO_IF, OwnGoals.twoClauses(where)) : cause("-> is written :-, and a clause ends with a full stop", CLAUSE);
     return ends && isAfterNeck ? cause("there is no \"or\"", "write two clauses", "a clause ends with a full stop") : undefined;
   }
 
@@ -91,7 +94,7 @@ const SyntaxCauses = (() => {
     if (mark === undefined || depth > 0 || isQuery) return undefined;
     const hasNeck = here.some(({ text }) => text === ":-"), isHead = here.length > 0 && !hasNeck;
     if (isHead) return mark === "--" ? cause("there are no grammars with -->", CLAUSE) : cause(`${mark} is written :-`, CLAUSE);
-    return mark === "<-" ? cause("there is no <-", "to bind a variable write =, as X = f(Y), to compute :=, as X := Y + 1") : undefined;
+    return mark === "<-" ? cause("there is no <-", "to bind a variable write =, as {X} = {Y}; to compute :=, as {X} := {Y}") : undefined;
   }
 
   const MARKS = new Set([":-", ":=", "=<", ">="]);
@@ -115,7 +118,8 @@ const SyntaxCauses = (() => {
     if (!isExpression || !endsTerm(before) || before.line === token.line) return undefined;
     const rest = text.slice(before.end).split("\n")[0];
     if (!/^[ \t]*%/.test(rest)) return undefined;
-    return { ...cause("% begins a comment, and is no operator", "the remainder is mod, as X mod 2"), after: before };
+    const [, right = "2"] = /^[ \t]*%[ \t]*(\w+)/.exec(rest) ?? [];
+    return { ...cause("% begins a comment, and is no operator", `the remainder is mod, as ${before.kind === "variable" ? before.text : "X"} mod ${right}`), after: before };
   }
 
   const OPERATORS = ["+", "-", "*", "/", "mod", "=", ":="];
@@ -146,9 +150,10 @@ const SyntaxCauses = (() => {
     return cause(`no clause begins with ${quoted(token)}`, token.kind === "integer" ? "names of predicates begin with a small letter" : CLAUSE);
   }
 
-  function foreignWord({ token, before, next }) {
-    if (token.text === "mod" && next.text === "(") return cause("mod is an operator", "X mod 2, and not mod(X,2)");
-    if (token.text === "is" && before?.kind === "variable") return cause("`is` is written :=", `${before.text} := ..`, ...(next.text === "[" ? [`a term is given by =, as ${before.text} = [A|X]`] : []));
+  function foreignWord({ token, before, next, later }) {
+    const [X, Y] = token.text === "mod" ? Cures.argumentsOf(later).map(Cures.textOf) : [];
+    if (token.text === "mod" && next.text === "(") return cause("mod is an operator", `${X ?? "X"} mod ${Y ?? "2"}, and not mod(${X ?? "X"},${Y ?? "2"})`);
+    if (token.text === "is" && before?.kind === "variable") return cause("`is` is written :=", endsTerm(next) || next.text === "(" ? "{X} := {Y}" : `${before.text} := ..`, ...(next.text === "[" ? [`a term is given by =, as ${before.text} = [A|X]`] : []));
     if (token.kind === "name" && Object.hasOwn(Habits.WORDS, token.text) && endsTerm(before)) return cause(...Habits.WORDS[token.text]);
     if (before?.kind === "name" && Object.hasOwn(Habits.WORDS, before.text) && before.text !== "is") return cause(...Habits.WORDS[before.text]);
     return undefined;
@@ -170,7 +175,7 @@ const SyntaxCauses = (() => {
   /** An expression in the place of a term: in a head, or in an argument of a body. */
   function expressionWithin({ token, before, next, here, later, isHead }) {
     const isNumber = [token, before, next].some(({ kind }) => kind === "integer") && before.kind !== "name";
-    if (isHead) return cause("a head has terms, and computes nothing", ...(isNumber ? ["take a variable there, and compute in the body: N1 := N - 1"] : [PAIR]));
+    if (isHead) return cause("a head has terms, and computes nothing", ...(isNumber ? [OwnGoals.computedInBody({ here, later })] : [PAIR]));
     if (before.kind === "name" || next.kind === "name" || next.text === "[") return cause(ARGUMENT, PAIR);
     const mayBePair = !isNumber && endsTerm(before) && ["-", "/"].includes(token.text);
     return cause(ARGUMENT, Cures.computeFirst([...here, ...later], here.length), ...(mayBePair ? [PAIR] : []));
@@ -184,16 +189,17 @@ const SyntaxCauses = (() => {
     return hasComparison(goal) && (COMPARISONS.has(goal.at(-1).text) || BEFORE_OPERAND.has(goal.at(-1).text));
   }
 
-  function arithmetic({ token, before, next, depth, here, later, isQuery }) {
+  function arithmetic(where) {
+    const { token, before, next, depth, here, later, isQuery } = where;
     const isOperator = OPERATIONS.has(token.text);
     if (token.text === "-" && before?.text !== "(" && BEFORE_OPERAND.has(before?.text)) return cause(
-      "there is no minus before a variable or a bracket", "write 0 - X");
+      "there is no minus before a variable or a bracket", next.kind === "variable" ? `write 0 - ${next.text}` : "write 0 - (..)");
     const isSigned = token.text.startsWith("-") && token.kind === "integer", isHead = !isQuery && !here.some(({ text }) => text === ":-");
     if (depth > 0 && (isOperator || isSigned)) return expressionWithin({ token, before, next, here, later, isHead });
-    if (isOperator && [...here, ...later].some(({ text }) => text === "=")) return cause("= does not compute", "to compute write :=, as Y := X + 1");
-    if (token.text === ":=") return cause("only a variable stands before :=", "turn it round, as X := 3, or compare numbers by =:= in the guard");
+    if (isOperator && [...here, ...later].some(({ text }) => text === "=")) return cause(NO_SUM, OwnGoals.computed(where));
+    if (token.text === ":=") return cause("only a variable stands before :=", OwnGoals.turnedRound(where));
     if (token.kind === "name" && isCompared(here)) return cause(
-      `${quoted(token)} is no number, and only numbers are compared`, "the head tests for a term, as p(a) :- ..; for \"not equal\" write a clause for each case");
+      `${quoted(token)} is no number, and only numbers are compared`, OwnGoals.comparedTerm(where));
     if (token.kind === "name" && next.text === "(" && BEFORE_OPERAND.has(before?.text) && here.at(-1)?.text !== "|" && here.some(({ text }) => text === ":=" || COMPARISONS.has(text))) return cause(
       `${token.text} is no operator, and nothing computes it`, `let a process give the value: ${token.text}(..,V), and then X := V`, "to name a term write =");
     if (token.kind === "name" && BEFORE_OPERAND.has(before?.text) && here.some(({ text }) => text === ":=" || COMPARISONS.has(text))) return cause(
@@ -220,26 +226,27 @@ const SyntaxCauses = (() => {
     return start < 0 || !isExpression || hasComparison(goal) || Tokens.depthOf(here) > 0;
   }
 
-  function bars({ token, before, here }) {
+  function bars({ token, before, here, later }) {
     const hasBar = Tokens.barOutside(here) >= 0;
     if (token.text === "|" && before?.text === ":-") return cause("the guard is empty", "write true |, or leave out the bar too");
     const list = inList(here), hasTail = list?.some(({ text }) => text === "|");
     if (hasTail && ["|", ","].includes(token.text) && endsTerm(before)) return cause("one tail stands after the bar of a list", "[A,B|C], and not [A|B|C]");
     if (list !== undefined && token.text === "]" && before.text === "|") return cause("no tail stands after the bar of the list", "write it, as [A|X], or drop the bar");
     if (token.text === "|" && before?.text === "[") return cause("a term is expected after '['", "write it, or drop the mark");
-    if (token.text === "|" && !isTest(here)) return cause("an expression is no test", "compare it, as X mod 2 =:= 0");
-    if (token.text === "|" && before?.kind === "variable") return cause(`${quoted(before)} is no test`, "to wait until it is bound write wait(X)");
+    if (token.text === "|" && !isTest(here)) return cause("an expression is no test", OwnGoals.comparedGoal({ here, later }));
+    if (token.text === "|" && before?.kind === "variable") return cause(`${quoted(before)} is no test`, `to wait until it is bound write wait(${before.text})`);
     if (token.text === "|" && hasBar) return cause(
       "a second bar in one clause", "a clause is head :- guard | body. with one bar: all tests stand before it");
     return undefined;
   }
 
   /** An expression and `=` before the bar: a comparison is meant. */
-  function equationInGuard({ token, here, later, depth }) {
+  function equationInGuard(where) {
+    const { token, here, later, depth } = where;
     if (depth > 0 || Tokens.barOutside(here) >= 0 || Tokens.barOutside(later) < 0) return undefined;
     const goal = here.slice(here.findLastIndex(({ text }) => [",", ":-"].includes(text)) + 1);
     if (token.text === "=" ? isTest(here) : !OPERATIONS.has(token.text) || !goal.some(({ text }) => text === "=")) return undefined;
-    return cause("= does not compare", "to compare numbers write =:=, as X mod 2 =:= 0");
+    return cause("= does not compare", OwnGoals.comparedSides(where));
   }
 
   function comparisonAfterBar({ token, here, later }) {
@@ -248,9 +255,9 @@ const SyntaxCauses = (() => {
     return cause("a comparison stands after the first bar", "a clause has one bar: all tests stand before it, with commas, as true, X > 0 |");
   }
 
-  function comparison({ token, before, here, isQuery, tokens, place }) {
+  function comparison({ token, before, here, later, isQuery, tokens, place }) {
     const chained = COMPARISONS.has(token.text) && hasComparison([tokens[place - 2] ?? {}]);
-    if (chained) return cause("a comparison has two sides", `write two: X < Y, Y < Z`);
+    if (chained) return cause("a comparison has two sides", OwnGoals.twoComparisons({ here, later }));
     const isCompared = COMPARISONS.has(token.text) || ([".", ","].includes(token.text) && hasComparison(here)) || (token.kind === "end" && hasComparison(here));
     if (!isCompared || before === undefined) return undefined;
     const open = Tokens.openBrackets(here).at(-1), isGrouped = open?.text === "(" && here[here.indexOf(open) - 1]?.kind !== "name";
@@ -258,8 +265,9 @@ const SyntaxCauses = (() => {
     if (isQuery) return cause(
       "a comparison stands in the query", "comparisons are tests of clauses; to compute write Y := X + 1, and look at it by `show`");
     const at = COMPARISONS.has(token.text) ? undefined : here.find(({ text }) => COMPARISONS.has(text));
+    const ownAt = at === undefined ? here.length : here.indexOf(at);
     return { at, ...cause(
-      "a comparison stands in the body", "tests stand before the bar: head :- X > Y | body.", "a clause without a bar has the guard true, and all of it is body") };
+      "a comparison stands in the body", OwnGoals.beforeBar({ here, later }, ownAt), "a clause without a bar has the guard true, and all of it is body") };
   }
 
   function brackets({ token, before, here, depth }) {
@@ -351,11 +359,12 @@ const SyntaxCauses = (() => {
     return end < 0 ? tokens : tokens.slice(0, end);
   }
 
-  function afterMark({ token, before, isQuery, later, example }) {
+  function afterMark(where) {
+    const { token, before, isQuery, later, example } = where;
     if (before?.text === ",") return cause(
       `a goal or a term is expected after the comma, and ${quoted(token)} is none`, "drop the comma, or write what is missing");
-    if (token.text === "(" && hasArrow(later)) return cause(...IF_THEN_ELSE);
-    if (token.text === "(" && before?.text === "=" && goalOf(later).some(({ text }) => OPERATIONS.has(text))) return cause("= does not compute", "to compute write :=, as Y := X + 1");
+    if (token.text === "(" && hasArrow(later)) return cause(NO_IF, OwnGoals.twoClauses(where));
+    if (token.text === "(" && before?.text === "=" && goalOf(later).some(({ text }) => OPERATIONS.has(text))) return cause(NO_SUM, OwnGoals.computed(where));
     if (token.text === "(" && [":-", "|"].includes(before?.text)) return cause("brackets group expressions alone", "write the goals without them, with commas between them");
     if (token.text === "(" && before?.text === "=") return cause("brackets group expressions alone", "a pair is a structure, as pair(1,2)");
     if (["=", ":="].includes(before?.text)) return cause(
@@ -381,7 +390,8 @@ const SyntaxCauses = (() => {
     for (const rule of RULES) {
       const found = rule(where);
       if (found === undefined) continue;
-      const { after, at: meant, ...told } = found;
+      const { after, at: meant, title, hints } = found, clause = [...where.here, ...where.later];
+      const told = { title, hints: hints.map((hint) => OwnWords.fill(hint, clause, where.here.length)) };
       if (after === undefined) return { ...told, token: meant ?? where.token };
       return { ...told, token: { line: after.line, column: after.column + after.text.length, text: " " } };
     }

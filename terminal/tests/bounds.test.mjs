@@ -118,8 +118,9 @@ test("an object that was begun when a signal ended the program is whole, and say
 
 test("a refused program has an object, too", () => {
   const { stdout, stderr, status } = told("json", { words: [...APPEND.slice(0, 2), "a(1)"], input: "leap\n" });
-  const ended = { command: null, ok: false, ended: "query: F5 undefined a/1", status: 1 };
-  assert.deepStrictEqual(objectsOf(stdout), [ended]);
+  const why = { title: "undefined: no clause has the head a with 1 argument", hints: ["defined are: append/3"] };
+  const refusals = [{ in: "query", refused: "F5 undefined a/1", line: 1, column: 1, length: 1, ...why }];
+  assert.deepStrictEqual(objectsOf(stdout), [{ command: null, ok: false, ended: "query: F5 undefined a/1", status: 1, refusals }]);
   assert.deepStrictEqual([stderr, status], ["query: F5 undefined a/1\n", 1]);
 });
 

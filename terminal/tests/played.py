@@ -71,7 +71,8 @@ def play_row(home, row):
 
 def shown_sessions():
     """The sessions of pages that are written as a terminal shows them, each as its lines."""
-    for page in ("README.md", "docs/TUTORIAL.md", "docs/TERMINAL.md", "examples/wrong/ANSWERS.md"):
+    answers = ("examples/wrong/ANSWERS.md", "examples/wrong/HABITS.md")
+    for page in ("README.md", "docs/TUTORIAL.md", "docs/TERMINAL.md", *answers):
         for block in re.findall(BLOCK, (ROOT / page).read_text()):
             yield page, block.splitlines()
 
@@ -85,7 +86,8 @@ def shown_by(home, block):
         program.write_text((ROOT / file).read_text())
         terminal = start(home, file, "--query", query, folder=folder)
         try:
-            shown = [block[0], *terminal.start.splitlines()[:-1]]
+            started = terminal.start.splitlines()
+            shown = [block[0], *(started[:-1] if terminal.status is None else started)]
             for line in block:
                 if line.startswith("("):
                     program.write_text((ROOT / "examples/wrong/mended" / program.name).read_text())

@@ -51,8 +51,11 @@ for (const [words, ...wanted] of RUNS) {
 test("a refused text has an object, and its cause stands on standard error", () => {
   const errors = "query: F2 syntax at 1:4\n% syntax: the query ends within brackets\n%  --> query:1:4\n%   |\n% 1 | q(1\n%   |    ^\n%   = '(' of line 1, column 2 is not closed\n";
   const object = {
-    command: null, ok: false, text: "query", fault: "F2", refused: "F2 syntax at 1:4", place: "1:4",
-    cause: "syntax: the query ends within brackets", hints: ["'(' of line 1, column 2 is not closed"], ended: "query: F2 syntax at 1:4", status: 1,
+    command: null, ok: false, ended: "query: F2 syntax at 1:4", status: 1,
+    refusals: [{
+      in: "query", refused: "F2 syntax at 1:4", line: 1, column: 4, length: 1, title: "syntax: the query ends within brackets",
+      hints: ["'(' of line 1, column 2 is not closed"],
+    }],
   };
   const [out, ...rest] = told("json", [BILL, "--query", "q(1"], "leap\n");
   assert.deepStrictEqual([JSON.parse(out), ...rest], [object, errors, 1]);
@@ -64,10 +67,16 @@ test("a file that cannot be read, and a history that does not load, have objects
   fs.writeFileSync(history, "ghc-history 1\nsteps 1\n1 0.1 by 1\nend 2\n");
   const objects = [told("json", [BILL, ...load, "/nosuch"]), told("json", [BILL, ...load, history])].map(([out]) => JSON.parse(out));
   assert.deepStrictEqual(objects, [
-    { command: null, ok: false, text: "history", fault: "F26", refused: "F26 device", cause: "/nosuch: no such file", hints: [], ended: "history: F26 device", status: 3 },
     {
-      command: null, ok: false, text: "history", fault: "F24", refused: "F24 history line 3", cause: `${history}:3: 1 0.1 by 1`,
-      hints: ["the line is not of its form, or its step cannot be taken: is it of this program and query?"], ended: "history: F24 history line 3", status: 1,
+      command: null, ok: false, ended: "history: F26 device", status: 3,
+      refusals: [{ in: "history", refused: "F26 device", hints: ["/nosuch: no such file"] }],
+    },
+    {
+      command: null, ok: false, ended: "history: F24 history line 3", status: 1,
+      refusals: [{
+        in: "history", refused: "F24 history line 3",
+        hints: [`${history}:3: 1 0.1 by 1`, "the line is not of its form, or its step cannot be taken: is it of this program and query?"],
+      }],
     },
   ]);
 });

@@ -7,7 +7,7 @@ import Module from "../../front/text/causes.mjs";
 import MISTAKES from "../../front/tests/lib/mistakes.mjs";
 import { scriptOf, PAGE } from "../../front/session/engine_of_page.mjs";
 
-const TEXTS = ["tokens", "habits", "cures", "nearest", "reader", "syntax_causes", "checker_causes", "causes"];
+const TEXTS = ["tokens", "habits", "cures", "own_words", "own_goals", "nearest", "reader", "syntax_causes", "checker_causes", "causes"];
 
 /** The text of a module as `web/build` put it into the script of a page. */
 function moduleIn(script, name) {

@@ -1,0 +1,123 @@
+// Plays a lesson: what is typed in its blocks gets its replies, and a run its picture. The text that comes is Markdown.
+import fs from "node:fs";
+import os from "node:os";
+import path from "node:path";
+import { queryOf } from "../front/text/query_comment.mjs";
+import { FENCE, WrongLesson, readLesson } from "./lesson_text.mjs";
+import { Front, MARK } from "./front.mjs";
+
+const GREETING = `${MARK}Flat GHC. help`; // how the line begins that a session begins with
+const PROGRAM = "program.ghc"; // what a program of the lesson's own is called in replies
+const NO_QUERY = "no query is given, and no comment % Query: .. names one";
+const INDENT = " ".repeat(9);
+
+class Lesson {
+  /** `folder` is the lesson's, `draw(history, program, query)` gives a picture's text, `native` plays sessions. */
+  constructor({ folder, draw, native }) {
+    Object.assign(this, { folder, draw, native, out: [] });
+    this.own = fs.mkdtempSync(path.join(os.tmpdir(), "ghcdb-lesson-"));
+  }
+
+  /** The lesson with what comes of it. */
+  async fill(text) {
+    try {
+      for (const { lines, items } of readLesson(text)) {
+        if (lines !== undefined) this.out.push(...lines);
+        else await this.play(items);
+      }
+      return this.out.join("\n");
+    } finally {
+      await this.front?.session.program?.kill();
+      fs.rmSync(this.own, { recursive: true });
+    }
+  }
+
+  /** A block: what is shown stands between fences, but for pictures. */
+  async play(items) {
+    const from = this.out.length;
+    this.out.push(FENCE);
+    for (const item of items) await this[`play_${item.kind}`](item);
+    await this.begin();
+    this.out.push(FENCE);
+    this.dropEmptyFences(from);
+  }
+
+  /** Between two pictures, and before or after one, nothing may stand. */
+  dropEmptyFences(from) {
+    for (let at = this.out.length - 2; at >= from; at -= 1) {
+      if (this.out[at] === FENCE && this.out[at + 1] === FENCE) this.out.splice(at, 2);
+    }
+  }
+
+  play_blank() {
+    if (this.out.at(-1) !== "" && this.out.at(-1) !== FENCE) this.out.push("");
+  }
+
+  play_program({ text }) {
+    this.file = path.join(this.own, PROGRAM);
+    fs.writeFileSync(this.file, `${text}\n`);
+    this.take({ name: PROGRAM, query: undefined });
+    this.out.push(...`program  ${text}`.split("\n").map((line, place) => (place === 0 ? line : INDENT + line)));
+  }
+
+  play_file({ text, number }) {
+    this.file = path.resolve(this.folder, text);
+    if (!fs.existsSync(this.file)) throw new WrongLesson(number, `there is no file ${text}`);
+    this.take({ name: text, query: undefined });
+    const lines = fs.readFileSync(this.file, "utf8").split("\n").filter((line) => line !== "" && !line.startsWith("%"));
+    this.out.push(...lines);
+  }
+
+  play_query({ text, number }) {
+    if (this.file === undefined) throw new WrongLesson(number, "a program stands before its query");
+    this.take({ name: this.name, query: text });
+    this.out.push(`query    ${text}`, "");
+  }
+
+  /** From here on another session is meant, which begins when something is typed. */
+  take(meant) {
+    Object.assign(this, meant, { isBegun: false });
+  }
+
+  /** Tells a line; not the greeting, and what a start says after it, of sessions before. */
+  tell(line) {
+    if (line.startsWith(GREETING)) this.isGreeted = true;
+    else if (!(this.isGreeted && this.isBeginning)) this.out.push(line.replaceAll(this.file, this.name));
+  }
+
+  /** Begins the session that is meant, where it has not begun. */
+  async begin() {
+    if (this.isBegun !== false) return;
+    this.isBegun = true;
+    this.query ??= queryOf(fs.readFileSync(this.file, "utf8"));
+    if (this.query === undefined) throw new Error(`${this.name}: ${NO_QUERY}`);
+    await this.front?.session.program?.kill();
+    const tell = (line) => this.tell(line);
+    this.front = new Front({ words: [this.file, "--query", this.query], native: this.native, out: tell, errors: tell });
+    this.isBeginning = true;
+    this.isGreeted = false;
+    await this.front.begin();
+    this.isBeginning = false;
+  }
+
+  async play_typed({ text, number }) {
+    await this.begin();
+    if (this.front === undefined) throw new WrongLesson(number, "a program and a query stand before what is typed");
+    if (this.front.hasEnded) throw new WrongLesson(number, "the session has ended, so nothing can be typed");
+    this.out.push(`> ${text}`);
+    await this.front.answer(text);
+  }
+
+  async play_picture({ text, number }) {
+    await this.begin();
+    if (this.front === undefined || this.front.hasEnded) throw new WrongLesson(number, "there is no run to be drawn");
+    const history = path.join(this.own, "run.history"), to = path.join(this.folder, text);
+    const isOther = fs.existsSync(to) && !fs.readFileSync(to, "latin1").startsWith("<svg");
+    if (isOther) throw new WrongLesson(number, `${text} is there, and is no picture`);
+    await this.front.session.save(history);
+    fs.writeFileSync(to, this.draw(history, this.file, this.query));
+    this.out.push(FENCE, `![the run of ${this.query}](${text})`, FENCE);
+  }
+}
+
+export { Lesson };
