@@ -1,6 +1,5 @@
 // What terminal/json does; how it is called stands there.
-import { readRefusal, whyRefused } from "../front/session/refused.mjs";
-import { ObjectText, refusedText } from "./objects.mjs";
+import { ObjectText } from "./objects.mjs";
 import { playStandardInput, write } from "./scripted.mjs";
 
 const LOOKS = /^ *(records|since|explain)( |$)/; // lines of whose objects the run is a part

@@ -4,7 +4,8 @@ import os from "node:os";
 import path from "node:path";
 import { queryOf } from "../front/text/query_comment.mjs";
 import { FENCE, WrongLesson, readLesson } from "./lesson_text.mjs";
-import { Front, MARK } from "./front.mjs";
+import { Front } from "./front.mjs";
+import { MARK } from "./plain.mjs";
 
 const GREETING = `${MARK}Flat GHC. help`; // how the line begins that a session begins with
 const PROGRAM = "program.ghc"; // what a program of the lesson's own is called in replies

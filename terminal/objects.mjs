@@ -160,4 +160,4 @@ class ObjectText {
   }
 }
 
-export { objectOf, refusedText, ObjectText };
+export { objectOf, ObjectText };

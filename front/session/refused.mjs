@@ -46,4 +46,4 @@ function whyRefused(line, { text, given }, name = given.file) {
   return cause === undefined ? { lines: [] } : { lines: Causes.linesOf(cause, source), cause: { ...cause, isQuery } };
 }
 
-export { readRefusal, whyNotRead, whyRefused };
+export { whyNotRead, whyRefused };

@@ -64,7 +64,7 @@ test("--check tells it on standard error, after what ghcdb says, and nothing on 
   assert.deepStrictEqual([stdout, stderr.split("\n"), status], ["", [FIRST, ...told(file), ""], 1]);
 }));
 
-test("--json tells it in the object of the end", () => withFile((file) => {
+test("--json tells it in the object of the end, too", () => withFile((file) => {
   const { stdout, stderr, status } = run("json", file);
   const of = (where, refused, line, column, title, hints) => ({ in: where, refused, line, column, length: 1, title, hints });
   const linear = ["F4 variable X repeated in the head of clause 2", 2, 5, "not linear, clause 2: X stands twice in the head", TWICE];
@@ -74,10 +74,10 @@ test("--json tells it in the object of the end", () => withFile((file) => {
     of("program", ...linear), of("query", ...unknown),
   ];
   assert.deepStrictEqual(JSON.parse(stdout), { command: null, ok: false, ended: FIRST, status: 1, refusals });
-  assert.deepStrictEqual([stderr, status], [`${FIRST}\n`, 1]);
+  assert.deepStrictEqual([stderr.split("\n"), status], [[FIRST, ...told(file), ""], 1]);
 }));
 
-test("--json tells why a history is refused, and --check says no more than ghcdb", () => inFolder((folder) => {
+test("--json and --check tell why a history is refused", () => inFolder((folder) => {
   const program = path.join(folder, "b.ghc"), history = path.join(folder, "h");
   fs.writeFileSync(program, "p(_).\n");
   fs.writeFileSync(history, "ghc-history 1\nnothing\n");
@@ -85,5 +85,6 @@ test("--json tells why a history is refused, and --check says no more than ghcdb
   const json = run("json", program, "p(1)", "--load", history), check = run("check", program, "p(1)", "--load", history);
   const refusals = [{ in: "history", refused: "F24 history line 2", hints: [`${history}:2: nothing`, hint] }];
   assert.deepStrictEqual(JSON.parse(json.stdout), { command: null, ok: false, ended: said, status: 1, refusals });
-  assert.deepStrictEqual([check.stdout, check.stderr, check.status], ["", `${said}\n`, 1]);
+  const errors = `${said}\n% ${history}:2: nothing\n% ${hint}\n`;
+  assert.deepStrictEqual([check.stdout, check.stderr, check.status], ["", errors, 1]);
 }));
