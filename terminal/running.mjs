@@ -52,7 +52,7 @@ const Running = {
       this.stoppedAt = goal && { goal, changes: this.session.kept.changes };
       return { reply: [...lines, stop], passed, isEnded: this.isInterrupted && stop === "stopped limit" && lines.length < most };
     } catch (error) {
-      if (error instanceof Ended && lines.length > 0) await this.show([...lines, "stopped limit"]);
+      if (error instanceof Ended && lines.length > 0) await this.show([...lines, "stopped limit"], { name: "leap" });
       throw error;
     } finally {
       this.sliced = undefined;
