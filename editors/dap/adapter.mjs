@@ -76,7 +76,7 @@ class Adapter {
   async work() {
     if (this.isBusy) return;
     this.isBusy = true;
-    await this.handleWaiting();
+    while (this.inbox.length > 0) await this.handleWaiting(); // one may come while this ends
     this.isBusy = false;
   }
 
