@@ -96,6 +96,6 @@ inBrowsers("a step asks for no whole record and no second session, also where th
   assert.equal(await page.value(edges), await page.value(edges.replaceAll("Talk.run.graph", "Graph.graphOf(Talk.run.graph.steps)")));
   assert.equal(await page.value('Talk.run.texts.get("0.1")'), "quicksort([3,1,2],_0_1)");
   await page.value("(Talk.run.texts.clear(), Canvas.choose({ step: 1 }), new Promise((done) => setTimeout(done, 100)))");
-  assert.match(await page.value(text("detail")), /^step 1: goal 0\.1 by 1\nquicksort\(\[3,1,2\],_0_1\)\n/);
+  assert.match(await page.value(text("detail")), /^step 1: goal 0\.1 was reduced by clause 1\nquicksort\(\[3,1,2\],R\)\n/);
   remove();
 });
