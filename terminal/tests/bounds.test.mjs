@@ -118,9 +118,11 @@ test("an object that was begun when a signal ended the program is whole, and say
 
 test("a refused program has an object, too", () => {
   const { stdout, stderr, status } = told("json", { words: [...APPEND.slice(0, 2), "a(1)"], input: "leap\n" });
-  const ended = { command: null, ok: false, ended: "query: F5 undefined a/1", status: 1 };
-  assert.deepStrictEqual(objectsOf(stdout), [ended]);
-  assert.deepStrictEqual([stderr, status], ["query: F5 undefined a/1\n", 1]);
+  const title = "undefined: no clause has the head a with 1 argument", hint = "defined are: append/3";
+  const why = { text: "query", fault: "F5", refused: "F5 undefined a/1", place: "1:1", cause: title, hints: [hint] };
+  assert.deepStrictEqual(objectsOf(stdout), [{ command: null, ok: false, ...why, ended: "query: F5 undefined a/1", status: 1 }]);
+  const lines = ["query: F5 undefined a/1", `% ${title}`, "%  --> query:1:1", "%   |", "% 1 | a(1)", "%   | ^", `%   = ${hint}`];
+  assert.deepStrictEqual([stderr, status], [`${lines.join("\n")}\n`, 1]);
 });
 
 test("an object is the same, however the reply comes", () => {
@@ -168,7 +170,7 @@ test("an endless program is read up to its limit", { skip: !fs.existsSync("/dev/
   for (const command of ["check", "json"]) {
     const words = [process.execPath, commandOf(command), "/dev/zero", ...APPEND.slice(1)];
     const { stderr, status } = spawnSync("bash", ["-c", limited, "bash", ...words], { encoding: "utf8" });
-    assert.deepStrictEqual([stderr, status], ["program: F6 limit: text\n", 1]);
+    assert.deepStrictEqual([stderr, status], ["program: F6 limit: text\n% the bytes of a program or a query: 1,048,576 at most\n", 1]);
   }
 });
 
