@@ -1,5 +1,5 @@
-// What the terminal does where a session begins in place of another one: with the program as its file has it now, or with
-// another query. Where what is asked for is refused, the session before stands.
+// What the terminal does where a session begins in place of another one: with the program as its file has it now, or
+// with another query. Where what is asked for is refused, the session before stands.
 import { Blaming } from "../front/run/blaming.mjs";
 import { Patterns } from "../front/run/patterns.mjs";
 import { plural } from "../front/run/reasons.mjs";
@@ -17,7 +17,8 @@ const Beginning = {
     const { session } = this, state = `${name} ${session.kept.changes}`;
     if (session.isSaved || this.warned === state) return false;
     this.warned = state;
-    this.note(`${plural(session.kept.steps.size, "step")} kept and not saved: save FILE keeps them; ${ASK_AGAIN[name]}`);
+    const count = plural(session.kept.steps.size, "step");
+    this.note(`${count} kept and not saved: save FILE keeps them; ${ASK_AGAIN[name]}`);
     return true;
   },
 

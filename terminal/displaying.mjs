@@ -6,8 +6,9 @@ const NONE = "nothing is displayed; display X shows X after each run and step";
 
 const Displaying = {
   async on_display({ words: [word] }) {
-    if (word === undefined) return this.note(this.displayed.length === 0 ? NONE : `displayed: ${this.displayed.join(", ")}`);
-    const name = Own.signOf(this.session, word), line = `show ${name}`, reply = await this.send({ name: "show", words: [name], line });
+    if (word === undefined) return this.tellDisplayed();
+    const name = Own.signOf(this.session, word), line = `show ${name}`;
+    const reply = await this.send({ name: "show", words: [name], line });
     if (!Replies.isRefused(reply) && !this.displayed.includes(name)) this.displayed.push(name);
     return undefined;
   },
@@ -16,6 +17,10 @@ const Displaying = {
     const name = word && Own.signOf(this.session, word);
     if (name !== undefined && !this.displayed.includes(name)) this.note(`${word} is not displayed`);
     this.displayed = this.displayed.filter((other) => name !== undefined && other !== name);
+    this.tellDisplayed();
+  },
+
+  tellDisplayed() {
     this.note(this.displayed.length === 0 ? NONE : `displayed: ${this.displayed.join(", ")}`);
   },
 

@@ -1,5 +1,6 @@
-// What the terminal does for `reload`: the program is taken as its file has it now, and the steps by clauses that are still there go on
-// under it, with all that rests on them alone. The history by which they do is made here, and judged by the console, which loads it.
+// What the terminal does for `reload`: the program is taken as its file has it now, and the steps by clauses that are
+// still there go on under it, with all that rests on them alone. The history by which they do is made here, and judged
+// by the console, which loads it.
 import Histories from "../front/protocol/histories.mjs";
 import Replies from "../front/protocol/replies.mjs";
 import { wordsOfQuery } from "../front/protocol/words.mjs";
@@ -10,7 +11,10 @@ import { Ended } from "../front/session/program.mjs";
 import { Session } from "../front/session/session.mjs";
 import { isWhole } from "../front/session/way_back.mjs";
 
-const clauseLine = (word) => ({ number, line, text }) => `${word}: clause ${number} (line ${line}) ${text.replace(/\s*\n\s*/g, " ")}`;
+const NO_MEMORY = "memory was refused for the history; the session stands";
+
+const oneLine = (text) => text.replace(/\s*\n\s*/g, " ");
+const clauseLine = (word) => ({ number, line, text }) => `${word}: clause ${number} (line ${line}) ${oneLine(text)}`;
 const stepLine = (step) => `goes: step ${step.number}, ${Replies.wordsOf(step)}`;
 
 const Reloading = {
@@ -21,12 +25,16 @@ const Reloading = {
     if (probe === undefined) return undefined;
     if (probe.bytes.equals(session.bytes)) return this.note("the program's file is as it was; the session stands");
     const records = await session.ask("records"), saved = await session.ask("save");
-    if (!isWhole(records) || !isWhole(saved)) return this.note("memory was refused for the history; the session stands");
-    const plan = ReloadPlan.planOf({ before: session.clauses, after: probe.clauses, steps: Replies.readRecords(records) });
+    if (!isWhole(records) || !isWhole(saved)) return this.note(NO_MEMORY);
+    const steps = Replies.readRecords(records);
+    const plan = ReloadPlan.planOf({ before: session.clauses, after: probe.clauses, steps });
     return this.proposeReload({ plan, program: probe.bytes, saved });
   },
 
-  /** A session on the program as its file has it now, which has ended again; undefined where the program or the query is refused. */
+  /**
+   * A session on the program as its file has it now, which has ended again; undefined where the program or the query is
+   * refused.
+   */
   async probe() {
     const { words, native, given: { query } } = this.session, probe = new Session(wordsOfQuery(words, query), native);
     try {
@@ -49,7 +57,8 @@ const Reloading = {
     const reload = () => this.reloadBy({ plan, program, saved });
     if (going.length === 0) return reload();
     this.question = reload;
-    return this.note(`y reloads and keeps ${staying.length} of ${plural(count, "step")}; any other line leaves the session as it is`);
+    const kept = `${staying.length} of ${plural(count, "step")}`;
+    return this.note(`y reloads and keeps ${kept}; any other line leaves the session as it is`);
   },
 
   /** Another session takes the place of this one: on the new program, with the steps that stay. */
@@ -59,7 +68,8 @@ const Reloading = {
     if (!await this.goOnWith(next)) return;
     next.savedAt = undefined; // it stands in no file yet
     this.tellNotes();
-    this.note(`reloaded: ${staying.length} of ${plural(going.length + staying.length, "step")} stay, and nothing is on the shelf`);
+    const kept = `${staying.length} of ${plural(going.length + staying.length, "step")}`;
+    this.note(`reloaded: ${kept} stay, and nothing is on the shelf`);
     if (ReloadPlan.isRenumbered(plan)) this.forgetNumbers();
     await this.spyAgain(Histories.spiesIn(saved));
   },
@@ -72,8 +82,9 @@ const Reloading = {
 
   /** What was spied is spied again, where the program has it still. */
   async spyAgain(spied) {
-    const lines = spied.filter((predicate) => this.session.predicates.includes(predicate)).map((predicate) => `spy ${predicate}`);
-    spied.filter((predicate) => !this.session.predicates.includes(predicate)).forEach((predicate) => this.patterns.forget(predicate));
+    const { predicates } = this.session, isThere = (predicate) => predicates.includes(predicate);
+    const lines = spied.filter(isThere).map((predicate) => `spy ${predicate}`);
+    spied.filter((predicate) => !isThere(predicate)).forEach((predicate) => this.patterns.forget(predicate));
     for (const line of lines) await this.session.ask(line);
     if (lines.length > 0) this.note(`sent: ${lines.join(", ")}`);
   },

@@ -26,7 +26,9 @@ function statusOfAnswers(answers) {
   return refusals.includes(Replies.NO_MEMORY) ? STATUS.untold : STATUS.refusedLine;
 }
 
-/** What is to be said of one value: why it is not told; of a run that came to its end, that nobody can bind it any more. */
+/**
+ * What is to be said of one value: why it is not told; of a run that came to its end, that nobody can bind it any more.
+ */
 async function notesOn(session, name, line, isDone) {
   if (!isDone && !Replies.isRefusal(line)) return [];
   const notes = await notesAfter(session, { name: "show", words: [name], line: `show ${name}` }, [line]);
@@ -72,7 +74,8 @@ async function runToEnd(session, expected, errors) {
 /** Runs what the words of a command line name. The status. */
 function run(words, errors) {
   const asked = readRun(words), expected = asked.expected.map(readExpected), wrong = expected.indexOf(undefined);
-  if (wrong < 0) return withSession(withQuery(asked.words), { plays: (session) => runToEnd(session, expected, errors), errors });
+  const plays = (session) => runToEnd(session, expected, errors);
+  if (wrong < 0) return withSession(withQuery(asked.words), { plays, errors });
   errors(`--expect '${asked.expected[wrong] ?? ""}': X = TERM is wanted\n`);
   return STATUS.commandLine;
 }

@@ -1,5 +1,6 @@
-// What the terminal does for runs: in slices, so that ^C keeps what was done; past the spied goal at which one stopped, past goals that
-// fit no pattern, and until a goal or a step is there. What is sent are lines of the console: `leap K` and `step G`.
+// What the terminal does for runs: in slices, so that ^C keeps what was done; past the spied goal at which one stopped,
+// past goals that fit no pattern, and until a goal or a step is there. What is sent are lines of the console: `leap K`
+// and `step G`.
 import { usageOf } from "../front/protocol/commands.mjs";
 import Replies from "../front/protocol/replies.mjs";
 import { plural, some } from "../front/run/reasons.mjs";
@@ -15,7 +16,10 @@ const spiedIn = (stop) => /^stopped spied (\S+)$/.exec(stop)?.[1];
 
 const noMore = (number) => `no step gets the number ${number} any more; shelf lists what was taken back`;
 
-/** How many steps a slice has. Where several workers make them a history is kept after each slice, so slices grow with the session. */
+/**
+ * How many steps a slice has. Where several workers make them a history is kept after each slice, so slices grow with
+ * the session.
+ */
 const sliceOf = (session) => (session.isByMany ? Math.max(SLICE, Math.floor(session.kept.steps.size / 4)) : SLICE);
 
 const Running = {
@@ -30,7 +34,10 @@ const Running = {
     return true;
   },
 
-  /** Where the last run stopped before a spied goal, and nothing has changed since, a step takes that goal. How many steps were taken. */
+  /**
+   * Where the last run stopped before a spied goal, and nothing has changed since, a step takes that goal. How many
+   * steps were taken.
+   */
   async passSpied() {
     const { stoppedAt } = this;
     this.stoppedAt = undefined;
@@ -41,8 +48,9 @@ const Running = {
   },
 
   /**
-   * Runs on for some steps at most, in slices, until one stops for another reason than its length, or ^C: the reply as of one run, and the
-   * goals that it passed since they fit no pattern. Where the program ends in a slice, what was done before is told.
+   * Runs on for some steps at most, in slices, until one stops for another reason than its length, or ^C: the reply as
+   * of one run, and the goals that it passed since they fit no pattern. Where the program ends in a slice, what was
+   * done before is told.
    */
   async runOn(most) {
     const lines = [], passed = [];
@@ -50,7 +58,8 @@ const Running = {
     try {
       const stop = await this.runSlices(most, lines, passed), goal = spiedIn(stop);
       this.stoppedAt = goal && { goal, changes: this.session.kept.changes };
-      return { reply: [...lines, stop], passed, isEnded: this.isInterrupted && stop === "stopped limit" && lines.length < most };
+      const isEnded = this.isInterrupted && stop === "stopped limit" && lines.length < most;
+      return { reply: [...lines, stop], passed, isEnded };
     } catch (error) {
       if (error instanceof Ended && lines.length > 0) await this.show([...lines, "stopped limit"], { name: "leap" });
       throw error;
@@ -75,7 +84,10 @@ const Running = {
     return stop;
   },
 
-  /** Does a spied goal fit a pattern, where there are some of its predicate? So does one of which too much would have to be read. */
+  /**
+   * Does a spied goal fit a pattern, where there are some of its predicate? So does one of which too much would have to
+   * be read.
+   */
   async isMet(goal) {
     try {
       const run = await this.session.look(), predicate = run.predicateOf(goal), call = run.goalOf(goal)?.call;
@@ -86,7 +98,10 @@ const Running = {
     }
   },
 
-  /** Takes a spied goal that fits no pattern: the line that tells the step. Undefined where the run is to stop before it. */
+  /**
+   * Takes a spied goal that fits no pattern: the line that tells the step. Undefined where the run is to stop before
+   * it.
+   */
   async passOther(goal) {
     if (this.patterns.isEmpty || await this.isMet(goal)) return undefined;
     return (await this.session.ask(`step ${goal}`)).find((line) => Replies.readTaken(line) !== null);
@@ -94,7 +109,8 @@ const Running = {
 
   /** Tells a run, and what its end means. */
   async tellRun({ reply, passed, isEnded }, meaning) {
-    if (passed.length > 0) this.note(`passed ${plural(passed.length, "goal")} that no pattern fits; sent: ${some(passed.map((goal) => `step ${goal}`)).join(", ")}`);
+    const sent = some(passed.map((goal) => `step ${goal}`)).join(", ");
+    if (passed.length > 0) this.note(`passed ${plural(passed.length, "goal")} that no pattern fits; sent: ${sent}`);
     await this.show(reply, meaning);
     if (isEnded) return this.note(`ended by ^C after ${plural(reply.length - 1, "step")}, which stand; leap goes on`);
     return this.noteAll(await notesAfter(this.session, meaning, reply));
@@ -106,7 +122,8 @@ const Running = {
     const why = (isGoal ? await this.whereGoalIs(word) : undefined) ?? this.whyNotMade(number, isGoal);
     if (why !== undefined) return this.note(why);
     await this.runToStep(number);
-    return isGoal && this.session.kept.steps.has(number) ? this.note(await this.whereGoalIs(word) ?? `step ${number} made no goal ${word}`) : undefined;
+    if (!isGoal || !this.session.kept.steps.has(number)) return undefined;
+    return this.note(await this.whereGoalIs(word) ?? `step ${number} made no goal ${word}`);
   },
 
   /** Why no step of a number is made from now on; undefined where one may be. A goal that is asked for is not there. */
@@ -123,7 +140,9 @@ const Running = {
     return goal && `${name} is there: ${goal.text}`;
   },
 
-  /** Runs until a step of a number is made: by one step, whose number tells how many are left. It is told as one run. */
+  /**
+   * Runs until a step of a number is made: by one step, whose number tells how many are left. It is told as one run.
+   */
   async runToStep(number) {
     const sent = [], run = { reply: ["stopped limit"], passed: [] };
     const part = async (most) => {

@@ -1,14 +1,19 @@
-// How much the terminal shows of a reply: of long runs and listings the first and the last lines, of long terms the beginning. `all` as
-// the last word shows a listing or a value whole.
+// How much the terminal shows of a reply: of long runs and listings the first and the last lines, of long terms the
+// beginning. `all` as the last word shows a listing or a value whole.
 import Short from "../front/protocol/short.mjs";
 import { plural } from "../front/run/reasons.mjs";
 import { MARK } from "./plain.mjs";
 
-const FIRST = 20, LAST = 10, LONG = 40; // lines that are shown of a long run or listing, and how many one has that is shown whole
+const FIRST = 20, LAST = 10; // lines that are shown of a long run or listing
+const LONG = 40; // lines that a run or a listing may have that is shown whole
 const VALUE = 1600, LINE = 400; // letters that are shown of the terms of a lone line, and of a line among others
 const AT_ONCE = 500; // lines that are shown before keys are heard again
 
-const LISTINGS = new Set(["records", "since", "goal", "goals", "show", "causes", "why", "who", "explain", "shelf", "clauses", "part", "list", "holders"]);
+const LISTINGS = new Set([
+  "records", "since", "goal", "goals", "show", "causes", "why", "who", "explain", "shelf", "clauses", "part", "list",
+  "holders",
+]);
+const OF_STEPS = { tail: 1, what: "step" }, OF_LINES = { tail: 0, what: "line" }; // the last line of steps tells of all
 
 /** What is meant without `all`, the terminal's word for showing a listing whole. */
 function withoutAll(meaning) {
@@ -18,17 +23,22 @@ function withoutAll(meaning) {
 }
 
 /** The line that shows whole what is cut. */
-const wordForAll = ({ name, line }, isRun) => (isRun ? "records all" : LISTINGS.has(name) ? `${line} all` : "goals all");
+function wordForAll({ name, line }, isRun) {
+  if (isRun) return "records all";
+  return LISTINGS.has(name) ? `${line} all` : "goals all";
+}
 
 const Showing = {
   /** Tells a reply, of which a part may be left out; then a note tells which line shows it. */
   async show(reply, meaning = {}) {
-    const { name, isWhole } = meaning, last = reply.at(-1) ?? "", isRun = last.startsWith("stopped "), isListing = LISTINGS.has(name);
+    const { name, isWhole } = meaning, last = reply.at(-1) ?? "", isRun = last.startsWith("stopped ");
     if (isWhole || name === undefined || name === "save") return this.showAll(reply);
-    const lines = reply.map((line) => Short.line(line, reply.length === 1 ? VALUE : LINE)), all = wordForAll(meaning, isRun);
-    if (isRun || isListing) await this.showEnds(lines, { all, ...(isRun || last.startsWith("steps ") ? { tail: 1, what: "step" } : { tail: 0, what: "line" }) });
+    const most = reply.length === 1 ? VALUE : LINE, lines = reply.map((line) => Short.line(line, most));
+    const all = wordForAll(meaning, isRun), ends = isRun || last.startsWith("steps ") ? OF_STEPS : OF_LINES;
+    if (isRun || LISTINGS.has(name)) await this.showEnds(lines, { all, ...ends });
     else await this.showAll(lines);
-    if (lines.some((line, place) => line !== reply[place])) this.note(`… stands for what is left out; ${all} shows it`);
+    const isCut = lines.some((line, place) => line !== reply[place]);
+    if (isCut) this.note(`… stands for what is left out; ${all} shows it`);
     return undefined;
   },
 
@@ -57,7 +67,7 @@ const Showing = {
   /** Notes that are a listing of their own, shown as much of as of a reply. */
   noteListing(lines, { line, isWhole }) {
     const notes = lines.map((told) => MARK + told);
-    return isWhole ? this.showAll(notes) : this.showEnds(notes, { all: `${line} all`, tail: 0, what: "line" });
+    return isWhole ? this.showAll(notes) : this.showEnds(notes, { all: `${line} all`, ...OF_LINES });
   },
 };
 

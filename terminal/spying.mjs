@@ -1,4 +1,5 @@
-// What the terminal does for `spy` and `nospy`: predicates without the number of their arguments, patterns of goals, and which are spied.
+// What the terminal does for `spy` and `nospy`: predicates without the number of their arguments, patterns of goals,
+// and which are spied.
 import { usageOf } from "../front/protocol/commands.mjs";
 import Histories from "../front/protocol/histories.mjs";
 import Replies from "../front/protocol/replies.mjs";
@@ -88,8 +89,9 @@ const Spying = {
   async forgetPattern(text) {
     const { pattern, why } = readPattern(text, "nospy"), predicate = predicateOf(pattern);
     if (why !== undefined) return this.note(why);
-    if (!this.patterns.remove(pattern)) return this.note(`${text} is no pattern of what is spied; spy alone lists them`);
-    if (this.patterns.textsOf(predicate).length > 0) return this.note(`runs stop at calls of ${this.spiedLine(predicate)}`);
+    const wasThere = this.patterns.remove(pattern), left = this.patterns.textsOf(predicate);
+    if (!wasThere) return this.note(`${text} is no pattern of what is spied; spy alone lists them`);
+    if (left.length > 0) return this.note(`runs stop at calls of ${this.spiedLine(predicate)}`);
     this.stoppedAt = undefined;
     return this.sendSpy("nospy", predicate);
   },

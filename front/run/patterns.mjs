@@ -47,7 +47,8 @@ class Patterns {
 
   /** Takes a pattern away; false where it is not there. */
   remove(pattern) {
-    const predicate = predicateOf(pattern), patterns = this.ofPredicate.get(predicate), wasThere = patterns?.delete(Print.term(pattern)) ?? false;
+    const predicate = predicateOf(pattern), patterns = this.ofPredicate.get(predicate);
+    const wasThere = patterns?.delete(Print.term(pattern)) ?? false;
     if (patterns?.size === 0) this.forget(predicate);
     return wasThere;
   }

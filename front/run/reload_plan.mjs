@@ -1,5 +1,6 @@
-// What becomes of a run where its program has changed: which clauses are gone, which steps go with them, and the history by which the
-// rest goes on under the new program. A clause is the same where its tokens are. The console judges the history: nothing is promised here. Pure.
+// What becomes of a run where its program has changed: which clauses are gone, which steps go with them, and the
+// history by which the rest goes on under the new program. A clause is the same where its tokens are. The console
+// judges the history: nothing is promised here. Pure.
 import Consequences from "./consequences.mjs";
 import Tokens from "../text/tokens.mjs";
 
@@ -9,7 +10,10 @@ const ReloadPlan = (() => {
   /** A clause without blanks and comments. */
   const wordsOf = ({ text }) => Tokens.tokensOf(text).map((token) => token.text).join(" ");
 
-  /** Which clause of the new program each clause of the old one is, by their numbers: clauses of one text are paired in their order. */
+  /**
+   * Which clause of the new program each clause of the old one is, by their numbers: clauses of one text are paired in
+   * their order.
+   */
   function pairsOf(before, after) {
     const places = new Map(), pairs = new Map();
     for (const clause of after) {
@@ -25,17 +29,20 @@ const ReloadPlan = (() => {
   }
 
   /**
-   * The plan for clauses, those before and after, and the steps of a record: the `pairs` of clauses, those that are `gone` and `come`, the
-   * steps that go, `going`, and those that stay, `staying`, both in recorded order. A step goes where its clause is gone, and where it depends on
-   * one that goes.
+   * The plan for clauses, those before and after, and the steps of a record: the `pairs` of clauses, those that are
+   * `gone` and `come`, the steps that go, `going`, and those that stay, `staying`, both in recorded order. A step goes
+   * where its clause is gone, and where it depends on one that goes.
    */
   function planOf({ before, after, steps }) {
     const pairs = pairsOf(before, after), numbers = new Set(pairs.values());
     const wrong = steps.filter(({ clause }) => clause !== null && !pairs.has(clause)).map(({ number }) => number);
     const reached = Consequences.reachedFrom(wrong, steps);
     return {
-      pairs, gone: before.filter(({ number }) => !pairs.has(number)), come: after.filter(({ number }) => !numbers.has(number)),
-      going: steps.filter(({ number }) => reached.has(number)), staying: steps.filter(({ number }) => !reached.has(number)),
+      pairs,
+      gone: before.filter(({ number }) => !pairs.has(number)),
+      come: after.filter(({ number }) => !numbers.has(number)),
+      going: steps.filter(({ number }) => reached.has(number)),
+      staying: steps.filter(({ number }) => !reached.has(number)),
     };
   }
 
@@ -48,12 +55,17 @@ const ReloadPlan = (() => {
     return ["ghc-history 1", `steps ${lines.length}`, ...lines, `end ${next}`];
   }
 
-  /** The lines of a history of version 2, whose steps are numbered anew from 1 on: version 1 cannot hold a step that asked for goals. */
+  /**
+   * The lines of a history of version 2, whose steps are numbered anew from 1 on: version 1 cannot hold a step that
+   * asked for goals.
+   */
   function renumberedLines({ staying, pairs }) {
     const numbers = new Map([[0, 0], ...staying.map(({ number }, place) => [number, place + 1])]);
-    const renamed = (act) => act.replace(VARIABLE, (all, number, place) => `_${numbers.get(Number(number)) ?? number}_${place}`);
+    const renumbered = (number) => numbers.get(Number(number)) ?? number;
+    const renamed = (act) => act.replace(VARIABLE, (all, number, place) => `_${renumbered(number)}_${place}`);
     const goalOf = (goal) => goal?.replace(/^\d+/, (number) => String(numbers.get(Number(number)))) ?? "-";
-    const lines = staying.map((step) => `${numbers.get(step.number)} ${goalOf(step.goal)} ${renamed(actOf(step, pairs))}`);
+    const lineOf = (step) => `${numbers.get(step.number)} ${goalOf(step.goal)} ${renamed(actOf(step, pairs))}`;
+    const lines = staying.map(lineOf);
     return ["ghc-history 2", "opening 0 1", `entries ${lines.length}`, ...lines, "spies 0", `end ${lines.length + 1}`];
   }
 

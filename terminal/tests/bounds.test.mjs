@@ -118,10 +118,13 @@ test("an object that was begun when a signal ended the program is whole, and say
 
 test("a refused program has an object, too", () => {
   const { stdout, stderr, status } = told("json", { words: [...APPEND.slice(0, 2), "a(1)"], input: "leap\n" });
-  const why = { title: "undefined: no clause has the head a with 1 argument", hints: ["defined are: append/3"] };
-  const refusals = [{ in: "query", refused: "F5 undefined a/1", line: 1, column: 1, length: 1, ...why }];
+  const title = "undefined: no clause has the head a with 1 argument", hint = "defined are: append/3";
+  const refusals = [{ in: "query", refused: "F5 undefined a/1", line: 1, column: 1, length: 1, title, hints: [hint] }];
   assert.deepStrictEqual(objectsOf(stdout), [{ command: null, ok: false, ended: "query: F5 undefined a/1", status: 1, refusals }]);
-  assert.deepStrictEqual([stderr, status], ["query: F5 undefined a/1\n", 1]);
+  const lines = ["query: F5 undefined a/1", `% ${title}`, "%  --> query:1:1", "%   |", "% 1 | a(1)", "%   | ^", `%   = ${hint}`];
+  assert.deepStrictEqual([stderr, status], [`${lines.join("
+")}
+`, 1]);
 });
 
 test("an object is the same, however the reply comes", () => {
@@ -169,7 +172,7 @@ test("an endless program is read up to its limit", { skip: !fs.existsSync("/dev/
   for (const command of ["check", "json"]) {
     const words = [process.execPath, commandOf(command), "/dev/zero", ...APPEND.slice(1)];
     const { stderr, status } = spawnSync("bash", ["-c", limited, "bash", ...words], { encoding: "utf8" });
-    assert.deepStrictEqual([stderr, status], ["program: F6 limit: text\n", 1]);
+    assert.deepStrictEqual([stderr, status], ["program: F6 limit: text\n% the bytes of a program or a query: 1,048,576 at most\n", 1]);
   }
 });
 
