@@ -32,7 +32,7 @@ const Selecting = (() => {
   /** Selects the steps between two places of the record, both with them. */
   function selectRange(one, other) {
     const isIn = new Uint8Array(Talk.run.graph.count), most = isIn.length - 1;
-    const place = (at) => Math.max(0, Math.min(most, Math.round(at)));
+    const place = (at) => Math.max(0, Math.min(most, Math.floor(at)));
     isIn.fill(1, place(Math.min(one, other)), place(Math.max(one, other)) + 1);
     tell(isIn);
   }
