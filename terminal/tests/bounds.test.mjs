@@ -122,9 +122,7 @@ test("a refused program has an object, too", () => {
   const refusals = [{ in: "query", refused: "F5 undefined a/1", line: 1, column: 1, length: 1, title, hints: [hint] }];
   assert.deepStrictEqual(objectsOf(stdout), [{ command: null, ok: false, ended: "query: F5 undefined a/1", status: 1, refusals }]);
   const lines = ["query: F5 undefined a/1", `% ${title}`, "%  --> query:1:1", "%   |", "% 1 | a(1)", "%   | ^", `%   = ${hint}`];
-  assert.deepStrictEqual([stderr, status], [`${lines.join("
-")}
-`, 1]);
+  assert.deepStrictEqual([stderr, status], [`${lines.join("\n")}\n`, 1]);
 });
 
 test("an object is the same, however the reply comes", () => {
