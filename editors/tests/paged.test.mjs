@@ -60,18 +60,18 @@ test("a term that is no list has no count, nor has a list without an element", a
 });
 
 test("of a long list 10,000 elements are told at once, and the rest unfolds", { timeout: 120000 }, async () => {
-  const { client } = await begun(`X = [${numbers(LENGTH)}]`);
+  const { client } = await begun(`X = [${numbers(LENGTH).map((number) => number % 10)}]`);
   await client.go("continue");
   const list = await client.ask("evaluate", { expression: "X", context: "watch" });
   assert.deepStrictEqual([list.indexedVariables, list.namedVariables], [10_000, 1]);
   const end = await told(client, list, { filter: "indexed", start: 9_998, count: 100 });
-  assert.deepStrictEqual(end, ["9999=9999", "10000=10000"]);
+  assert.deepStrictEqual(end, ["9999=9", "10000=0"]);
   const [rest] = await inside(client, list, { filter: "named" });
   assert.deepStrictEqual(countsOf(rest), ["| after 10000", 10_000, 1]);
-  assert.deepStrictEqual(await told(client, rest, { start: 0, count: 2 }), ["10001=10001", "10002=10002"]);
+  assert.deepStrictEqual(await told(client, rest, { start: 0, count: 2 }), ["10001=1", "10002=2"]);
   const [last] = await inside(client, rest, { filter: "named" });
   assert.deepStrictEqual(countsOf(last), ["| after 20000", 5_000, 0]);
-  assert.deepStrictEqual(await told(client, last, { start: 4_999 }), ["25000=25000"]);
+  assert.deepStrictEqual(await told(client, last, { start: 4_999 }), ["25000=0"]);
   await client.end();
 });
 
