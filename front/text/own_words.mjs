@@ -37,7 +37,8 @@ const OwnWords = (() => {
   /** The texts of the two sides of a mark; undefined where a side is none, or too long. */
   function sidesOf(clause, mark) {
     const goal = goalAt(clause, mark);
-    const sides = [clause.slice(goal.from, mark.from), clause.slice(mark.to, goal.to)];
+    const isWritten = ({ kind }) => kind !== "end"; // a query ends with no mark of its own
+    const sides = [clause.slice(goal.from, mark.from), clause.slice(mark.to, goal.to).filter(isWritten)];
     return sides.map((tokens) => (isTerm(tokens) ? Cures.textOf(tokens) : undefined));
   }
 

@@ -17,7 +17,9 @@ const RUNS = [
 const TEXTS = `(() => {
   const svg = document.querySelector("#canvas svg"), edge = svg.getBoundingClientRect(), wrong = [];
   const names = svg.querySelector(".names rect").getBoundingClientRect(), axis = svg.querySelector(".axis rect").getBoundingClientRect();
-  const isHidden = (one, box) => !one.closest(".names, .axis") && (box.left < names.right && box.top < names.bottom || box.top < axis.bottom); // it was scrolled behind them
+  const isScrolled = document.getElementById("canvas").scrollTop > 0, isBehindNames = (one, box) => !one.closest(".names") && box.left < names.right && box.top < names.bottom;
+  const isBehindAxis = (one, box) => (isScrolled || !one.closest(".names")) && box.top < axis.bottom;
+  const isHidden = (one, box) => !one.closest(".axis") && (isBehindNames(one, box) || isBehindAxis(one, box)); // it was scrolled behind them
   const texts = [...svg.querySelectorAll("text")].filter((one) => one.textContent.trim() !== "" && one.getClientRects().length > 0 && !isHidden(one, one.getBoundingClientRect()));
   const boxes = texts.map((one) => ({ words: one.textContent, kind: one.getAttribute("class") || one.parentNode.getAttribute("class"), box: one.getBoundingClientRect() }));
   for (const { words, box } of boxes) if (box.left < edge.left - 1 || box.right > edge.right + 1 || box.top < edge.top - 1 || box.bottom > edge.bottom + 1) wrong.push("beyond the edge: " + words);
@@ -104,7 +106,7 @@ inBrowsers("at 50 steps on a wide window the numbers of the steps are written wh
 });
 
 inBrowsers("what all stands for is in sight wherever one has scrolled, and a label is not cut twice", async (page) => {
-  await open(page, "#example=primes&query=primes(30,Ps)&lines=leap 50", SIZES.phone);
+  await open(page, "#example=primes&query=primes(60,Ps)&lines=leap 90", SIZES.phone); // which is wider than the least window of each browser
   assert.ok(await page.value('document.getElementById("canvas").scrollLeft') > 20);
   const legend = '[...document.querySelectorAll("#canvas .legend text")].every((one) => { const box = one.getBoundingClientRect(); return box.left >= 0 && box.right <= innerWidth; })';
   await until(page, legend); // the browser tells of the scroll with its next frame

@@ -35,6 +35,8 @@ export default [
     "program: F2 syntax at 1:1", "program:1:1", "syntax: // is neither a comment nor an operator here", "a comment begins with %; integer division is /, the remainder mod"],
   ["is", "p(X,Y) :- true | Y is X + 1.\n", "p(1,Y)",
     "program: F2 syntax at 1:20", "program:1:20", "syntax: `is` is written :=", "Y := X + 1"],
+  ["is, in a query", "p(1).\n", "Y is 1",
+    "query: F2 syntax at 1:3", "query:1:3", "syntax: `is` is written :=", "Y := 1"],
   ["negative: unary minus on var", "p(X,Y) :- true | Y := -X.\n", "p(1,Y)",
     "program: F2 syntax at 1:23", "program:1:23", "syntax: there is no minus before a variable or a bracket", "write 0 - X"],
   ["negative: - 1", "p(X) :- true | X = - 1.\n", "p(X)",
