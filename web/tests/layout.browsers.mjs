@@ -24,6 +24,9 @@ const FOLLOWS = `(() => { const field = document.getElementById("program"), line
 
 inBrowsers("of each example of up to 20 lines all clauses are seen whole, and the colours stand behind the letters", async (page) => {
   await open(page, "#example=quicksort", WIDE);
+  const [width, height] = WIDE, inner = await page.value("innerHeight"); // Firefox counts its own bars
+  await page.size(width, height + height - inner);
+  assert.equal(await page.value("innerHeight"), height);
   assert.ok(PROGRAMS.length >= 16);
   for (const { name, program } of PROGRAMS) {
     await page.value(begin(program, queryOf(program)));
