@@ -25,14 +25,6 @@ module _ (r : Tree → Tree) (w : Tree → ℕ) where
     smaller = omega (arith, ap (pieces_size w) n, size_push mid q, ap (pieces_size w) m, size_push old p);
   }
 
-  -- a mark was written, a piece was left, and a text in front of it was begun
-  pub left_behind : (mark text : List ℕ) (size : ℕ) (p : Piece) (old mid new : List Piece) (before marked after : List ℕ) → marked ≡ before ++ mark → mid ≡ old ++ p ∷ [] → Advances r w text (suc size) mid new marked after
-      → Advances r w (mark ++ (text ++ piece_text r p)) (suc (size + piece_size w p)) old new before after
-  left_behind mark text size p old mid new before marked after e m a = record {
-    whole = a.whole ∙ rw (e, m, text_push old p) (simp append_assoc);
-    smaller = omega (arith, a.smaller, ap (pieces_size w) m, size_push old p);
-  }
-
   -- one piece was left
   pub left_one : (p : Piece) (old new : List Piece) (before : List ℕ) → new ≡ old ++ p ∷ [] → Advances r w (piece_text r p) (suc (piece_size w p)) old new before before
   left_one p old new before n = record {

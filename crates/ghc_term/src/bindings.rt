@@ -112,6 +112,7 @@ impl Held {
     }
 
     // The bindings once more, in the same form.
+    #[inline(always)]
     fn share(&self) -> Result<Held, AllocError>
         requires { AreOnce (in_order self.now) }
         ensures { IfOk result (λ again. in_order again ≡ in_order self.now) }
@@ -125,6 +126,7 @@ impl Held {
     }
 
     // Puts each binding into the map, where there is room. It cannot fail, and costs a step or a look-up for each.
+    #[inline(always)]
     fn put_into(self, map: &mut VariableMap<Term>)
         requires { length (in_order self) ≤ map.old.room }
         ensures { map.new.held ≡ with_binds (in_order self) map.old.held }
@@ -237,6 +239,7 @@ impl Bindings {
 
     /// The bindings once more, with handles of their own: one step for each, and a look-up where they are many. One that stands here
     /// without a list takes no memory. It fails where memory is refused, or where a count of handles is full.
+    #[inline(always)]
     pub fn share(&self) -> Result<Bindings, AllocError>
         ensures { IfOk result (λ again. again ≡ self.now) }
     {
@@ -246,6 +249,7 @@ impl Bindings {
     }
 
     // Puts each binding into the map, where there is room. It cannot fail, and costs a step or a look-up for each.
+    #[inline(always)]
     pub(crate) fn put_into(self, map: &mut VariableMap<Term>)
         requires { finite.len self ≤ map.old.room }
         ensures { map.new.held ≡ with_binds (finite.entries self) map.old.held }

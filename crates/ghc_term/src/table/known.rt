@@ -94,6 +94,7 @@ pub fn goes_far(map: &VariableMap<Term>, known: &VariableList, term: &Term) -> b
 }
 
 // Whether no variable of the entries is known, but for x: one look-up for each.
+#[inline(always)]
 pub fn has_no_other(known: &VariableList, entries: &[(VarName, Term)], x: VarName) -> bool
     ensures { IsTrue result → (e : name_spec × Tree) → In e entries.now → e.0 ≢ x → ¬ In e.0 known.now }
 {

@@ -129,6 +129,7 @@ impl VariableList {
     }
 
     // Where the variable stands, from 0 on: eight comparisons at most, or one look-up.
+    #[inline(always)]
     pub fn place_of(&self, x: VarName) -> Option<usize>
         ensures found { IfSome result (λ place. slice_get self.now place ≡ Some x) }
         ensures none { IfNone result (¬ In x self.now) }
