@@ -127,9 +127,3 @@ given_table P i es f n j (k ∷ ks) T t index are is first there =
     let table : IsTableOf P (j ∷ ks) T = are f n j ks T (sym all ∙ ap (λ m. m ∷ ks) same) there in
     let here : j ∷ ks ≡ numbers_from 0 (keys_of_program P) f n = ap (λ m. m ∷ ks) (sym same) ∙ all in
     subst (λ l. AreNumbersWith P f n (Some t) (candidates_of T l t)) (sym all) (table_with P f n T t (subst (λ l. IsTableOf P l T) here table))
-
--- for a value a table gives its two lists merged
-pub candidates_value : (T : Table) (ks : List ℕ) (t : Tree) → IsValue t → candidates_of T ks t ≡ merged (numbers_of_top T t) T.unvalued.items
-candidates_value T ks (variable x) v = absurd v
-candidates_value T ks (integer k) v = refl
-candidates_value T ks (node f us) v = refl

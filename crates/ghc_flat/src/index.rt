@@ -73,6 +73,7 @@ impl Drop for Index {
 }
 
 // What the table has under the name: one comparison for each that stands before it.
+#[inline(always)]
 fn among<'a>(names: &'a IndexMap<Name, Arities>, name: &Name) -> Option<&'a Arities>
     ensures { option_copied result ≡ lookup (bytes_eq name.now) names.now.entries }
 {
@@ -85,6 +86,7 @@ fn among<'a>(names: &'a IndexMap<Name, Arities>, name: &Name) -> Option<&'a Arit
 }
 
 // The same: eight comparisons at most, or one look-up.
+#[inline(always)]
 fn found<'a>(names: &'a IndexMap<Name, Arities>, name: &Name) -> Option<&'a Arities>
     ensures { option_copied result ≡ lookup (bytes_eq name.now) names.now.entries }
 {
@@ -115,6 +117,7 @@ impl Index {
     }
 
     // The numbers at the name and the arity, in order: some comparisons, or a look-up, and a look-up.
+    #[inline(always)]
     pub(crate) fn numbers(&self, name: &Name, arity: usize) -> &[u32]
         ensures { result.now ≡ numbers_at self.now name.now arity }
     {
