@@ -63,7 +63,7 @@ module _ (c : Clause) (ts : List Tree) (s : StoreValue) (acyclic : IsAcyclic (va
       ]))
 
   -- all that it ends in
-  ends : (y : VarName) → Listing (StandsAt c ts S y)
+  pub ends : (y : VarName) → Listing (StandsAt c ts S y)
   ends y = restated (λ e h. (h.0, h.2.0, h.1, h.2.1)) (λ e h. (h.0, h.2, (h.1, h.3))) (through (λ t e. (xs : List VarName) × Leads S t xs e) (stands_for y) (λ t.
       let k = chains s acyclic t in
       one k.1 (k.0, k.2) (λ e l. (leads_once l.1 k.2).1)))
@@ -86,7 +86,7 @@ module _ (c : Clause) (ts : List Tree) (s : StoreValue) (acyclic : IsAcyclic (va
   guard_wants : Listing (GuardWants c ts S)
   guard_wants = over c.tests (TestWants c ts S) (λ g i. test_wants g)
 
-  says_no_decided : (g : Test) → Decided (SaysNo c ts S g)
+  pub says_no_decided : (g : Test) → Decided (SaysNo c ts S g)
   says_no_decided g = elim (some (test_wants g)) [
     | inl w ↦ inr (λ n. n.0 w.0 w.1)
     | inr m ↦ elim (holds_decided g) [

@@ -1,5 +1,5 @@
 -- What a head and a goal have at each position, and which heads fit.
-use Rattle.ghc_match.proofs.Words.{◌≡◌, ℕ, List, [], ◌∷◌, length, refl, sym, ◌∙◌, subst, inl, inr, ◌⊎◌, Option, Some, None, slice_get, ℤ_discrete, ℕ_discrete, coded_list, coded_ℕ, VarName, Tree, variable, integer, node, Trees, list_of, IsValue, Leads, at_integer, at_node, at_free, Passes, IsAcyclic, StoreValue, value_at, leads_once, Decided, some_decided, same_decided, Clause, At, here, down, unbound, AreAlike, HeadHas, StandsFor, Mismatch, HeadWants}
+use Rattle.ghc_match.proofs.Words.{◌≡◌, ℕ, List, [], ◌∷◌, length, refl, sym, ap, ◌∙◌, subst, inl, inr, ◌⊎◌, Option, Some, None, slice_get, ℤ_discrete, ℕ_discrete, coded_list, coded_ℕ, VarName, Tree, variable, integer, node, Trees, list_of, IsValue, Leads, at_integer, at_node, at_free, Passes, IsAcyclic, StoreValue, value_at, leads_once, Decided, some_decided, same_decided, Clause, At, here, down, unbound, AreAlike, HeadHas, StandsFor, Mismatch, HeadWants, MismatchIn}
 use Rattle.ghc_match.proofs.Chains.{leads_passes, passes_in, chains}
 use Rattle.ghc_match.proofs.Listings.{Listing, none, one, restated, itself, over, the_variable}
 use Rattle.ghc_match.proofs.Positions.{places, all_places, at_once, same_variable}
@@ -124,6 +124,23 @@ module _ (c : Clause) (ts : List Tree) (s : StoreValue) (acyclic : IsAcyclic (va
   mismatch_decided = elim (some_decided (places c.head) (λ e. Misses e.0) (λ e i. misses e.0)) [
     | inl m ↦ let k = m.2 in inl (m.0.0, k.0, k.1, k.2, k.3, k.4, k.5, k.6, k.7, k.8)
     | inr n ↦ inr (λ m. n ((m.0, m.1), all_places c.head m.5.0, (m.1, m.2, m.3, m.4, m.5, m.6, m.7, m.8, m.9)))
+  ]
+
+  -- .. and this position begins with i
+  abbrev MissesIn : ℕ → List ℕ → Type 0
+  MissesIn i q = (p : List ℕ) × (q ≡ i ∷ p) × Misses q
+
+  misses_in : (i : ℕ) (q : List ℕ) → Decided (MissesIn i q)
+  misses_in i [] = inr (λ m. let p = m.0 in let no : [] ≡ i ∷ p = m.1 in cc)
+  misses_in i (j ∷ q) = elim (ℕ_discrete j i) [
+    | no n ↦ inr (λ m. n (let p = m.0 in let both : j ∷ q ≡ i ∷ p = m.1 in cc))
+    | yes e ↦ elim (misses (j ∷ q)) [ inl m ↦ inl (q, ap (λ k. k ∷ q) e, m) | inr n ↦ inr (λ m. n m.2) ]
+  ]
+
+  pub mismatch_in_decided : (i : ℕ) → Decided (MismatchIn c ts S i)
+  mismatch_in_decided i = elim (some_decided (places c.head) (λ e. MissesIn i e.0) (λ e at. misses_in i e.0)) [
+    | inl m ↦ let w = m.2 in let k = subst Misses w.1 w.2 in inl (w.0, k.0, k.1, k.2, k.3, k.4, k.5, k.6, k.7, k.8)
+    | inr n ↦ inr (λ m. n ((i ∷ m.0, m.1), all_places c.head m.5.0, (m.0, refl, (m.1, m.2, m.3, m.4, m.5, m.6, m.7, m.8, m.9))))
   ]
 
   -- at this position the goal has the unbound variable x

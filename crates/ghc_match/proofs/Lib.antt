@@ -24,6 +24,8 @@ pub mod MatchHead
 pub mod GuardingLemmas
 pub mod SmallLemmas
 pub mod TryClause
+pub mod Refusals
+pub mod RefusalSearch
 pub mod FirstClash
 pub mod Ahead
 pub mod StandsLemmas

@@ -1,7 +1,9 @@
 -- How far the walk over a head has come, and what it has shown at its end.
-use Rattle.ghc_match.proofs.Words.{◌≡◌, Bool, List, [], ◌∷◌, ◌++◌, subst, inl, inr, ◌⊎◌, ◌↔◌, IsTrue, Option, Some, VarName, Tree, variable, In, Variables, IsSetOf, StoreValue, value_at, Clause, StandsFor, Mismatch, HeadWants, Gains, Clashes, Asks, Passed, standing, Opens, HeadLooksAt}
-use Rattle.ghc_match.proofs.WalkedPositions.{Meets, Walked, walk_goes_on}
-use Rattle.ghc_match.proofs.MeetingLemmas.{Seen, seen_on, IsFresh, fresh_on}
+use Rattle.ghc_match.proofs.Words.{◌≡◌, Bool, false, List, [], ◌∷◌, ◌++◌, zip, sym, subst, variables_of_list, AreDistinct, inl, inr, ◌⊎◌, ◌↔◌, IsTrue, Option, Some, VarName, Tree, variable, In, Variables, IsSetOf, StoreValue, value_at, Clause, StandsFor, Mismatch, HeadWants, Gains, Clashes, Asks, Passed, standing, Opens, HeadLooksAt}
+use Rattle.std.specs.FinMap as finite
+use Rattle.std.specs.FinSet as set
+use Rattle.ghc_match.proofs.WalkedPositions.{Meets, Walked, walk_begins, walk_goes_on}
+use Rattle.ghc_match.proofs.MeetingLemmas.{Seen, seen_nothing, seen_on, IsFresh, fresh_first, fresh_on}
 
 -- How far the walk has come: which pairs are done is known, what they have shown, and that the variables ahead are fresh.
 pub record HeadSoFar (S : VarName → Option Tree) (hs ts : List Tree) (clashes : Bool) (stands : StoreValue) (wanted looked : Variables) (ahead : List (Tree × Tree)) : Type 0 where
@@ -9,6 +11,16 @@ pub record HeadSoFar (S : VarName → Option Tree) (hs ts : List Tree) (clashes 
   pub walked : Walked S hs ts done ahead
   pub seen : Seen S done clashes stands wanted looked
   pub fresh : IsFresh stands ahead
+
+-- nothing is done yet
+pub head_begins : (S : VarName → Option Tree) (hs ts : List Tree) (b : Bool) (stands : StoreValue) (wanted looked : Variables)
+    → AreDistinct (variables_of_list hs) → b ≡ false → stands ≡ finite.empty → wanted ≡ set.empty → looked ≡ set.empty → HeadSoFar S hs ts b stands wanted looked (zip hs ts)
+head_begins S hs ts b stands wanted looked distinct quiet n m k = record {
+  done = [];
+  walked = walk_begins S hs ts;
+  seen = subst (λ c. Seen S [] c stands wanted looked) (sym quiet) (seen_nothing S stands wanted looked n m k);
+  fresh = fresh_first hs ts stands distinct n;
+}
 
 -- one pair more
 pub head_goes_on : (S : VarName → Option Tree) (hs ts : List Tree) (b c : Bool) (stands stands' : StoreValue) (wanted wanted' looked looked' : Variables) (all rest new : List (Tree × Tree)) (q : Tree × Tree)

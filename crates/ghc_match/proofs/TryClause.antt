@@ -1,5 +1,5 @@
 -- From what the head and the guard show to the outcome.
-use Rattle.ghc_match.proofs.Words.{◌≡◌, ◌<◌, Bool, true, false, List, inl, inr, sym, subst, ◌∙◌, ◌↔◌, Option, Some, IsTrue, VarName, In, Tree, variable, Variables, IsSetOf, StoreValue, value_at, member, no_member, Test, Compare as compare, Clause, variables_of_test, Wants, StandsAndEnds, HoldsBy, StandsFor, Mismatch, HeadWants, HeadFits, StandsAt, GuardSaysNo, LooksAt, refuses, waits, accepts, HasOutcome, Gains, HeadLooksAt, OneSaysNo, OneWants, GuardLooksAt}
+use Rattle.ghc_match.proofs.Words.{◌≡◌, ◌<◌, Bool, true, false, List, inl, inr, sym, subst, ◌∙◌, ◌↔◌, Option, Some, IsTrue, VarName, In, Tree, variable, Variables, IsSetOf, StoreValue, value_at, member, no_member, Test, Compare as compare, Clause, variables_of_test, Wants, StandsAndEnds, HoldsBy, StandsFor, Mismatch, HeadWants, HeadFits, StandsAt, SaysNo, GuardSaysNo, LooksAt, refuses, waits, accepts, HasOutcome, Gains, HeadLooksAt, HasValuesBy, IsSaid, No, OneSaysNo, OneWants, GuardLooksAt}
 use Rattle.std.specs.FinSet as set
 use Rattle.ghc_match.proofs.Values.{number_there}
 
@@ -7,6 +7,11 @@ use Rattle.ghc_match.proofs.Values.{number_there}
 holds_there : (E F : VarName → Tree → Type 0) → ((y : VarName) (e : Tree) → E y e → F y e) → (g : Test) → HoldsBy E g → HoldsBy F g
 holds_there E F f (compare o a b) h = (h.0, h.1, number_there h.2 (λ y e i. f y e), number_there h.3 (λ y e i. f y e), h.4)
 holds_there E F f _ h = (h.0, f _ h.0 h.1, h.2)
+
+-- .. and the values of its sides too
+values_over : (E F : VarName → Tree → Type 0) → ((y : VarName) (e : Tree) → E y e → F y e) → (g : Test) → HasValuesBy E g → HasValuesBy F g
+values_over E F f (compare o a b) h = (h.0, h.1, number_there h.2 (λ y e i. f y e), number_there h.3 (λ y e i. f y e))
+values_over E F f _ h = tt
 
 -- what is added to an empty set
 gained_alone : (old new : Variables) (P : VarName → Type 0) → set.len old ≡ 0 → Gains old new P → IsSetOf new P
@@ -24,6 +29,20 @@ module _ (c : Clause) (ts : List Tree) (S : VarName → Option Tree) (stands : S
 
   wants_back : (ys : List VarName) (x : VarName) → Wants (StandsAt c ts S) ys x → Wants (StandsAndEnds stands S) ys x
   wants_back ys x w = (w.0, w.1, back w.0 (variable x) w.2)
+
+  -- a test says no there too
+  pub no_there : (g : Test) → IsSaid (StandsAndEnds stands S) g No → SaysNo c ts S g
+  no_there g n = (λ x w. n.0 x (wants_back (variables_of_test g) x w), λ h. n.1 (holds_there (StandsAt c ts S) (StandsAndEnds stands S) back g h))
+
+  pub no_back : (g : Test) → SaysNo c ts S g → IsSaid (StandsAndEnds stands S) g No
+  no_back g n = (λ x w. n.0 x (wants_there (variables_of_test g) x w), λ h. n.1 (holds_there (StandsAndEnds stands S) (StandsAt c ts S) there g h))
+
+  -- its sides have values there too
+  pub values_there : (g : Test) → HasValuesBy (StandsAndEnds stands S) g → HasValuesBy (StandsAt c ts S) g
+  values_there g v = values_over (StandsAndEnds stands S) (StandsAt c ts S) there g v
+
+  pub values_back : (g : Test) → HasValuesBy (StandsAt c ts S) g → HasValuesBy (StandsAndEnds stands S) g
+  values_back g v = values_over (StandsAt c ts S) (StandsAndEnds stands S) back g v
 
   -- what is looked at, by the head and then by the guard
   pub all_looked_at : (old new : Variables) → IsSetOf old (HeadLooksAt c ts S) → {gs : List Test} → gs ≡ c.tests → Gains old new (GuardLooksAt stands S gs) → IsSetOf new (LooksAt c ts S)
@@ -63,10 +82,7 @@ module _ (c : Clause) (ts : List Tree) (S : VarName → Option Tree) (stands : S
         pub guard_refuses : says_no ≡ true → HasOutcome c ts S refuses
         guard_refuses e =
             let n = subst (λ hs. OneSaysNo (StandsAndEnds stands S) hs true) tests (subst (OneSaysNo (StandsAndEnds stands S) gs) e said) in
-            inr (
-              fits,
-              (n.0, n.1, (λ x w. n.2.0 x (wants_back (variables_of_test n.0) x w), λ h. n.2.1 (holds_there (StandsAt c ts S) (StandsAndEnds stands S) back n.0 h))),
-            )
+            inr (fits, (n.0, n.1, no_there n.0 n.2))
 
         module _ (silent : says_no ≡ false) (guard : Variables) (gains : Gains wanted guard (OneWants (StandsAndEnds stands S) gs)) where
           others : OneSaysNo (StandsAndEnds stands S) c.tests false

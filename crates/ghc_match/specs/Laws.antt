@@ -1,5 +1,5 @@
 -- Laws of matching and of values.
-use Rattle.std.specs.Prelude.{◌≡◌, List, Option}
+use Rattle.std.specs.Prelude.{◌≡◌, ◌↔◌, List, Option}
 use Rattle.ghc_term.specs.declared.var_name.VarName.{VarName}
 use Rattle.ghc_term.specs.Tree.{Tree}
 use Rattle.ghc_term.specs.Expression.{Expression}
@@ -8,7 +8,9 @@ use Rattle.ghc_term.specs.Store.{StoreValue, value_at}
 use Rattle.ghc_flat.specs.Clause.{Clause}
 use Rattle.ghc_flat.specs.Flat.{IsLinear}
 use Rattle.ghc_match.specs.Value.{Value, HasValue}
-use Rattle.ghc_match.specs.Match.{LooksAt, Outcome, HasOutcome}
+use Rattle.ghc_match.specs.Match.{LooksAt, Outcome, HasOutcome, Refuses}
+use Rattle.ghc_match.specs.Refusal.{RefusesAt}
+use Rattle.ghc_match.specs.declared.refusal.RefusalPlace.{RefusalPlace}
 use Rattle.ghc_match.specs.Looked.{ExpressionReaches}
 
 -- An expression has one value at most: it is a number, waits, or is bad, and only one of these.
@@ -38,3 +40,12 @@ abbrev pub OutcomeIsOfWhatIsLookedAt : Type 0
 OutcomeIsOfWhatIsLookedAt =
     (c : Clause) (ts : List Tree) (S S' : VarName → Option Tree) (o : Outcome) → HasOutcome c ts S o
     → ((x : VarName) → LooksAt c ts S x → S' x ≡ S x) → HasOutcome c ts S' o
+
+-- In an acyclic finite store a clause refuses exactly where there is a place at which it refuses.
+abbrev pub RefusesSomewhere : Type 0
+RefusesSomewhere =
+    (c : Clause) (ts : List Tree) (s : StoreValue) → IsAcyclic (value_at s) → Refuses c ts (value_at s) ↔ ((place : RefusalPlace) × RefusesAt c ts (value_at s) place)
+
+-- A clause refuses a call at one place at most.
+abbrev pub RefusesAtOnePlace : Type 0
+RefusesAtOnePlace = (c : Clause) (ts : List Tree) (S : VarName → Option Tree) (p q : RefusalPlace) → RefusesAt c ts S p → RefusesAt c ts S q → p ≡ q

@@ -1,6 +1,7 @@
 pub mod Position
 pub mod Value
 pub mod Match
+pub mod Refusal
 pub mod Looked
 pub mod Laws
 pub mod Facts

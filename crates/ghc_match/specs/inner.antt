@@ -4,6 +4,7 @@ pub mod First
 pub mod Guarding
 pub mod Meeting
 pub mod Places
+pub mod Refusing
 pub mod Small
 pub mod Stands
 pub mod Tasks

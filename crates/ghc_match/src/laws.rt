@@ -1,5 +1,5 @@
 // Laws of matching and of values, each as the contract of a function.
-ghost use Rattle.ghc_match.specs.Laws.{ValuesExclude, EachExpressionHasAValue, ValueLooksAtItsTerms, OutcomesExclude, EachClauseHasAnOutcome, OutcomeIsOfWhatIsLookedAt};
+ghost use Rattle.ghc_match.specs.Laws.{ValuesExclude, EachExpressionHasAValue, ValueLooksAtItsTerms, OutcomesExclude, EachClauseHasAnOutcome, OutcomeIsOfWhatIsLookedAt, RefusesSomewhere, RefusesAtOnePlace};
 
 /// An expression is a number, waits or is bad, only one of these and only in one way.
 pub fn values_exclude()
@@ -29,4 +29,14 @@ pub fn each_clause_has_an_outcome()
 /// Stores that agree on what a clause looks at give it one outcome.
 pub fn outcome_is_of_what_is_looked_at()
     ensures { OutcomeIsOfWhatIsLookedAt }
+{}
+
+/// In an acyclic finite store a clause refuses exactly where there is a place at which it refuses.
+pub fn refuses_somewhere()
+    ensures { RefusesSomewhere }
+{}
+
+/// A clause refuses a call at one place at most.
+pub fn refuses_at_one_place()
+    ensures { RefusesAtOnePlace }
 {}

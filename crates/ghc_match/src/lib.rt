@@ -13,6 +13,7 @@ mod leaves;
 mod number;
 mod passing;
 mod places;
+mod refusal;
 mod scope;
 mod small;
 mod stands;
@@ -28,9 +29,11 @@ pub use guard::Says;
 pub use head::Met;
 pub use laws::{
     each_clause_has_an_outcome, each_expression_has_a_value, outcome_is_of_what_is_looked_at,
-    outcomes_exclude, value_looks_at_its_terms, values_exclude,
+    outcomes_exclude, refuses_at_one_place, refuses_somewhere, value_looks_at_its_terms,
+    values_exclude,
 };
 pub use places::Places;
+pub use refusal::{RefusalPlace, refusal_place};
 pub use stands::Stands;
 pub use trying::{Outcome, Tried, lay_clause, try_clause};
 pub use until_no::lay_until_no;

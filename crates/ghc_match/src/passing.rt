@@ -9,6 +9,7 @@ use ghc_term::{Store, Term, TermView, Variables};
 use std::alloc::AllocError;
 
 // The end of the term's chain, whose variables are added to those looked at. One look-up for each of them.
+#[inline(always)]
 pub fn follow_noting<'a>(
     store: &'a Store,
     term: &'a Term,

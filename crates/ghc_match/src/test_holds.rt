@@ -1,7 +1,8 @@
-// Whether a test of a guard holds.
+// Whether a test of a guard holds, and whether it has values to compare.
 ghost use Rattle.std.specs.Prelude.{◌↔◌, IfOk, IsTrue};
 ghost use Rattle.ghc_term.specs.Store.{value_at};
 ghost use Rattle.ghc_match.specs.Match.{HoldsBy};
+ghost use Rattle.ghc_match.specs.Refusal.{HasValuesBy};
 ghost use Rattle.ghc_match.specs.inner.Ends.{StandsAndEnds};
 ghost use Rattle.ghc_match.specs.inner.Guarding.{TellsValue};
 
@@ -72,4 +73,23 @@ pub fn holds(
             holds_between(alloc, store, stands, *comparison, left, right)
         }
     }
+}
+
+// Whether each side of the test has a value, if it compares.
+pub fn has_values(
+    alloc: Global,
+    store: &Store,
+    stands: &Stands<'_>,
+    test: &Test,
+) -> Result<bool, AllocError>
+    ensures { IfOk result (λ yes. IsTrue yes ↔ HasValuesBy (StandsAndEnds stands.now (value_at store.now.held)) test.now) }
+{
+    let Test::Compare(_, left, right) = test else {
+        return Ok(true);
+    };
+    let scope = Scope::Head(stands);
+    if integer_of(alloc, store, scope, left)?.is_none() {
+        return Ok(false);
+    }
+    Ok(integer_of(alloc, store, scope, right)?.is_some())
 }

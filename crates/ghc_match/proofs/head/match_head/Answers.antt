@@ -1,7 +1,7 @@
-use Rattle.ghc_match.proofs.Words.{◌≡◌, ◌<◌, [], ◌++◌, sym, ap, ◌∙◌, subst, zip, value_at, Tree, ahead_in, ahead_of, all_ahead}
-use Rattle.ghc_match.proofs.WalkedPositions.{Walked, walk_begins, walk_ends, head_parts, opens_more}
-use Rattle.ghc_match.proofs.MeetingLemmas.{Seen, IsFresh, seen_nothing, fresh_first, fresh_last}
-use Rattle.ghc_match.proofs.MatchHead.{HeadSoFar, head_goes_on, all_clashes, all_stands, all_wanted, all_looked}
+use Rattle.ghc_match.proofs.Words.{◌≡◌, ◌<◌, ◌++◌, sym, ap, ◌∙◌, subst, zip, value_at, Tree, ahead_in, ahead_of, all_ahead}
+use Rattle.ghc_match.proofs.WalkedPositions.{walk_ends, head_parts, opens_more}
+use Rattle.ghc_match.proofs.MeetingLemmas.{IsFresh, fresh_last}
+use Rattle.ghc_match.proofs.MatchHead.{HeadSoFar, head_begins, head_goes_on, all_clashes, all_stands, all_wanted, all_looked}
 use Rattle.ghc_match.proofs.head.match_head.Goals as goal
 
 pub loop-head-init : goal.loop-head-init
@@ -13,12 +13,8 @@ loop-head-init c =
     let met = c.args.met.now in
     let nothing = c.requires.nothing in
     let first : all_ahead here c.new-pending.result.items ≡ zip hs ts = ap (λ l. ahead_of l ++ ahead_in here) c.new-pending.ensures.items ∙ c.all-here.ensures ∙ ap (λ l. zip l ts) c.head.ensures in
-    record {
-      done = [];
-      walked = subst (Walked S hs ts []) (sym first) (walk_begins S hs ts);
-      seen = subst (λ b. Seen S [] b met.stands met.wanted met.looked) (sym nothing.0) (seen_nothing S met.stands met.wanted met.looked nothing.1 nothing.2 nothing.3);
-      fresh = subst (IsFresh met.stands) (sym first) (fresh_first hs ts met.stands c.requires.linear nothing.1);
-    }
+    subst (HeadSoFar S hs ts met.clashes met.stands met.wanted met.looked) (sym first)
+    (head_begins S hs ts met.clashes met.stands met.wanted met.looked c.requires.linear nothing.0 nothing.1 nothing.2 nothing.3)
 
 pub visit-requires : goal.visit-requires
 visit-requires c =
