@@ -128,6 +128,7 @@ fn reduce_by_choice(
 }
 
 // The step that unifies the two sides.
+#[inline(always)]
 fn reduce_unification(
     alloc: Global,
     store: &Store,

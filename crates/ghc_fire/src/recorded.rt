@@ -26,6 +26,7 @@ fn none_but_memory(fault: Fault) -> Result<Option<Effect>, AllocError>
 }
 
 // The effect of the call's reduction by the clause of this number, as this step; none where the clause does not accept it.
+#[inline(always)]
 fn by_clause(
     alloc: Global,
     program: &Program,
@@ -46,6 +47,7 @@ fn by_clause(
 }
 
 // The effect of the unification of the two sides; none where they cannot be made equal.
+#[inline(always)]
 fn by_unification(
     alloc: Global,
     store: &Store,
@@ -80,6 +82,7 @@ fn by_assignment(
 }
 
 // The effect of the act on the goal as the step of this number, if it has one.
+#[inline(always)]
 fn effect_of(
     alloc: Global,
     program: &Program,
