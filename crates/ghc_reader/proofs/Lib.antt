@@ -37,6 +37,7 @@ pub mod AmountLemmas
 pub mod Counting
 pub mod OneReading
 pub mod MisplacedWithin
+pub mod HeadLines
 pub mod Names
 pub mod Scopes
 pub mod TermsLowered

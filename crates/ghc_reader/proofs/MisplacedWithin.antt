@@ -34,7 +34,7 @@ arguments_longer a ts = omega (arith, ap length (arguments_append a [] ts), leng
 tests_longer : (x : Tests) (ts : List Token) → length ts ≤ length (tests x ts)
 tests_longer x ts = omega (arith, ap length (tests_append x [] ts), length-append (tests x []) ts)
 
-clause_longer : (c : Clause) (ts : List Token) → length ts ≤ length (clause c ts)
+pub clause_longer : (c : Clause) (ts : List Token) → length ts ≤ length (clause c ts)
 clause_longer c ts = omega (arith, ap length (clause_append c [] ts), length-append (clause c []) ts)
 
 -- ---- goals, for a test on calls

@@ -14,6 +14,7 @@ pub mod Limits
 pub mod Written
 pub mod Tests
 pub mod Lowered
+pub mod ClauseLines
 pub mod WrittenAsk
 pub mod Read
 pub mod PrintedGoals

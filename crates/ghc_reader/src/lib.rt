@@ -2,6 +2,7 @@
 #![tactic(auto)]
 
 mod ask;
+mod clause_lines;
 mod clause_parser;
 mod depth;
 mod expression_parser;
@@ -24,9 +25,12 @@ mod token;
 mod written;
 
 pub use ask::WrittenAsk;
+pub use clause_lines::ClauseLines;
 pub use laws::{
     printed_goals_are_read_again, printed_terms_are_read_again, read_ask_is_exact,
     read_body_is_exact, read_ground_term_is_exact, read_program_is_exact, read_query_is_exact,
 };
-pub use read::{read_ask, read_body, read_ground_term, read_program, read_query};
+pub use read::{
+    read_ask, read_body, read_clause_lines, read_ground_term, read_program, read_query,
+};
 pub use written::{Guard, Query, Source, WrittenClause};

@@ -1,14 +1,16 @@
 // From the bytes of a text to its parse tree: the tests that a text has to pass, one after the other.
 ghost use Rattle.std.specs.Prelude.{true, false, Bool, List, ℕ, ◌≡◌, ◌⊎◌, ◌+◌, ◌<◌, length, IfOk, IfErr};
 ghost use Rattle.ghc_reader.specs.inner.Views.{view, goal_views, clause_views};
-ghost use Rattle.ghc_reader.specs.declared.lexer.value.Reserved.TheVariants.{Allowed};
+ghost use Rattle.ghc_reader.specs.declared.lexer.value.Reserved.TheVariants.{Allowed, Refused};
 ghost use Rattle.ghc_term.specs.Limit.{text_limit};
 ghost use Rattle.ghc_reader.specs.Limits.{of_query};
 ghost use Rattle.ghc_reader.specs.Viable.{IfSyntax};
+ghost use Rattle.ghc_reader.specs.ClauseLines.{AreClauseLines};
 ghost use Rattle.ghc_reader.specs.Tests.{a_program, a_query, asked, an_ask, a_body, a_term, IsShallow, IsRead, IsFaultAt, IsTokenRefusal, IsRefusal};
 
 pub(crate) mod laws;
 
+use crate::clause_lines::{ClauseLines, lines_of};
 use crate::depth::{MOST_OPEN_IN_BODY, is_deeper_than, is_too_deep};
 use crate::input_parser::parse_term;
 use crate::lexer::value::Reserved;
@@ -74,6 +76,27 @@ pub(crate) fn parsed_program(alloc: Global, text: &[u8]) -> Result<Vec<SourceCla
     ensures too_long { text_limit < length text.now → result ≡ Err (Fault.Limit Limit.Text) }
 {
     let lexed = shallow_tokens(alloc, text, Reserved::Refused)?;
+    program_clauses(alloc, &lexed)
+}
+
+/// The lines at which the clauses of the text of a program begin, or its refusal, as `parsed_program`.
+pub(crate) fn parsed_lines(alloc: Global, text: &[u8]) -> Result<ClauseLines, Fault>
+    ensures found { IfOk result (AreClauseLines text.now) }
+    ensures fault { IfErr result (λ fault. (fault ≡ Fault.Memory) ⊎ IsRefusal a_program text.now fault) }
+{
+    let lexed = shallow_tokens(alloc, text, Reserved::Refused)?;
+    let clauses = program_clauses(alloc, &lexed)?;
+    Ok(lines_of(alloc, &clauses, &lexed)?)
+}
+
+// The clauses that the tokens of the text of a program say.
+fn program_clauses(alloc: Global, lexed: &Lexed) -> Result<Vec<SourceClause>, Fault>
+    requires { length lexed.now.places.items ≡ length lexed.now.tokens.items + 1 }
+    ensures found { (text : List ℕ) → IsShallow Refused true text lexed.now.tokens.items lexed.now.places.items
+        → IfOk result (λ clauses. IsRead a_program text (clause_views clauses.items)) }
+    ensures fault { (text : List ℕ) → IsShallow Refused true text lexed.now.tokens.items lexed.now.places.items
+        → IfErr result (λ fault. (fault ≡ Fault.Memory) ⊎ IsRefusal a_program text fault) }
+{
     let clauses = match parse_program(alloc, &lexed.tokens) {
         Ok(clauses) => clauses,
         Err(error) => return Err(fault_of(error, &lexed.places)),

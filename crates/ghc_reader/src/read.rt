@@ -3,12 +3,16 @@ ghost use Rattle.std.specs.Prelude.{◌≡◌, ◌<◌, length};
 ghost use Rattle.ghc_term.specs.Answered.{Answered};
 ghost use Rattle.ghc_term.specs.declared.limit.Limit.TheVariants.{Text};
 ghost use Rattle.ghc_term.specs.Limit.{text_limit};
+ghost use Rattle.ghc_reader.specs.ClauseLines.{AreClauseLines};
 ghost use Rattle.ghc_reader.specs.Tests.{a_program, a_query, a_term, an_ask, a_body, IsRefusal};
 ghost use Rattle.ghc_reader.specs.Read.{IsReadProgram, IsReadQuery, IsReadTerm, IsReadAsk, IsReadBody};
 
 use crate::ask::WrittenAsk;
+use crate::clause_lines::ClauseLines;
 use crate::lowering::{lower_ask, lower_closed, lower_program, lower_query};
-use crate::parse_trees::{parsed_ask, parsed_body, parsed_program, parsed_query, parsed_term};
+use crate::parse_trees::{
+    parsed_ask, parsed_body, parsed_lines, parsed_program, parsed_query, parsed_term,
+};
 use crate::written::{Query, Source};
 use ghc_term::{Fault, Ground, Name};
 use std::alloc::Global;
@@ -24,6 +28,14 @@ pub fn read_program(alloc: Global, text: &[u8]) -> Result<Source, Fault>
     let clauses = parsed_program(alloc, text)?;
     let source = lower_program(alloc, &clauses)?;
     Ok(source)
+}
+
+/// The lines at which the clauses of a program begin that a text says, or its refusal, as `read_program`. Time and memory grow with
+/// the text.
+pub fn read_clause_lines(alloc: Global, text: &[u8]) -> Result<ClauseLines, Fault>
+    ensures { Answered (AreClauseLines text.now) (IsRefusal a_program text.now) result }
+{
+    parsed_lines(alloc, text)
 }
 
 /// The query that a text says, or its refusal, as `read_program`; there is no `Limit::Clauses`.
