@@ -82,7 +82,7 @@ in_taken n steps k i =
     subst (In k) (sym (map-append number_of (take n steps) (drop n steps)) ∙ ap (map number_of) (take-append-drop n steps))
     (in_left (map number_of (take n steps)) (map number_of (drop n steps)) k i)
 
-distinct_taken : (n : ℕ) (steps : List Step) → AreDistinct (map number_of steps) → AreDistinct (map number_of (take n steps))
+pub distinct_taken : (n : ℕ) (steps : List Step) → AreDistinct (map number_of steps) → AreDistinct (map number_of (take n steps))
 distinct_taken zero steps d = tt
 distinct_taken (suc n) [] d = tt
 distinct_taken (suc n) (s ∷ steps) d = ((λ i. d.0 (in_taken n steps s.number i)), distinct_taken n steps d.1)

@@ -14,7 +14,10 @@ pub mod InOrder
 pub mod InTurn
 pub mod NumberSets
 pub mod RisingNumbers
+pub mod StepNumbers
 pub mod StepUsers
+pub mod StepsBelow
+pub mod ReadHistories
 pub mod NearUsers
 pub mod VariableBinders
 pub mod Giving

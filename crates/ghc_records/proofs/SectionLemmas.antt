@@ -28,7 +28,7 @@ module _ {A : Type 0} (Says : List ℕ → A → Type 0) (Fit : List A → Type 
   }
 
   module _ (pieces : List (List ℕ)) (index : ℕ) (rest : List ℕ) (items : List A) (has : HasRead pieces index rest items) where
-    at_rest : drop (length items) pieces ≡ pieces_of rest
+    pub at_rest : drop (length items) pieces ≡ pieces_of rest
     at_rest = ap (λ n. drop n pieces) has.all ∙ has.at
 
     -- one line more tells one item more

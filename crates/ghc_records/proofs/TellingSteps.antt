@@ -1,5 +1,6 @@
 -- Lemmas on lines that tell steps with numbers of their own, as they are read one by one.
-use Rattle.ghc_records.proofs.Words.{◌≡◌, ℕ, ◌+◌, ◌<◌, ◌⊎◌, inl, inr, List, [], ◌∷◌, ◌++◌, length, map, refl, sym, ap, ◌∙◌, subst, Option, Some, None, IfSome, ◌↔◌, map-append, Fault, In, in_last, in_more, AreDistinct, Step, IsLineOf, SaysStep, TellsItems, TellsNext, TellsNoMore, TellsNoMoreItems, TellsSteps, pieces_of}
+use Rattle.ghc_records.proofs.Words.{◌≡◌, ℕ, ◌+◌, ◌<◌, ◌⊎◌, inl, inr, List, [], ◌∷◌, ◌++◌, map, refl, sym, ◌∙◌, subst, arith, Option, Some, None, IfSome, ◌↔◌, map-append, In, in_last, AreDistinct, Step, IsLineOf, SaysStep, TellsItems, TellsNext, TellsNoMore, TellsNoMoreItems, TellsSteps, pieces_of}
+use Rattle.ghc_records.specs.inner.StepNumbers.{HaveOwnNumbers}
 use Rattle.ghc_records.proofs.CutLemmas.{line_is}
 use Rattle.ghc_records.proofs.NumberSets.{distinct_pushed, in_pushed}
 use Rattle.ghc_records.proofs.Saying.{one_step_number}
@@ -15,61 +16,57 @@ last_is_new (x ∷ ks) k d (inr i) = last_is_new ks k d.1 i
 
 -- steps with numbers of their own, of each of which P holds
 abbrev pub AreApart : (Step → Type 0) → List Step → Type 0
-AreApart P steps = AreDistinct (map number_of steps) × ((s : Step) → In s steps → P s)
-
--- The fault names the line after those that tell such steps; two more stand in front of them.
-abbrev IsWrongStep : (Step → Type 0) → List (List ℕ) → ℕ → Fault → Type 0
-IsWrongStep P pieces count fault = (steps : List Step) × (fault ≡ Fault.History (length steps + 3)) × TellsNoMoreItems SaysStep (AreApart P) pieces count steps
+AreApart P steps = HaveOwnNumbers steps × ((s : Step) → In s steps → P s)
 
 -- The keys are the numbers of the steps.
 abbrev HaveNumbers : List ℕ → List Step → Type 0
 HaveNumbers keys steps = (n : ℕ) → In n keys ↔ In n (map number_of steps)
 
--- the first of these pieces are lines that tell such steps, which have these numbers
-abbrev pub HasTold : (Step → Type 0) → List (List ℕ) → ℕ → List ℕ → List ℕ → List Step → Type 0
-HasTold P pieces index rest keys steps = HasRead SaysStep (AreApart P) pieces index rest steps × HaveNumbers keys steps
+-- the first of these pieces are lines that tell steps with numbers of their own, which are the keys
+abbrev pub HasTold : List (List ℕ) → ℕ → List ℕ → List ℕ → List Step → Type 0
+HasTold pieces index rest keys steps = HasRead SaysStep HaveOwnNumbers pieces index rest steps × HaveNumbers keys steps
 
-module _ (P : Step → Type 0) where
-  -- at the start the text has told nothing
-  pub nothing_told : (text keys : List ℕ) (steps : List Step) → keys ≡ [] → steps ≡ [] → HasTold P (pieces_of text) 0 text keys steps
-  nothing_told text keys steps no_keys no_steps = (
-    nothing_read SaysStep (AreApart P) text steps no_steps (tt, λ s i. absurd i),
-    subst (HaveNumbers keys) (sym no_steps) (subst (λ l. HaveNumbers l []) (sym no_keys) (λ n. (λ i. i, λ i. i))),
-  )
+-- the pieces tell no step more with a number of its own
+abbrev pub TellsNoOther : List (List ℕ) → List Step → Type 0
+TellsNoOther pieces steps = (s : Step) → ¬ TellsItems SaysStep HaveOwnNumbers pieces (steps ++ s ∷ [])
 
-  module _ (pieces : List (List ℕ)) (count index : ℕ) (rest keys : List ℕ) (steps : List Step) (has : HasTold P pieces index rest keys steps) where
-    wrong : index < count → ((line : List ℕ) (s : Step) → IsLineOf (pieces_of rest) 0 line → SaysStep line s → ¬ AreApart P (steps ++ s ∷ []))
-        → IsWrongStep P pieces count (Fault.History (index + 3))
-    wrong low none = (steps, ap (λ n. Fault.History (n + 3)) (sym has.0.all), no_more_read SaysStep (AreApart P) pieces index rest steps has.0 count low none)
+-- at the start the text has told nothing
+pub nothing_told : (text keys : List ℕ) (steps : List Step) → keys ≡ [] → steps ≡ [] → HasTold (pieces_of text) 0 text keys steps
+nothing_told text keys steps no_keys no_steps = (
+  nothing_read SaysStep HaveOwnNumbers text steps no_steps tt,
+  subst (HaveNumbers keys) (sym no_steps) (subst (λ l. HaveNumbers l []) (sym no_keys) (λ n. (λ i. i, λ i. i))),
+)
 
-    -- the number of the step that the line says is there already
-    pub wrong_again : (s : Step) (behind : List ℕ) → index < count → SaysNext SaysStep (AreApart P) rest s behind → In s.number keys → IsWrongStep P pieces count (Fault.History (index + 3))
-    wrong_again s behind low (line, is, says) i = wrong low (λ other t stands other_says fit.
-        let same = line_is (pieces_of rest) 0 rest line behind other refl is stands in
-        let number = one_step_number line s t says (subst (λ l. SaysStep l t) same other_says) in
-        let told = subst (λ n. In n (map number_of steps)) number ((has.1 s.number).0 i) in
-        last_is_new (map number_of steps) t.number (subst AreDistinct (map-append number_of steps (t ∷ [])) fit.0) told)
+module _ (pieces : List (List ℕ)) (index : ℕ) (rest keys : List ℕ) (steps : List Step) (has : HasTold pieces index rest keys steps) where
+  wrong : ((line : List ℕ) (s : Step) → IsLineOf (pieces_of rest) 0 line → SaysStep line s → ¬ HaveOwnNumbers (steps ++ s ∷ [])) → TellsNoOther pieces steps
+  wrong none = let (told, low, other) = no_more_read SaysStep HaveOwnNumbers pieces index rest steps has.0 (index + 1) (omega arith) none in other
 
-    -- no line says a step of which P holds
-    pub wrong_line : index < count → ((line : List ℕ) (s : Step) → IsLineOf (pieces_of rest) 0 line → SaysStep line s → ¬ P s) → IsWrongStep P pieces count (Fault.History (index + 3))
-    wrong_line low none = wrong low (λ line s stands says fit. none line s stands says (fit.1 s (in_last steps s)))
+  -- the number of the step that the line says is there already
+  pub wrong_again : (s : Step) (behind : List ℕ) → SaysNext SaysStep HaveOwnNumbers rest s behind → In s.number keys → TellsNoOther pieces steps
+  wrong_again s behind (line, is, says) i = wrong (λ other t stands other_says fit.
+      let same = line_is (pieces_of rest) 0 rest line behind other refl is stands in
+      let number = one_step_number line s t says (subst (λ l. SaysStep l t) same other_says) in
+      let told = subst (λ n. In n (map number_of steps)) number ((has.1 s.number).0 i) in
+      last_is_new (map number_of steps) t.number (subst AreDistinct (map-append number_of steps (t ∷ [])) fit) told)
 
-    -- one line more tells one step more
-    pub one_more_put : (s : Step) (behind : List ℕ) (n : ℕ) (new_keys : List ℕ) (new_steps : List Step) → SaysNext SaysStep (AreApart P) rest s behind → n ≡ s.number → ¬ In n keys → P s → ((m : ℕ) → In m new_keys ↔ (In m keys ⊎ (m ≡ n)))
-        → new_steps ≡ steps ++ s ∷ [] → HasTold P pieces (index + 1) behind new_keys new_steps
-    one_more_put s behind n new_keys new_steps says is new holds put pushed =
-        let unused = λ (i : In s.number (map number_of steps)). new ((has.1 n).1 (subst (λ m. In m (map number_of steps)) (sym is) i)) in
-        let fit : AreApart P (steps ++ s ∷ []) = (
-          subst AreDistinct (sym (map-append number_of steps (s ∷ []))) (distinct_pushed (map number_of steps) s.number has.0.told.fit.0 unused),
-          λ t i. elim (in_more steps s t i) [ inl h ↦ has.0.told.fit.1 t h | inr e ↦ subst P (sym e) holds ],
-        ) in (
-          subst (HasRead SaysStep (AreApart P) pieces (index + 1) behind) (sym pushed)
-              (one_more_read SaysStep (AreApart P) pieces index rest steps has.0 s behind says fit),
-          subst (HaveNumbers new_keys) (sym pushed) (λ m. subst (λ l. In m new_keys ↔ In m l) (sym (map-append number_of steps (s ∷ []))) (
-            λ i. (in_pushed (map number_of steps) s.number m).1 (elim ((put m).0 i) [ inl j ↦ inl ((has.1 m).0 j) | inr e ↦ inr (e ∙ is) ]),
-            λ i. (put m).1 (elim ((in_pushed (map number_of steps) s.number m).0 i) [ inl j ↦ inl ((has.1 m).1 j) | inr e ↦ inr (e ∙ sym is) ]),
-          )),
-        )
+  -- no line says a step
+  pub wrong_line : ((line : List ℕ) (s : Step) → IsLineOf (pieces_of rest) 0 line → ¬ SaysStep line s) → TellsNoOther pieces steps
+  wrong_line none = wrong (λ line s stands says fit. none line s stands says)
+
+  -- one line more tells one step more
+  pub one_more_put : (s : Step) (behind : List ℕ) (n : ℕ) (new_keys : List ℕ) (new_steps : List Step) → SaysNext SaysStep HaveOwnNumbers rest s behind → n ≡ s.number → ¬ In n keys → ((m : ℕ) → In m new_keys ↔ (In m keys ⊎ (m ≡ n)))
+      → new_steps ≡ steps ++ s ∷ [] → HasTold pieces (index + 1) behind new_keys new_steps
+  one_more_put s behind n new_keys new_steps says is new put pushed =
+      let unused = λ (i : In s.number (map number_of steps)). new ((has.1 n).1 (subst (λ m. In m (map number_of steps)) (sym is) i)) in
+      let fit : HaveOwnNumbers (steps ++ s ∷ []) =
+      subst AreDistinct (sym (map-append number_of steps (s ∷ []))) (distinct_pushed (map number_of steps) s.number has.0.told.fit unused) in (
+        subst (HasRead SaysStep HaveOwnNumbers pieces (index + 1) behind) (sym pushed)
+            (one_more_read SaysStep HaveOwnNumbers pieces index rest steps has.0 s behind says fit),
+        subst (HaveNumbers new_keys) (sym pushed) (λ m. subst (λ l. In m new_keys ↔ In m l) (sym (map-append number_of steps (s ∷ []))) (
+          λ i. (in_pushed (map number_of steps) s.number m).1 (elim ((put m).0 i) [ inl j ↦ inl ((has.1 m).0 j) | inr e ↦ inr (e ∙ is) ]),
+          λ i. (put m).1 (elim ((in_pushed (map number_of steps) s.number m).0 i) [ inl j ↦ inl ((has.1 m).1 j) | inr e ↦ inr (e ∙ sym is) ]),
+        )),
+      )
 
 -- ---- below the next step
 
@@ -87,9 +84,8 @@ module _ (pieces : List (List ℕ)) (count : ℕ) where
   pub as_steps : (steps : List Step) → TellsItems SaysStep (AreApart (IsBelow pieces count)) pieces steps → TellsSteps pieces count steps
   as_steps steps told = record { each = told.each; distinct = told.fit.0; below = λ next s ends i. told.fit.1 s i next ends }
 
-  pub no_more_steps : (fault : Fault) → IsWrongStep (IsBelow pieces count) pieces count fault
-      → (steps : List Step) × (fault ≡ Fault.History (length steps + 3)) × TellsNoMore pieces count steps
-  no_more_steps fault (steps, is, h) = (steps, is, (as_steps steps h.0, h.1, λ s told. h.2 s (as_items (steps ++ s ∷ []) told)))
+  pub no_more_steps : (steps : List Step) → TellsNoMoreItems SaysStep (AreApart (IsBelow pieces count)) pieces count steps → TellsNoMore pieces count steps
+  no_more_steps steps h = (as_steps steps h.0, h.1, λ s told. h.2 s (as_items (steps ++ s ∷ []) told))
 
   -- the bound is what the end tells
   module _ (bound : Option ℕ) (ends : (next : ℕ) → (bound ≡ Some next) ↔ TellsNext pieces count next) (s : Step) where

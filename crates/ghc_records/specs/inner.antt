@@ -6,4 +6,5 @@ pub mod HistoryCode
 pub mod NumberSet
 pub mod RecordCode
 pub mod Slots
+pub mod StepNumbers
 pub mod WrittenEntryCode

@@ -102,6 +102,7 @@ impl State {
     }
 
     /// Makes room to take this step. The state stays, and so does the room where memory is refused.
+    #[inline(always)]
     pub fn reserve_for(&mut self, step: &Record) -> Result<(), AllocError>
         ensures held { self.new.held ≡ self.old.held }
         ensures room { OnOk result (HasRoomToTake self.new.room step.now) }

@@ -16,5 +16,7 @@ pub(crate) mod history_reading;
 pub(crate) mod history_writing;
 pub(crate) mod opening_reading;
 pub(crate) mod predicate_reading;
+pub(crate) mod step_numbers;
 pub(crate) mod step_reading;
 pub(crate) mod step_text;
+pub(crate) mod steps_reading;

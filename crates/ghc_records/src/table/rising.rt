@@ -34,7 +34,7 @@ pub(crate) fn rising_three(two: &[u32; 2], third: u32) -> [u32; 3]
 }
 
 // Whether the number is greater than all of the list: one step.
-fn is_above(list: &[u32], number: u32) -> bool
+pub(crate) fn is_above(list: &[u32], number: u32) -> bool
     requires { IsRising list.now }
     ensures { IsTrue result ↔ ((n : ℕ) → In n list.now → n < number) }
 {

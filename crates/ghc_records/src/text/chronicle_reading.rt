@@ -52,7 +52,7 @@ fn open(alloc: Global, text: &[u8]) -> Result<(History, &[u8]), Fault>
         return Err(Fault::History { line: 2 });
     };
     match read_opening_steps(alloc, told, count, next) {
-        Ok((steps, rest)) => Ok((History::new(steps, next), rest)),
+        Ok((steps, rest)) => Ok((History::new(alloc, steps, next)?, rest)),
         Err(fault) => Err(fault),
     }
 }

@@ -13,10 +13,12 @@ pub(crate) fn cut(bytes: &[u8], mark: u8) -> Option<(&[u8], &[u8])>
     ensures plain { IfSome result (λ parts. All (λ b. b ≢ mark) parts.0.now) }
     ensures none { IfNone result (All (λ b. b ≢ mark) bytes.now) }
 {
-    match bytes.iter().position(|b| *b == mark) {
-        Some(i) => Some((&bytes[..i], &bytes[i + 1..])),
-        None => None,
+    for place in 0..bytes.len() {
+        if bytes[place] == mark {
+            return Some((&bytes[..place], &bytes[place + 1..]));
+        }
     }
+    None
 }
 
 // The first line of a text, and what follows its line feed; none where no line feed is left.

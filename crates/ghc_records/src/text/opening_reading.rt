@@ -8,10 +8,9 @@ ghost use Rattle.ghc_records.specs.Sections.{TellsItems, TellsNoMoreItems};
 ghost use Rattle.ghc_records.specs.Chronicle.{AreBelow};
 
 use crate::step::Step;
-use crate::text::history_reading::{add_number, next_step};
+use crate::text::steps_reading::{count_below, read_steps};
 use ghc_term::Fault;
 use std::alloc::Global;
-use std::collections::BTreeSet;
 
 // So many steps, which the first lines say, with numbers of their own, below the next one, and what follows them. Else the first of these
 // lines that is wrong, where the first is the third line of the text.
@@ -28,21 +27,10 @@ pub(crate) fn read_opening_steps<'a>(
     ensures fault { IfErr result (λ fault. (fault ≡ fault_spec.Memory) ⊎ ((items : List step_spec) × (fault ≡ fault_spec.History (length items + 3))
         × TellsNoMoreItems SaysStep (AreBelow next) (pieces_of text.now) count items)) }
 {
-    let mut steps = Vec::new(alloc);
-    let mut numbers = BTreeSet::new(alloc);
-    let mut rest = text;
-    for index in 0..count {
-        match next_step(alloc, rest, Some(next)) {
-            Ok(Some((step, further))) => {
-                if !add_number(&mut numbers, step.number())? {
-                    return Err(Fault::History { line: index + 3 });
-                }
-                steps.push(step)?;
-                rest = further;
-            }
-            Ok(None) => return Err(Fault::History { line: index + 3 }),
-            Err(_) => return Err(Fault::Memory),
-        }
+    let (steps, rest) = read_steps(alloc, text, count)?;
+    let right = count_below(steps.as_slice(), Some(next));
+    if right < count {
+        return Err(Fault::History { line: right + 3 });
     }
     Ok((steps, rest))
 }

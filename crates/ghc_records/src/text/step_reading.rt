@@ -103,6 +103,7 @@ fn read_act(alloc: Global, bytes: &[u8]) -> Result<Option<Act>, AllocError>
 }
 
 // The step of this number and goal whose act the bytes say; none where they say none.
+#[inline(always)]
 fn step_with(
     alloc: Global,
     step: u32,
@@ -120,6 +121,7 @@ fn step_with(
 }
 
 // The step of a line that begins with this number, from what follows the number and a space: the goal consumed, and the act.
+#[inline(always)]
 fn step_behind(alloc: Global, step: u32, bytes: &[u8]) -> Result<Option<Step>, AllocError>
     requires { 1 ≤ step }
     ensures some { IfOk result (λ found. IfSome found (λ s. SaysStep (decimal step ++ 32 ∷ bytes.now) s)) }
@@ -135,6 +137,7 @@ fn step_behind(alloc: Global, step: u32, bytes: &[u8]) -> Result<Option<Step>, A
 }
 
 // The step that a line says, as `1 0.1 by 2`; none where it says none. Time and memory grow with the line.
+#[inline(always)]
 pub(crate) fn read_step(alloc: Global, line: &[u8]) -> Result<Option<Step>, AllocError>
     ensures some { IfOk result (λ found. IfSome found (λ s. SaysStep line.now s)) }
     ensures none { IfOk result (λ found. IfNone found ((s : step_spec) → ¬ SaysStep line.now s)) }

@@ -1,7 +1,9 @@
-use Rattle.std.proofs.Common.{◌+◌, inl, inr, refl, rules}
-use Rattle.ghc_records.specs.HistoryText.{no_heading, pieces_of}
+use Rattle.ghc_records.proofs.Words.{◌+◌, inr, refl, rules, subst, arith}
+use Rattle.ghc_records.specs.HistoryText.{no_heading}
 use Rattle.ghc_records.proofs.ExactTexts.{one_count}
-use Rattle.ghc_records.proofs.TellingHistories.{begins, bound_told, counts, is_told, wrong_count, wrong_end, wrong_rest, wrong_step}
+use Rattle.ghc_records.proofs.ReadHistories.{IsWithin, end_refused, history_told, rest_refused, step_refused}
+use Rattle.ghc_records.proofs.StepsBelow.{AreRightUpTo}
+use Rattle.ghc_records.proofs.TellingHistories.{begins, counts, wrong_count}
 use Rattle.ghc_records.proofs.text.history_reading.read_history.Goals as goal
 
 pub returns-in_default-clause-answer : goal.returns-in_default-clause-answer
@@ -13,73 +15,106 @@ returns-in_default-read_count-clause-answer c = (tt, inr (2, refl, wrong_count c
 pub returns-in_default-read_count-clause-heading : goal.returns-in_default-read_count-clause-heading
 returns-in_default-read_count-clause-heading c other = absurd (other (begins c.args.text.now c.in-Some.counted.now c.in-Some.ensures.some))
 
-pub read_steps-requires-clause-bound : goal.read_steps-requires-clause-bound
-read_steps-requires-clause-bound c =
-    bound_told (pieces_of c.in-Some-read_count.told.now) c.in-Some-read_count.count c.find_end-end.result c.next_of-bound.result c.next_of-bound.ensures c.find_end-end.ensures.some c.find_end-end.ensures.none
-
-pub returns-in-Err : goal.returns-in-Err
-returns-in-Err c =
-    let text = c.args.text.now in
-    let behind = c.in-Some.counted.now in
-    let some = c.in-Some.ensures.some in
+pub returns-in_err-steps-clause-count : goal.returns-in_err-steps-clause-count
+returns-in_err-steps-clause-count c = λ _ none.
     let k = c.in-Some-read_count in
-    let stands = counts text behind k.told.now k.count some k.ensures.some k.ensures.few in
-    record {
-      answer = (
-        tt,
-        elim c.in-Err.ensures.fault [
-          | inl memory ↦ inl memory
-          | inr wrong ↦ inr (wrong_step text behind k.told.now k.count some k.ensures.some k.ensures.few c.in-Err.fault wrong)
-        ],
-      );
-      heading = λ other. absurd (other (begins text behind some));
-      count = λ _ none. absurd (none k.count stands);
-      no_steps = λ told _. let clash = c.in-Err.ensures.none (one_count text k.count 0 stands told) in cc;
-    }
+    absurd (none k.count (counts c.args.text.now c.in-Some.counted.now k.told.now k.count c.in-Some.ensures.some k.ensures.some k.ensures.few))
 
-pub returns-in-None : goal.returns-in-None
-returns-in-None c =
-    let text = c.args.text.now in
-    let behind = c.in-Some.counted.now in
-    let some = c.in-Some.ensures.some in
+pub returns-in_err-steps-clause-no_steps : goal.returns-in_err-steps-clause-no_steps
+returns-in_err-steps-clause-no_steps c = λ told memory.
     let k = c.in-Some-read_count in
-    let told = c.in-Ok.ensures.ok in
-    let wrong = wrong_end text behind k.told.now k.count some k.ensures.some k.ensures.few c.in-Ok.steps.items told.0 told.1 c.in-None.ensures.none in
-    record {
-      answer = (tt, inr (k.count + 3, refl, wrong));
-      heading = λ other. absurd (other (begins text behind some));
-      count = λ _ none. absurd (none k.count (counts text behind k.told.now k.count some k.ensures.some k.ensures.few));
-      no_steps = search rules;
-    }
+    let stands = counts c.args.text.now c.in-Some.counted.now k.told.now k.count c.in-Some.ensures.some k.ensures.some k.ensures.few in
+    let clash = c.in_err-steps.ensures.none (one_count c.args.text.now k.count 0 stands told) in
+    cc
 
-pub returns-then-is_empty : goal.returns-then-is_empty
-returns-then-is_empty c =
+pub returns-then-right-count-clause-answer : goal.returns-then-right-count-clause-answer
+returns-then-right-count-clause-answer c =
     let text = c.args.text.now in
-    let behind = c.in-Some.counted.now in
-    let some = c.in-Some.ensures.some in
     let k = c.in-Some-read_count in
-    let told = c.in-Ok.ensures.ok in
-    let end = c.in-Some-end in
-    let all = is_told text behind k.told.now k.count some k.ensures.some k.ensures.few c.in-Ok.steps.items end.next end.rest.now told.0 told.1 in
-    record {
-      answer = (rw c.new.ensures (all end.ensures.some end.ensures.rest (search rules)), tt);
-      heading = λ other. absurd (other (begins text behind some));
-      count = λ _ none. absurd (none k.count (counts text behind k.told.now k.count some k.ensures.some k.ensures.few));
-      no_steps = search rules;
-    }
+    let r = c.in_ok-steps.ensures in
+    let steps = c.in_ok-steps.steps.items in
+    let end = c.find_end-end in
+    let right = c.count_below-right in
+    let up = subst (λ l. AreRightUpTo (IsWithin c.next_of.result) l right.result) c.as_slice.ensures.value
+    (record { most = right.ensures.most; holds = right.ensures.below; stop = right.ensures.stop }) in
+    let refused = step_refused text c.in-Some.counted.now k.told.now k.count c.in-Some.ensures.some k.ensures.some k.ensures.few steps c.in_ok-steps.behind.now _
+    end.result c.next_of.result c.next_of.ensures end.ensures.some end.ensures.none right.result up r.told r.rest r.most r.stop (omega (arith, r.most, c.len.ensures)) (omega (arith, c.if-right-count.true)) in
+    (tt, inr refused)
 
-pub returns : goal.returns
-returns c =
-    let text = c.args.text.now in
-    let behind = c.in-Some.counted.now in
-    let some = c.in-Some.ensures.some in
+pub returns-then-right-count-clause-count : goal.returns-then-right-count-clause-count
+returns-then-right-count-clause-count c = λ _ none.
     let k = c.in-Some-read_count in
-    let told = c.in-Ok.ensures.ok in
-    let end = c.in-Some-end in
-    let wrong = wrong_rest text behind k.told.now k.count some k.ensures.some k.ensures.few c.in-Ok.steps.items end.next end.rest.now told.0 told.1 in
-    record {
-      answer = (tt, inr (k.count + 4, refl, wrong end.ensures.some end.ensures.rest (search rules)));
-      heading = λ other. absurd (other (begins text behind some));
-      count = λ _ none. absurd (none k.count (counts text behind k.told.now k.count some k.ensures.some k.ensures.few));
-      no_steps = search rules;
-    }
+    absurd (none k.count (counts c.args.text.now c.in-Some.counted.now k.told.now k.count c.in-Some.ensures.some k.ensures.some k.ensures.few))
+
+pub returns-in-None-clause-answer : goal.returns-in-None-clause-answer
+returns-in-None-clause-answer c =
+    let text = c.args.text.now in
+    let k = c.in-Some-read_count in
+    let r = c.in_ok-steps.ensures in
+    let steps = c.in_ok-steps.steps.items in
+    let end = c.find_end-end in
+    let right = c.count_below-right in
+    let up = subst (λ l. AreRightUpTo (IsWithin c.next_of.result) l right.result) c.as_slice.ensures.value
+    (record { most = right.ensures.most; holds = right.ensures.below; stop = right.ensures.stop }) in
+    let refused = end_refused text c.in-Some.counted.now k.told.now k.count c.in-Some.ensures.some k.ensures.some k.ensures.few steps c.in_ok-steps.behind.now _
+    end.result c.next_of.result c.next_of.ensures end.ensures.some end.ensures.none right.result up r.told r.rest r.most r.stop (omega (arith, r.most, c.len.ensures)) (omega (arith, c.if-right-count.false)) c.in-None.ensures.none in
+    (tt, inr (k.count + 3, refl, refused))
+
+pub returns-in-None-clause-count : goal.returns-in-None-clause-count
+returns-in-None-clause-count c = λ _ none.
+    let k = c.in-Some-read_count in
+    absurd (none k.count (counts c.args.text.now c.in-Some.counted.now k.told.now k.count c.in-Some.ensures.some k.ensures.some k.ensures.few))
+
+pub returns-then-is_empty-clause-answer : goal.returns-then-is_empty-clause-answer
+returns-then-is_empty-clause-answer c =
+    let text = c.args.text.now in
+    let k = c.in-Some-read_count in
+    let r = c.in_ok-steps.ensures in
+    let steps = c.in_ok-steps.steps.items in
+    let end = c.find_end-end in
+    let right = c.count_below-right in
+    let up = subst (λ l. AreRightUpTo (IsWithin c.next_of.result) l right.result) c.as_slice.ensures.value
+    (record { most = right.ensures.most; holds = right.ensures.below; stop = right.ensures.stop }) in
+    let found = c.in-Some-end in
+    let told = history_told text c.in-Some.counted.now k.told.now k.count c.in-Some.ensures.some k.ensures.some k.ensures.few steps c.in_ok-steps.behind.now _
+    end.result c.next_of.result c.next_of.ensures end.ensures.some end.ensures.none right.result up r.told r.rest r.most r.stop (omega (arith, r.most, c.len.ensures)) (omega (arith, c.if-right-count.false))
+    found.next found.rest.now found.ensures.some found.ensures.rest (search rules) in
+    (rw c.in_ok-new-in-Some-end.ensures.history told, tt)
+
+pub returns-then-is_empty-clause-count : goal.returns-then-is_empty-clause-count
+returns-then-is_empty-clause-count c = λ _ none.
+    let k = c.in-Some-read_count in
+    absurd (none k.count (counts c.args.text.now c.in-Some.counted.now k.told.now k.count c.in-Some.ensures.some k.ensures.some k.ensures.few))
+
+pub returns-in_err-new-in-Some-end-clause-count : goal.returns-in_err-new-in-Some-end-clause-count
+returns-in_err-new-in-Some-end-clause-count c = λ _ none.
+    let k = c.in-Some-read_count in
+    absurd (none k.count (counts c.args.text.now c.in-Some.counted.now k.told.now k.count c.in-Some.ensures.some k.ensures.some k.ensures.few))
+
+pub returns-in_err-new-in-Some-end-clause-no_steps : goal.returns-in_err-new-in-Some-end-clause-no_steps
+returns-in_err-new-in-Some-end-clause-no_steps c = λ told memory.
+    let k = c.in-Some-read_count in
+    let stands = counts c.args.text.now c.in-Some.counted.now k.told.now k.count c.in-Some.ensures.some k.ensures.some k.ensures.few in
+    let clash = c.in_err-new-in-Some-end.ensures.no_steps (omega (arith, c.in_ok-steps.ensures.most, one_count c.args.text.now k.count 0 stands told)) in
+    cc
+
+pub returns-clause-answer : goal.returns-clause-answer
+returns-clause-answer c =
+    let text = c.args.text.now in
+    let k = c.in-Some-read_count in
+    let r = c.in_ok-steps.ensures in
+    let steps = c.in_ok-steps.steps.items in
+    let end = c.find_end-end in
+    let right = c.count_below-right in
+    let up = subst (λ l. AreRightUpTo (IsWithin c.next_of.result) l right.result) c.as_slice.ensures.value
+    (record { most = right.ensures.most; holds = right.ensures.below; stop = right.ensures.stop }) in
+    let found = c.in-Some-end in
+    let refused = rest_refused text c.in-Some.counted.now k.told.now k.count c.in-Some.ensures.some k.ensures.some k.ensures.few steps c.in_ok-steps.behind.now _
+    end.result c.next_of.result c.next_of.ensures end.ensures.some end.ensures.none right.result up r.told r.rest r.most r.stop (omega (arith, r.most, c.len.ensures)) (omega (arith, c.if-right-count.false))
+    found.next found.rest.now found.ensures.some found.ensures.rest (search rules) in
+    (tt, inr (k.count + 4, refl, refused))
+
+pub returns-clause-count : goal.returns-clause-count
+returns-clause-count c = λ _ none.
+    let k = c.in-Some-read_count in
+    absurd (none k.count (counts c.args.text.now c.in-Some.counted.now k.told.now k.count c.in-Some.ensures.some k.ensures.some k.ensures.few))
