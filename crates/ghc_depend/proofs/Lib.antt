@@ -23,6 +23,7 @@ pub mod Nearest
 pub mod FirstPlace
 pub mod Ahead
 pub mod Using
+pub mod OnePass
 pub mod TakingBack
 pub mod Arranging
 pub mod Turning

@@ -48,9 +48,6 @@ module _ (ss : SlotList) (Q : Record → VarName → Type 0) where
   abbrev pub AreLeast : List VarName → BTreeMap ℕ VarName → Type 0
   AreLeast xs m = AreFilled ss m × ((p : ℕ) (a : Record) → StandsIn ss p a → IsLeastOf (Q a) xs (get nat_cmp m p))
 
-  nothing_at : (m : BTreeMap ℕ VarName) → m.entries ≡ [] → (p : ℕ) → get nat_cmp m p ≡ None
-  nothing_at m e p = ap (λ es. lookup (is_at (nat_cmp p)) es) e
-
   none_some : {A : Type 0} (o : Option A) → o ≡ None → IsSome o → ⊥
   none_some None e s = cc
   none_some (Some a) e s = cc

@@ -1,9 +1,8 @@
 -- Which steps depend directly on a step, by the places where both stand.
-use Rattle.ghc_depend.proofs.Words.{◌≡◌, ℕ, ◌<◌, ◌+◌, ◌≤◌, ◌⊎◌, List, refl, sym, ap, ◌∙◌, subst, inl, inr, arith, ◌↔◌, Option, Some, None, length, cases_lt, eq-or-lt_of_le, slice_get_within, In, AreDistinct, Record, numbers, SlotList, held_in, StandsIn, StepDependsOn, stands_held, held_stands, one_record, rank, rank_stands, rank_less, Before, is_before, before_is, before_in, record_once, Uses, insert_key, nat_cmp, IsFirstWhere, IsFirstUser, IsPlaceOfUser, HasPlacesOfUsers, IsNoFurther}
+use Rattle.ghc_depend.proofs.Words.{◌≡◌, ℕ, ◌<◌, ◌+◌, ◌≤◌, ◌⊎◌, List, refl, sym, ap, ◌∙◌, subst, inl, inr, arith, ◌↔◌, Option, Some, None, length, cases_lt, eq-or-lt_of_le, slice_get_within, In, AreDistinct, Record, numbers, SlotList, held_in, StandsIn, StepDependsOn, stands_held, held_stands, one_record, rank, rank_stands, rank_less, Before, is_before, before_is, before_in, record_once, Uses, IsFirstWhere, IsFirstUser, IsPlaceOfUser, IsNoFurther}
 use Rattle.ghc_records.proofs.SlotLemmas.{stands_before as slots_before}
 use borrow.Author.Count.{below_more}
 use Rattle.ghc_depend.proofs.Causes.{place_before}
-use Rattle.ghc_depend.proofs.Ahead.{in_inserted}
 
 module _ (ss : SlotList) (distinct : AreDistinct (numbers (held_in ss))) (own n : ℕ) (a : Record) (here : StandsIn ss own a) (number : a.number ≡ n) where
   pub user_is : (place : ℕ) (b : Record) → StandsIn ss place b → own < place → Uses b a → StepDependsOn (held_in ss) b.number n
@@ -53,47 +52,6 @@ module _ (ss : SlotList) (n place : ℕ) where
       let p = held_stands ss r i in
       let within = slice_get_within ss p.0 (Some r) p.1 in
       none p.0 (omega (arith, within, long)) (r, p.1, d)
-
--- the places so far of those that depend directly on it were put to the old ones
-abbrev pub HasUsersBefore : SlotList → ℕ → ℕ → List ℕ → List ℕ → Type 0
-HasUsersBefore ss n place old new = (p : ℕ) → In p new ↔ (In p old ⊎ ((p < place) × IsPlaceOfUser ss n p))
-
-module _ (ss : SlotList) (n place : ℕ) (old ks : List ℕ) (has : HasUsersBefore ss n place old ks) where
-  pub users_still : ¬ IsPlaceOfUser ss n place → HasUsersBefore ss n (place + 1) old ks
-  users_still not_here p = (
-    λ i. elim ((has p).0 i) [ inl j ↦ inl j | inr u ↦ inr (let l = u.0 in omega (arith, l), u.1) ],
-    λ c. (has p).1 (elim c [
-      | inl j ↦ inl j
-      | inr u ↦ elim (cases_lt p place) [
-        | inl l ↦ inr (l, u.1)
-        | inr far ↦ let l = u.0 in let same : p ≡ place = omega (arith, far, l) in absurd (not_here (subst (IsPlaceOfUser ss n) same u.1))
-      ]
-    ]),
-  )
-
-  pub users_more : IsPlaceOfUser ss n place → HasUsersBefore ss n (place + 1) old (insert_key nat_cmp ks place)
-  users_more here p = (
-    λ i. elim ((in_inserted ks place p).0 i) [
-      | inl j ↦ elim ((has p).0 j) [ inl k ↦ inl k | inr u ↦ inr (let l = u.0 in omega (arith, l), u.1) ]
-      | inr e ↦ inr (omega (arith, e), subst (IsPlaceOfUser ss n) (sym e) here)
-    ],
-    λ c. (in_inserted ks place p).1 (elim c [
-      | inl j ↦ inl ((has p).1 (inl j))
-      | inr u ↦ elim (cases_lt p place) [
-        | inl l ↦ inl ((has p).1 (inr (l, u.1)))
-        | inr far ↦ let l = u.0 in inr (omega (arith, far, l))
-      ]
-    ]),
-  )
-
-  pub users_all : length ss ≤ place → HasPlacesOfUsers ss n old ks
-  users_all long p = (
-    λ i. elim ((has p).0 i) [ inl j ↦ inl j | inr u ↦ inr u.1 ],
-    λ c. (has p).1 (elim c [
-      | inl j ↦ inl j
-      | inr u ↦ let within = slice_get_within ss p (Some u.0) u.1 in inr (omega (arith, within, long), u)
-    ]),
-  )
 
 -- those that depend directly on it and stand at the first places are no nearer in an order
 abbrev pub UsersBeforeNoFurther : SlotList → ℕ → ℕ → List ℕ → ℕ → ℕ → Type 0

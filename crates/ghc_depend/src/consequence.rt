@@ -1,10 +1,11 @@
 // The consequences of a kept step.
-ghost use Rattle.std.specs.Prelude.{◌≡◌, ◌⊎◌, ◌↔◌, ◌≤◌, ℕ, List, IfOk, OnOk, OnErr, IfSome, IfNone, Some};
+ghost use Rattle.std.specs.Prelude.{◌≡◌, ◌⊎◌, ◌↔◌, ◌<◌, ◌≤◌, ℕ, List, IfOk, OnOk, OnErr, IfSome, IfNone, Some, length};
 ghost use Rattle.ghc_term.specs.Lists.{In};
 ghost use Rattle.ghc_records.specs.Record.{Record, numbers};
 ghost use Rattle.ghc_depend.specs.Depend.{Follows, IsKeptAs, AreConsequencesOf, IsFirstConsequence};
-ghost use Rattle.ghc_depend.specs.inner.Places.{IsFirstAmong, IsFirstUser, IsPlaceOfUser, HasPlacesOf, HasPlacesOfUsers};
+ghost use Rattle.ghc_depend.specs.inner.Places.{IsFirstAmong, IsFirstUser, HasPlacesOf};
 
+use crate::one_pass::consequences_by_pass;
 use crate::users::user_at;
 use ghc_records::Records;
 use std::alloc::{AllocError, Global};
@@ -52,41 +53,40 @@ fn add_places(ahead: &mut BTreeSet<usize>, records: &Records, ns: &[u32]) -> Res
     Ok(())
 }
 
-// Adds the places of the steps that depend directly on the step of this number, by a search at all places.
-fn add_users_by_search(
-    ahead: &mut BTreeSet<usize>,
+// The numbers of the consequences of the kept step of this number, in recorded order, by the steps that depend directly on it and on each
+// consequence; none where the index is not whole, which tells these. It costs a look-up for each such dependence, and puts the places of
+// those steps in order.
+fn consequences_by_users(
+    alloc: Global,
     records: &Records,
     number: u32,
-) -> Result<(), AllocError>
-    ensures { OnOk result (HasPlacesOfUsers records.now.slots number ahead.old.keys ahead.new.keys) }
-{
-    for place in 0..records.places() {
-        if let Some(_) = user_at(records, number, place) {
-            match ahead.insert(place) {
-                Ok(_) => {}
-                Err(_) => return Err(AllocError),
-            }
-        }
-    }
-    Ok(())
-}
-
-// Adds the places of the steps that depend directly on the step of this number: one look-up for each, or a search where the index is
-// not whole.
-fn add_users(ahead: &mut BTreeSet<usize>, records: &Records, number: u32) -> Result<(), AllocError>
-    ensures { OnOk result (HasPlacesOfUsers records.now.slots number ahead.old.keys ahead.new.keys) }
+) -> Result<Option<Vec<u32>>, AllocError>
+    requires { (r : Record) × IsKeptAs records.now.held number r }
+    ensures found { IfOk result (λ told. IfSome told (λ ns. (found : List Record) × AreConsequencesOf records.now.held number found × (numbers found ≡ ns.items))) }
+    ensures none { IfOk result (λ told. IfNone told (records.now.indexed < length records.now.slots)) }
 {
     let _count = records.len();
-    match records.users_of(number) {
-        Some(users) => add_places(ahead, records, users),
-        None => add_users_by_search(ahead, records, number),
+    let mut found = Vec::new(alloc);
+    let mut ahead = BTreeSet::new(alloc);
+    let Some(users) = records.users_of(number) else {
+        return Ok(None);
+    };
+    add_places(&mut ahead, records, users)?;
+    while let Some(place) = ahead.pop_first() {
+        let next = records.at(place).unwrap().number();
+        let Some(later) = records.users_of(next) else {
+            return Ok(None);
+        };
+        add_places(&mut ahead, records, later)?;
+        found.push(next)?;
     }
+    Ok(Some(found))
 }
 
 /// The numbers of the consequences of the step of this number, in recorded order: none where it is not kept. It costs a look-up for
 /// each direct dependence on the step or on a consequence, and puts the places of those in order; where the index is not whole, it
-/// goes over the record for the step and for each consequence. It fails only
-/// where memory is refused, and never where the step is not kept.
+/// goes once over the records after the step, with some look-ups for the goal of each and for each variable that it read or names. It
+/// fails only where memory is refused, and never where the step is not kept.
 pub fn consequences(alloc: Global, records: &Records, number: u32) -> Result<Vec<u32>, AllocError>
     ensures found { IfOk result (λ ns. (found : List Record) × AreConsequencesOf records.now.held number found × (numbers found ≡ ns.items)) }
 
@@ -94,18 +94,13 @@ pub fn consequences(alloc: Global, records: &Records, number: u32) -> Result<Vec
     ensures kept { OnErr result ((r : Record) × IsKeptAs records.now.held number r) }
 {
     let _count = records.len();
-    let mut found = Vec::new(alloc);
-    let Some(_) = records.place_of(number) else {
-        return Ok(found);
+    let Some(own) = records.place_of(number) else {
+        return Ok(Vec::new(alloc));
     };
-    let mut ahead = BTreeSet::new(alloc);
-    add_users(&mut ahead, records, number)?;
-    while let Some(place) = ahead.pop_first() {
-        let next = records.at(place).unwrap().number();
-        add_users(&mut ahead, records, next)?;
-        found.push(next)?;
+    match consequences_by_users(alloc, records, number)? {
+        Some(found) => Ok(found),
+        None => consequences_by_pass(alloc, records, own),
     }
-    Ok(found)
 }
 
 // The first place of a step that depends directly on the step of this number, if one does, by a search up to there.

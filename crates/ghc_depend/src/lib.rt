@@ -6,6 +6,7 @@ mod consequence;
 mod facts;
 mod lawful_order;
 mod laws;
+mod one_pass;
 mod places;
 mod sources;
 mod users;

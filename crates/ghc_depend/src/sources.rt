@@ -45,8 +45,8 @@ pub fn place_of_goal_maker(records: &Records, goal: GoalName) -> Option<usize>
     Some(place)
 }
 
-// The place of another kept step that made the variable, if one did: one look-up.
-fn place_of_other_maker(records: &Records, later: &Record, x: VarName) -> Option<usize>
+/// The place of another kept step than this one that made the variable, if one did: one look-up.
+pub(crate) fn place_of_other_maker(records: &Records, later: &Record, x: VarName) -> Option<usize>
     ensures { IsPlaceOfOne records.now.slots (λ a. (x.step ≢ later.now.number) × MakesVariable a x) result }
 {
     if x.step == later.number() {

@@ -1,6 +1,6 @@
 use Rattle.ghc_depend.proofs.Words.{ℕ, ◌-◌, length, map, In, Record, held_in, StandsIn, rank, IsKeptAs}
 use Rattle.ghc_depend.proofs.Ahead.{IsGathered}
-use Rattle.ghc_depend.proofs.consequence.consequences.Given as goal
+use Rattle.ghc_depend.proofs.consequence.consequences_by_users.Given as goal
 
 abbrev pub invariant-loop-place : goal.invariant-loop-place
 invariant-loop-place l =
