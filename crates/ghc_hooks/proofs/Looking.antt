@@ -1,5 +1,5 @@
 -- Sets of goals with one goal more or less.
-use Rattle.ghc_hooks.proofs.Words.{◌≡◌, List, true, false, refl, sym, ap, ◌∙◌, inl, inr, ◌⊎◌, ◌↔◌, IsTrue, eq_by_cmp, eq_by_cmp_equiv, or_cases, or_right, VarName, GoalName, name_cmp, list_any-from_Contains, Contains-from_any, In, in_contains, contains_in, same_name, goal_cmp, goal_total, same_goal, GoalNames, Ordering, IsTotalOrder, IsAntisymmetric, tells_apart, goal_antisymmetric, arith}
+use Rattle.ghc_hooks.proofs.Words.{◌≡◌, List, true, false, refl, sym, ap, ◌∙◌, inl, inr, ◌⊎◌, ◌↔◌, IsTrue, eq_by_cmp, eq_by_cmp_equiv, or_cases, or_right, VarName, GoalName, name_cmp, list_any-from_Contains, Contains-from_any, In, in_contains, contains_in, same_name, goal_cmp, goal_total, same_goal, GoalNames, Ordering, IsTotalOrder, IsAntisymmetric, tells_apart, goal_antisymmetric, arith, ℕ, zero, suc, ◌+◌, ◌-◌, ◌<◌, cond, not_both}
 use Rattle.std.specs.FinSet as set
 pub use Rattle.ghc_term.proofs.GoalNames.{itself as goal_itself}
 use Rattle.ghc_term.proofs.GoalNames.{apart}
@@ -27,6 +27,17 @@ goal_put = member_put goal_total goal_antisymmetric
 
 pub goal_taken : (s : GoalNames) (g h : GoalName) → IsTrue (set.contains (set.remove s g) h) ↔ (IsTrue (set.contains s h) × ¬ (h ≡ g))
 goal_taken s g h = grind (arith, set.contains-remove, goal_total, apart, and_from, and_parts, not_from_false)
+
+-- how many goals are left where one is taken out
+pub one_less : (u : GoalNames) (g : GoalName) → IsTrue (set.contains u g) → set.len (set.remove u g) + 1 ≡ set.len u
+one_less u g there =
+    let less : set.len (set.remove u g) ≡ set.len u - 1 = set.len-remove goal_total u g ∙ ap (λ b. cond b (set.len u - 1) (set.len u)) there in
+    let some : 0 < set.len u = by (set.len u) refl in
+    omega (arith, less, some)
+  where
+    by : (k : ℕ) → set.len u ≡ k → 0 < k
+    by zero z = absurd (not_both (set.contains u g) (ap (λ s. set.contains s g) (set.empty_of_len u z) ∙ set.contains-empty goal_cmp g) there)
+    by (suc k) z = omega arith
 
 -- a list of goals and the set of them
 pub goal_in_set : (g : GoalName) (gs : List GoalName) → In g gs → IsTrue (set.contains (set.from_list {R = goal_cmp} gs) g)

@@ -22,17 +22,19 @@ pub use Rattle.ghc_hooks.specs.inner.FewGoals.{goals_held}
 pub use Rattle.ghc_hooks.specs.inner.Found.{outcomes_found}
 pub use Rattle.ghc_hooks.specs.inner.Kinds.{kind_of}
 pub use Rattle.ghc_hooks.specs.Laws.{EachGoalHasAStatus, ExactNotesAwaitWhatIsLookedAt, ExactNotesStayExact, FaceIsOne, GoalsWaitForWhatTheyLookAt, LookedIsOfWhatIsLookedAt, SettledNotesShowTheFace, StatusIsOfWhatIsLookedAt, StatusIsOne}
-pub use Rattle.ghc_hooks.specs.inner.Looks.{AreUnblocked, FitEachOther, GoalsByVariable, HasOneLess, HasOneMore, TakesIn, goals_in, goals_under, looks}
+pub use Rattle.ghc_hooks.specs.inner.Looks.{FitEachOther, GoalsByVariable, HasOneLess, HasOneMore, goals_in, goals_under, looks}
 pub use Rattle.ghc_hooks.specs.NotedFace.{IsNotedAs, IsNotedFace, IsStreamGoal}
 pub use Rattle.ghc_hooks.specs.Notes.{AgreeOnLooked, AreExact, IsExact, IsNotedOn, Note, NotesByGoal}
 pub use Rattle.ghc_hooks.specs.inner.Parts.{HaveBesides, HaveOnly, HooksBesides, IsOfKind, SaysToCall, TellsHooks, TellsOutcomes, TellsPool, TellsStatuses, WaitsBy}
 pub use Rattle.ghc_hooks.specs.Reached.{OneReaches, StandOnce, TakesUp, TakesUpAll, leaves, values_of}
 pub use Rattle.ghc_hooks.specs.Status.{Awaits, HasStatus, IsNoWait, Status, failed, is_failed, is_ready, is_stream_goal, is_waiting, ready, streaming, waiting}
-pub use Rattle.ghc_hooks.specs.Tries.{AreSpared, AreWoken, HasLookedAt, IsUnblocked, Tries}
+pub use Rattle.ghc_hooks.specs.Tries.{AreSpared, AreWoken, HasLookedAt, Tries}
+pub use Rattle.ghc_hooks.specs.inner.Unblocked.{AreUnblocked, IsAmong, IsSorted, IsUnblocked, SortsIn, SortsOut}
 pub use Rattle.ghc_hooks.specs.Verdict.{awaits, status_of}
 pub use Rattle.ghc_hooks.specs.declared.face.status.Kind.{Kind}
 pub use Rattle.ghc_hooks.specs.declared.face.status.Kind.TheVariants.{Failed, Ready, Stream, Waiting}
 pub use Rattle.ghc_hooks.specs.declared.heard.Heard.{Heard}
+pub use Rattle.ghc_hooks.specs.declared.unblocked.Unblocked.{Unblocked}
 pub use Rattle.ghc_match.proofs.Chains.{leads_back, leads_there}
 pub use Rattle.ghc_match.proofs.EachOutcome.{each_outcome}
 pub use Rattle.ghc_match.proofs.EachValue.{each_value}

@@ -4,7 +4,6 @@ use Rattle.std.specs.FinMap as finite
 use Rattle.std.specs.FinSet as set
 use Rattle.ghc_term.specs.declared.var_name.VarName.{VarName}
 use Rattle.ghc_term.specs.declared.goal_name.GoalName.{GoalName}
-use Rattle.ghc_hooks.specs.Status.{IsNoWait}
 use Rattle.ghc_hooks.specs.Face.{GoalNames}
 use Rattle.ghc_hooks.specs.Notes.{Note, NotesByGoal}
 
@@ -17,10 +16,6 @@ pub record Tries : Type 0 where
 -- By its note, the goal named g looked at x when it was tried.
 abbrev pub HasLookedAt : NotesByGoal → VarName → GoalName → Type 0
 HasLookedAt notes x g = (note : Note) × (finite.get notes g ≡ Some note) × IsTrue (set.contains note.looked x)
-
--- By its note, the goal named g does not wait: it is ready or has failed.
-abbrev pub IsUnblocked : NotesByGoal → GoalName → Type 0
-IsUnblocked notes g = (note : Note) × (finite.get notes g ≡ Some note) × IsNoWait note.status
 
 -- Where the variables of which Touched holds were bound or freed, a note stays just where it looked at none of them.
 abbrev pub AreSpared : (VarName → Type 0) → NotesByGoal → NotesByGoal → Type 0

@@ -7,3 +7,4 @@ pub mod Kinds
 pub mod Looks
 pub mod Parts
 pub mod TriesCode
+pub mod Unblocked

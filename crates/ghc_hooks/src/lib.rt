@@ -13,6 +13,7 @@ mod notes;
 mod reached;
 mod trial;
 mod tries;
+mod unblocked;
 
 pub use copies::variables_again;
 pub use face::{Face, Status};
@@ -25,3 +26,4 @@ pub use note::{Note, Verdict};
 pub use reached::reached_from;
 pub use trial::try_goal;
 pub use tries::Tries;
+pub use unblocked::Unblocked;

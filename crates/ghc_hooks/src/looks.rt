@@ -61,6 +61,7 @@ impl Looks {
     }
 
     // The goals under the variable, each once: one look-up.
+    #[inline(always)]
     pub fn at(&self, x: VarName) -> &[GoalName]
         ensures all { set.from_list result.now ≡ goals_under self.now x }
         ensures once { length result.now ≡ set.len (goals_under self.now x) }

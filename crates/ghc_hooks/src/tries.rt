@@ -2,14 +2,12 @@
 ghost use Rattle.std.specs.Prelude.{◌≡◌, ◌≢◌, ◌↔◌, ◌+◌, ◌<◌, ◌≤◌, length, IfSome, IfNone, IsTrue, OnOk, OnErr, None, Some};
 ghost use Rattle.std.specs.FinMap as finite;
 ghost use Rattle.std.specs.FinSet as set;
-ghost use Rattle.ghc_hooks.specs.Status.{IsNoWait};
-ghost use Rattle.ghc_hooks.specs.Verdict.{status_of};
-ghost use Rattle.ghc_hooks.specs.inner.Looks.{TakesIn};
 
 use crate::goal_set::GoalSet;
 use crate::looks::Looks;
-use crate::note::{Note, Verdict};
+use crate::note::Note;
 use crate::notes::Notes;
+use crate::unblocked::Unblocked;
 use ghc_term::{GoalName, VarName};
 use std::alloc::{AllocError, Global};
 use std::marker::Model;
@@ -21,7 +19,7 @@ pub struct Tries {
     notes: Notes,
     untried: GoalSet,
     looks: Looks,
-    unblocked: GoalSet,
+    unblocked: Unblocked,
 }
 
 impl Model for Tries {
@@ -29,7 +27,8 @@ impl Model for Tries {
     ghost use Rattle.std.specs.FinMap as finite;
     ghost use Rattle.ghc_hooks.specs.Tries.{Tries};
     ghost use Rattle.ghc_hooks.specs.inner.TriesCode.{tries_code};
-    ghost use Rattle.ghc_hooks.specs.inner.Looks.{FitEachOther, AreUnblocked};
+    ghost use Rattle.ghc_hooks.specs.inner.Looks.{FitEachOther};
+    ghost use Rattle.ghc_hooks.specs.inner.Unblocked.{AreUnblocked};
 
     ghost Value = { Tries };
 
@@ -37,19 +36,7 @@ impl Model for Tries {
 
     ghost view = { λ t. record { notes = t.notes.held; untried = t.untried.held; room = t.untried.room - finite.len t.notes.held } };
 
-    ghost invariant = { λ t. FitEachOther t.notes.held t.untried t.looks × AreUnblocked t.notes.held t.unblocked.held };
-}
-
-// Puts the goal among those that do not wait where the verdict says so, and there is room: a look-up at most.
-fn put_unblocked(unblocked: &mut GoalSet, goal: GoalName, verdict: &Verdict)
-    requires { 0 < unblocked.old.room }
-    ensures { TakesIn (IsNoWait (status_of verdict.now)) goal unblocked.old.held unblocked.new.held }
-{
-    match verdict {
-        Verdict::Waiting(_) => {}
-        Verdict::Ready => unblocked.put(goal),
-        Verdict::Failed(_) => unblocked.put(goal),
-    }
+    ghost invariant = { λ t. FitEachOther t.notes.held t.untried t.looks × AreUnblocked t.notes.held t.unblocked };
 }
 
 impl Tries {
@@ -57,7 +44,10 @@ impl Tries {
     ghost use Rattle.ghc_term.specs.Lists.{In};
     ghost use Rattle.ghc_term.specs.declared.goal_name.GoalName.{GoalName};
     ghost use Rattle.ghc_hooks.specs.Notes.{Note};
-    ghost use Rattle.ghc_hooks.specs.Tries.{HasLookedAt, IsUnblocked, AreSpared, AreWoken};
+    ghost use Rattle.ghc_hooks.specs.NotedFace.{IsNotedAs};
+    ghost use Rattle.ghc_hooks.specs.Status.{ready, failed};
+    ghost use Rattle.ghc_hooks.specs.Tries.{HasLookedAt, AreSpared, AreWoken};
+    ghost use Rattle.ghc_term.specs.declared.fault.Fault.{Fault};
     ghost use Rattle.ghc_fire.specs.Goals.{goal_cmp};
     ghost use Rattle.ghc_term.specs.declared.var_name.VarName.{VarName};
 
@@ -70,7 +60,7 @@ impl Tries {
             notes: Notes::new(alloc),
             untried: GoalSet::new(alloc),
             looks: Looks::new(alloc),
-            unblocked: GoalSet::new(alloc),
+            unblocked: Unblocked::new(alloc),
         }
     }
 
@@ -111,6 +101,7 @@ impl Tries {
     }
 
     /// The goals whose notes looked at the variable, each once: one look-up.
+    #[inline(always)]
     pub fn looking_at(&self, x: VarName) -> &[GoalName]
         ensures each { (g : GoalName) → In g result.now ↔ HasLookedAt self.now.notes x g }
         ensures once { length result.now ≡ set.len (set.from_list {R = goal_cmp} result.now) }
@@ -118,12 +109,25 @@ impl Tries {
         self.looks.at(x)
     }
 
-    /// The goals that by their notes do not wait, each once, in any order: one step.
-    pub fn unblocked(&self) -> &[GoalName]
-        ensures each { (g : GoalName) → In g result.now ↔ IsUnblocked self.now.notes g }
-        ensures once { length result.now ≡ set.len (set.from_list {R = goal_cmp} result.now) }
+    /// Puts the goals that by their notes do not wait in order: a search and some look-ups for each that was noted since this was done.
+    /// Where memory is refused, some of them are not in order.
+    pub fn sort(&mut self) -> Result<(), AllocError>
+        ensures notes { self.new.notes ≡ self.old.notes }
+        ensures untried { self.new.untried ≡ self.old.untried }
+        ensures room { self.new.room ≡ self.old.room }
     {
-        self.unblocked.members()
+        self.unblocked.sort(&self.notes)
+    }
+
+    /// The goals that by their notes are ready, and those that have failed, where all of them are in order: one step.
+    pub fn sorted(&self) -> Option<&Unblocked>
+        ensures ready { IfSome result (λ goals. (g : GoalName) → In g goals.now.ready.keys ↔ IsNotedAs self.now.notes g ready) }
+        ensures failed { IfSome result (λ goals. (g : GoalName) → In g goals.now.failed.keys ↔ ((f : Fault) × IsNotedAs self.now.notes g (failed f))) }
+    {
+        if self.unblocked.unsorted.is_empty() {
+            return Some(&self.unblocked);
+        }
+        None
     }
 
     // A goal whose note looked at the variable, if there is one: one look-up.
@@ -172,16 +176,16 @@ impl Tries {
     {
         self.notes.reserve(1, goal.step)?;
         self.untried.reserve(self.notes.len() + 1, goal.step)?;
-        self.unblocked.reserve(1, goal.step)?;
+        self.unblocked.unsorted.reserve(1, goal.step)?;
         self.looks.add_all(note.looked().members(), goal)?;
         self.untried.remove(goal);
-        put_unblocked(&mut self.unblocked, goal, note.verdict());
+        self.unblocked.add(goal, note.verdict());
         self.notes.put(goal, note);
         Ok(())
     }
 
-    /// Takes away the note or the mark of a goal: one look-up for a mark, three for a note, and a look-up or two for each variable
-    /// that it looked at. The room does not shrink.
+    /// Takes away the note or the mark of a goal: one look-up for a mark, two or three for a note, and a look-up or two for each variable
+    /// that it looked at. A goal that was put in order costs a search besides. The room does not shrink.
     #[inline(always)]
     pub fn drop_goal(&mut self, goal: GoalName)
         ensures notes { self.new.notes ≡ finite.remove self.old.notes goal }
@@ -193,11 +197,11 @@ impl Tries {
         }
         if let Some(note) = self.notes.remove(goal) {
             self.looks.remove_all(note.looked().members(), goal);
-            self.unblocked.remove(goal);
+            self.unblocked.remove(goal, note.verdict());
         }
     }
 
-    // Makes a noted goal untried: three look-ups, and one or two for each variable that it looked at.
+    // Makes a noted goal untried: three or four look-ups, one or two for each variable that it looked at, and a search where it is in order.
     fn wake_goal(&mut self, goal: GoalName)
         requires { finite.get self.old.notes goal ≢ None }
         ensures notes { self.new.notes ≡ finite.remove self.old.notes goal }
@@ -208,12 +212,13 @@ impl Tries {
             return;
         };
         self.looks.remove_all(note.looked().members(), goal);
-        self.unblocked.remove(goal);
+        self.unblocked.remove(goal, note.verdict());
         self.untried.put(goal);
     }
 
     /// The variable was bound or freed: each goal whose note looked at it loses the note and is untried again. It costs some
     /// look-ups for each of these goals and each variable that they looked at, and takes no memory.
+    #[inline(always)]
     pub fn wake_at(&mut self, x: VarName)
         ensures notes { AreSpared (λ y. y ≡ x) self.old.notes self.new.notes }
         ensures untried { AreWoken (λ y. y ≡ x) self.old.notes self.old.untried self.new.untried }

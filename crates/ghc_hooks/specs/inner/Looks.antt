@@ -1,4 +1,4 @@
--- What the tries keep beside notes and marks: for each variable the goals whose notes looked at it, and the goals that do not wait.
+-- What the tries keep beside notes and marks: for each variable the goals whose notes looked at it.
 use Rattle.std.specs.Prelude.{◌≡◌, ◌↔◌, ◌⊎◌, ◌≤◌, Bool, Option, Some, None, IsTrue}
 use Rattle.std.specs.FinMap as finite
 use Rattle.std.specs.FinSet as set
@@ -8,7 +8,7 @@ use Rattle.ghc_term.specs.Bindings.{name_cmp}
 use Rattle.ghc_term.specs.Table.{Table}
 use Rattle.ghc_hooks.specs.Face.{GoalNames}
 use Rattle.ghc_hooks.specs.Notes.{NotesByGoal}
-use Rattle.ghc_hooks.specs.Tries.{HasLookedAt, IsUnblocked}
+use Rattle.ghc_hooks.specs.Tries.{HasLookedAt}
 
 -- Goals by variable: the sets of goals under some, and single goals, which count where there is no set.
 pub record GoalsByVariable : Type 0 where
@@ -42,11 +42,3 @@ pub record FitEachOther (notes : NotesByGoal) (untried : Table GoalNames) (by_va
   pub apart : (g : GoalName) → IsTrue (set.contains untried.held g) → finite.get notes g ≡ None
   pub follows : (x : VarName) (g : GoalName) → IsTrue (looks by_variable x g) ↔ HasLookedAt notes x g
   pub room : finite.len notes ≤ untried.room
-
--- These are the goals that by their notes do not wait.
-abbrev pub AreUnblocked : NotesByGoal → GoalNames → Type 0
-AreUnblocked notes unblocked = (g : GoalName) → IsTrue (set.contains unblocked g) ↔ IsUnblocked notes g
-
--- The goal g is put in where the condition holds.
-abbrev pub TakesIn : Type 0 → GoalName → GoalNames → GoalNames → Type 0
-TakesIn Holds g old new = (h : GoalName) → IsTrue (set.contains new h) ↔ (IsTrue (set.contains old h) ⊎ ((h ≡ g) × Holds))

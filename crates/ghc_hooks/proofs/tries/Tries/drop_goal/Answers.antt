@@ -1,7 +1,6 @@
-use Rattle.ghc_hooks.proofs.Words.{◌∙◌, sym, arith}
+use Rattle.ghc_hooks.proofs.Words.{◌∙◌, sym, subst, arith, AreUnblocked}
 use Rattle.ghc_hooks.proofs.Fitting.{one_note_less, nothing_gone}
 use Rattle.ghc_hooks.proofs.Changing.{fit_dropped, fit_unmarked}
-use Rattle.ghc_hooks.proofs.Unblocking.{unblocked_gone}
 use Rattle.ghc_hooks.proofs.tries.Tries.drop_goal.Goals as goal
 
 pub invariant_of-self : goal.invariant_of-self
@@ -19,7 +18,8 @@ invariant_of-self-in-Some c =
     let t = c.self.inside in (
       fit_dropped t.notes.held t.untried c.remove.new.self t.looks c.self.invariant.0 c.remove-2.new.self.held c.remove_all.new.self c.args.goal c.in-Some.note c.members.result.now (c.members.ensures.all ∙ c.looked.ensures)
           (sym c.in-Some.ensures.value) c.remove-2.ensures.held c.remove_all.ensures c.remove.ensures.held c.remove.ensures.room,
-      unblocked_gone t.notes.held c.remove-2.new.self.held t.unblocked.held c.remove-in-Some.new.self.held c.args.goal c.self.invariant.1 c.remove-2.ensures.held c.remove-in-Some.ensures.held,
+      subst (λ m. AreUnblocked m c.remove-in-Some.new.self) (sym c.remove-2.ensures.held)
+          (c.remove-in-Some.ensures t.notes.held c.self.invariant.1 (c.in-Some.note, sym c.in-Some.ensures.value, c.verdict.ensures)),
     )
 
 pub invariant_of-self-in_default : goal.invariant_of-self-in_default
