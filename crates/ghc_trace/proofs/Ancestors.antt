@@ -1,17 +1,18 @@
--- Which variables reach one variable, found backwards from it.
-use Rattle.ghc_trace.proofs.Words.{◌≡◌, ◌+◌, ◌<◌, ◌⊎◌, ◌↔◌, ◌∷◌, ◌++◌, ℕ, Bool, true, false, cond, List, [], length, refl, sym, ap, ◌∙◌, subst, inl, inr, arith, Option, Some, None, IsTrue, Tree, VarName, Variables, In, in_either, in_last, in_left, in_more, in_right, has_member, is_member, holds_nothing, one_inserted, true_decided, same_value, eq_by_cmp, name_cmp}
+-- Which variables reach others, found backwards from these.
+use Rattle.ghc_trace.proofs.Words.{◌≡◌, ◌+◌, ◌<◌, ◌≤◌, ◌⊎◌, ◌↔◌, ◌∷◌, ◌++◌, ℕ, Bool, true, false, cond, List, [], length, refl, sym, ap, ◌∙◌, subst, inl, inr, arith, Option, Some, None, IsTrue, Tree, VarName, Variables, In, in_either, in_last, in_left, in_more, in_right, has_member, is_member, holds_nothing, one_inserted, same_value, eq_by_cmp, name_cmp}
 use Rattle.std.proofs.lemmas.List.{length-append}
 use Rattle.std.specs.BTreeMap.{get, is_at}
 use Rattle.std.specs.FinSet as set
 use Rattle.std.specs.Global.{Vec}
-use Rattle.std.specs.Map.{lookup, remove_entry}
+use Rattle.std.specs.Map.{lookup}
 use Rattle.ghc_term.specs.Bindings.{Reaches, here, through}
 use Rattle.ghc_term.specs.Sets.{IsSetOf}
 use Rattle.ghc_term.specs.Tree.{Occurs, variable}
 use Rattle.ghc_term.proofs.Chains.{reaches_on}
 use Rattle.ghc_term.proofs.Decided.{name_decided}
-use Rattle.ghc_term.proofs.Names.{apart, itself}
-use Rattle.ghc_trace.specs.inner.Backward.{AreParentsAmong, GainsParent, GainsParentsOf, HasAllBelow, IsAncestor, IsParent, Parents, StandsUnder, above, start}
+use Rattle.ghc_term.proofs.Names.{apart, itself, same_name}
+use Rattle.ghc_trace.specs.inner.Backward.{AreAllParents, AreParentsAmong, GainsParent, GainsParentsOf, HasAllBelow, IsAncestor, IsParent, Parents, StandsUnder, above, start}
+use Rattle.ghc_trace.specs.inner.WhyNotCode.{HasOneOf}
 
 -- the test of names at one name, and at two
 chosen : {X : Type 0} (x y : VarName) (a b : X) → x ≡ y → cond (eq_by_cmp name_cmp x y) a b ≡ a
@@ -101,90 +102,127 @@ module _ (S : VarName → Option Tree) where
     ]),
   )
 
--- how far the way up from y has come: some ancestors are gone through, others wait, and those gone through lie no more in what is left
-pub record Climbing (m : Parents) (y : VarName) (left : Parents) (ancestors : Variables) (waiting : List VarName) : Type 0 where
-  pub first : IsTrue (set.contains ancestors y) ⊎ In y waiting
-  pub sound : (v : VarName) → IsTrue (set.contains ancestors v) → IsAncestor m y v
-  pub ahead : (v : VarName) → In v waiting → IsAncestor m y v
-  pub part : (w v : VarName) → StandsUnder left w v → StandsUnder m w v
-  pub stays : (w v : VarName) → ¬ IsTrue (set.contains ancestors w) → StandsUnder m w v → StandsUnder left w v
+-- how far the way up has come: some ancestors are gone through, and others wait
+pub record Climbing (m : Parents) (From : VarName → Type 0) (ancestors : Variables) (waiting : List VarName) : Type 0 where
+  pub first : (v : VarName) → From v → IsTrue (set.contains ancestors v) ⊎ In v waiting
+  pub sound : (v : VarName) → IsTrue (set.contains ancestors v) → IsAncestor m From v
+  pub ahead : (v : VarName) → In v waiting → IsAncestor m From v
   pub next : (w v : VarName) → IsTrue (set.contains ancestors w) → StandsUnder m w v → IsTrue (set.contains ancestors v) ⊎ In v waiting
 
-module _ (m : Parents) (y : VarName) where
-  pub climbing_begins : (none : Variables) → none ≡ set.empty → Climbing m y m none (y ∷ [])
-  climbing_begins none e = record {
-    first = inr (inl refl);
+module _ (m : Parents) (From : VarName → Type 0) where
+  pub climbing_begins : (none : Variables) (waiting : List VarName) → none ≡ set.empty → ((v : VarName) → From v ↔ In v waiting) → Climbing m From none waiting
+  climbing_begins none waiting e is = record {
+    first = λ v f. inr ((is v).0 f);
     sound = λ v i. absurd (holds_nothing none e v i);
-    ahead = λ v i. elim i [ inl same ↦ subst (IsAncestor m y) (sym same) start | inr never ↦ absurd never ];
-    part = λ w v s. s;
-    stays = λ w v n s. s;
+    ahead = λ v i. start ((is v).1 i);
     next = λ w v i. absurd (holds_nothing none e w i);
   }
 
-  module _ (left now : Parents) (x : VarName) (ancestors : Variables) (waiting rest come : List VarName) (taken : (q : VarName) → get name_cmp now q ≡ cond (eq_by_cmp name_cmp x q) None (get name_cmp left q)) where
-    of_left : (w v : VarName) → StandsUnder now w v → StandsUnder left w v
-    of_left w v s = elim (name_decided x w) [
-      | inl same ↦ let clash : None ≡ Some s.0 = sym (taken w ∙ chosen x w None (get name_cmp left w) same) ∙ s.1 in absurd (cc)
-      | inr other ↦ (s.0, sym (taken w ∙ passed x w None (get name_cmp left w) other) ∙ s.1, s.2)
-    ]
+  module _ (ancestors : Variables) (x : VarName) (waiting rest : List VarName) (e : waiting ≡ rest ++ x ∷ []) (s : Climbing m From ancestors waiting) where
+    -- past one that is gone through
+    pub climbs_past : IsTrue (set.contains ancestors x) → Climbing m From ancestors rest
+    climbs_past there =
+        let still : (v : VarName) → IsTrue (set.contains ancestors v) ⊎ In v waiting → IsTrue (set.contains ancestors v) ⊎ In v rest = λ v c. elim c [
+          | inl i ↦ inl i
+          | inr j ↦ elim (in_more rest x v (subst (In v) e j)) [ inl a ↦ inr a | inr same ↦ inl (subst (λ z. IsTrue (set.contains ancestors z)) (sym same) there) ]
+        ] in
+        record {
+          first = λ v f. still v (s.first v f);
+          sound = s.sound;
+          ahead = λ v i. s.ahead v (subst (In v) (sym e) (in_left rest (x ∷ []) v i));
+          next = λ w v i u. still v (s.next w v i u);
+        }
 
-    pub climbs : waiting ≡ rest ++ x ∷ [] → ((v : VarName) → In v come ↔ StandsUnder left x v) → Climbing m y left ancestors waiting → Climbing m y now (set.insert ancestors x) (rest ++ come)
-    climbs e comes s =
+    -- through one more
+    pub climbs : (come : List VarName) → ((v : VarName) → In v come ↔ StandsUnder m x v) → Climbing m From (set.insert ancestors x) (rest ++ come)
+    climbs come comes =
         let one = one_inserted ancestors x in
-        let this : IsAncestor m y x = s.ahead x (subst (In x) (sym e) (in_last rest x)) in
+        let this : IsAncestor m From x = s.ahead x (subst (In x) (sym e) (in_last rest x)) in
         let still : (v : VarName) → IsTrue (set.contains ancestors v) ⊎ In v waiting → IsTrue (set.contains (set.insert ancestors x) v) ⊎ In v (rest ++ come) = λ v c. elim c [
           | inl i ↦ inl ((one v).1 (inl i))
           | inr j ↦ elim (in_more rest x v (subst (In v) e j)) [ inl a ↦ inr (in_left rest come v a) | inr same ↦ inl ((one v).1 (inr same)) ]
         ] in
         record {
-          first = still y s.first;
-          sound = λ v i. elim ((one v).0 i) [ inl was ↦ s.sound v was | inr same ↦ subst (IsAncestor m y) (sym same) this ];
-          ahead = λ v i. elim (in_either rest come v i) [ inl a ↦ s.ahead v (subst (In v) (sym e) (in_left rest (x ∷ []) v a)) | inr b ↦ above this (s.part x v ((comes v).0 b)) ];
-          part = λ w v n. s.part w v (of_left w v n);
-          stays = λ w v n u.
-              let o = s.stays w v (λ i. n ((one w).1 (inl i))) u in
-              (o.0, taken w ∙ passed x w None (get name_cmp left w) (λ same. n ((one w).1 (inr (sym same)))) ∙ o.1, o.2);
+          first = λ v f. still v (s.first v f);
+          sound = λ v i. elim ((one v).0 i) [ inl was ↦ s.sound v was | inr same ↦ subst (IsAncestor m From) (sym same) this ];
+          ahead = λ v i. elim (in_either rest come v i) [ inl a ↦ s.ahead v (subst (In v) (sym e) (in_left rest (x ∷ []) v a)) | inr b ↦ above this ((comes v).0 b) ];
           next = λ w v i u. elim ((one w).0 i) [
             | inl was ↦ still v (s.next w v was u)
-            | inr same ↦
-                let under : StandsUnder m x v = subst (λ z. StandsUnder m z v) same u in
-                elim (true_decided (set.contains ancestors x)) [ inl was ↦ still v (s.next x v was under) | inr n ↦ inr (in_right rest come v ((comes v).1 (s.stays x v n under))) ]
+            | inr same ↦ inr (in_right rest come v ((comes v).1 (subst (λ z. StandsUnder m z v) same u)))
           ];
         }
 
-  gone_up : (left : Parents) (ancestors : Variables) → Climbing m y left ancestors [] → {v : VarName} → IsAncestor m y v → IsTrue (set.contains ancestors v)
-  gone_up left ancestors s start = elim s.first [ inl i ↦ i | inr never ↦ absurd never ]
-  gone_up left ancestors s (above {w = w} {v = v} a u) = elim (s.next w v (gone_up left ancestors s a) u) [ inl i ↦ i | inr never ↦ absurd never ]
+  gone_up : (ancestors : Variables) → Climbing m From ancestors [] → {v : VarName} → IsAncestor m From v → IsTrue (set.contains ancestors v)
+  gone_up ancestors s (start {v = v} f) = elim (s.first v f) [ inl i ↦ i | inr never ↦ absurd never ]
+  gone_up ancestors s (above {w = w} {v = v} a u) = elim (s.next w v (gone_up ancestors s a) u) [ inl i ↦ i | inr never ↦ absurd never ]
 
-  pub climbing_ends : (left : Parents) (ancestors : Variables) → Climbing m y left ancestors [] → IsSetOf ancestors (IsAncestor m y)
-  climbing_ends left ancestors s v = (s.sound v, λ a. gone_up left ancestors s a)
+  pub climbing_ends : (ancestors : Variables) → Climbing m From ancestors [] → IsSetOf ancestors (IsAncestor m From)
+  climbing_ends ancestors s v = (s.sound v, λ a. gone_up ancestors s a)
 
 -- what the look-up finds comes, or nothing does
-pub those_come : (left : Parents) (x : VarName) (those : Vec VarName) → get name_cmp left x ≡ Some those → (v : VarName) → In v those.items ↔ StandsUnder left x v
-those_come left x those found v = (λ i. (those, found, i), λ s. subst (λ (l : Vec VarName). In v l.items) (same_value s.1 found) s.2)
+pub those_come : (m : Parents) (x : VarName) (those : Vec VarName) → get name_cmp m x ≡ Some those → (v : VarName) → In v those.items ↔ StandsUnder m x v
+those_come m x those found v = (λ i. (those, found, i), λ s. subst (λ (l : Vec VarName). In v l.items) (same_value s.1 found) s.2)
 
-pub none_come : (left : Parents) (x : VarName) → get name_cmp left x ≡ None → (v : VarName) → In v [] ↔ StandsUnder left x v
-none_come left x none v = (λ i. absurd i, λ s. let clash : None ≡ Some s.0 = sym none ∙ s.1 in absurd (cc))
+pub none_come : (m : Parents) (x : VarName) → get name_cmp m x ≡ None → (v : VarName) → In v [] ↔ StandsUnder m x v
+none_come m x none v = (λ i. absurd i, λ s. let clash : None ≡ Some s.0 = sym none ∙ s.1 in absurd (cc))
 
--- how many stand under others
-abbrev pub listed : List (VarName × Vec VarName) → ℕ
-listed [] = 0
-listed (e ∷ es) = length e.1.items + listed es
+-- how many stand under variables that are not gone through
+abbrev pub listed : Variables → List (VarName × Vec VarName) → ℕ
+listed ancestors [] = 0
+listed ancestors (e ∷ es) = cond (set.contains ancestors e.0) 0 (length e.1.items) + listed ancestors es
 
-listed_less : (test : VarName → Bool) (es : List (VarName × Vec VarName)) (vs : Vec VarName) → lookup test es ≡ Some vs → listed (remove_entry test es) + length vs.items ≡ listed es
-listed_less test [] vs is = let clash : None ≡ Some vs = is in absurd (cc)
-listed_less test (e ∷ es) vs is = elim (test e.0) as (λ b. cond b (Some e.1) (lookup test es) ≡ Some vs → listed (cond b es (e ∷ remove_entry test es)) + length vs.items ≡ listed (e ∷ es)) [
-  | true ↦ λ i. let long : length e.1.items ≡ length vs.items = ap (λ (l : Vec VarName). length l.items) (same_value refl i) in omega (arith, long)
-  | false ↦ λ i. let fewer = listed_less test es vs i in omega (arith, fewer)
-] is
+fewer_by : (before now : Bool) (n : ℕ) → (IsTrue before → IsTrue now) → cond now 0 n ≤ cond before 0 n
+fewer_by true true n more = omega arith
+fewer_by true false n more = let clash : false ≡ true = more refl in absurd (cc)
+fewer_by false true n more = omega arith
+fewer_by false false n more = omega arith
 
-pub climbing_falls : (left : List (VarName × Vec VarName)) (test : VarName → Bool) (x : VarName) (waiting rest after : List VarName) (those : Vec VarName) → waiting ≡ rest ++ x ∷ [] → after ≡ rest ++ those.items
-    → lookup test left ≡ Some those → length after + listed (remove_entry test left) < length waiting + listed left
-climbing_falls left test x waiting rest after those e a found =
-    let before = ap length e ∙ length-append rest (x ∷ []) in
-    let then = ap length a ∙ length-append rest those.items in
-    let fewer = listed_less test left those found in
-    omega (arith, before, then, fewer)
+listed_fewer : (ancestors : Variables) (x : VarName) (es : List (VarName × Vec VarName)) → listed (set.insert ancestors x) es ≤ listed ancestors es
+listed_fewer ancestors x [] = omega arith
+listed_fewer ancestors x (e ∷ es) =
+    let first = fewer_by (set.contains ancestors e.0) (set.contains (set.insert ancestors x) e.0) (length e.1.items) (λ i. (one_inserted ancestors x e.0).1 (inl i)) in
+    let rest = listed_fewer ancestors x es in
+    omega (arith, first, rest)
+
+-- what stands under the variable is left out, where it was not gone through
+gone_through : (before now : Bool) (n : ℕ) → ¬ IsTrue before → IsTrue now → cond now 0 n + n ≤ cond before 0 n
+gone_through true now n new is = absurd (new refl)
+gone_through false true n new is = omega arith
+gone_through false false n new is = let clash : false ≡ true = is in absurd (cc)
+
+listed_less : (ancestors : Variables) (x : VarName) (es : List (VarName × Vec VarName)) (vs : Vec VarName) → ¬ IsTrue (set.contains ancestors x) → lookup (is_at (name_cmp x)) es ≡ Some vs
+    → listed (set.insert ancestors x) es + length vs.items ≤ listed ancestors es
+listed_less ancestors x [] vs new is = let clash : None ≡ Some vs = is in absurd (cc)
+listed_less ancestors x (e ∷ es) vs new is = elim (is_at (name_cmp x) e.0) as (λ b. is_at (name_cmp x) e.0 ≡ b → cond b (Some e.1) (lookup (is_at (name_cmp x)) es) ≡ Some vs
+    → cond (set.contains (set.insert ancestors x) e.0) 0 (length e.1.items) + listed (set.insert ancestors x) es + length vs.items ≤ cond (set.contains ancestors e.0) 0 (length e.1.items) + listed ancestors es) [
+      | true ↦ λ at i.
+          let same : x ≡ e.0 = same_name x e.0 at in
+          let long : length e.1.items ≡ length vs.items = ap (λ (l : Vec VarName). length l.items) (same_value refl i) in
+          let first = gone_through (set.contains ancestors e.0) (set.contains (set.insert ancestors x) e.0) (length e.1.items) (λ there. new (subst (λ z. IsTrue (set.contains ancestors z)) (sym same) there)) ((one_inserted ancestors x e.0).1 (inr (sym same))) in
+          let rest = listed_fewer ancestors x es in
+          omega (arith, long, first, rest)
+      | false ↦ λ at i.
+          let first = fewer_by (set.contains ancestors e.0) (set.contains (set.insert ancestors x) e.0) (length e.1.items) (λ there. (one_inserted ancestors x e.0).1 (inl there)) in
+          let rest = listed_less ancestors x es vs new i in
+          omega (arith, first, rest)
+    ] refl is
+
+module _ (m : List (VarName × Vec VarName)) (ancestors : Variables) (x : VarName) (waiting rest : List VarName) (e : waiting ≡ rest ++ x ∷ []) where
+  one_waits_less : length waiting ≡ length rest + 1
+  one_waits_less = ap length e ∙ length-append rest (x ∷ [])
+
+  pub falls_past : length rest + listed ancestors m < length waiting + listed ancestors m
+  falls_past = omega (arith, one_waits_less)
+
+  pub falls_by_none : length rest + listed (set.insert ancestors x) m < length waiting + listed ancestors m
+  falls_by_none = let fewer = listed_fewer ancestors x m in omega (arith, one_waits_less, fewer)
+
+  pub falls_by_those : (those : Vec VarName) (after : List VarName) → ¬ IsTrue (set.contains ancestors x) → lookup (is_at (name_cmp x)) m ≡ Some those → after ≡ rest ++ those.items
+      → length after + listed (set.insert ancestors x) m < length waiting + listed ancestors m
+  falls_by_those those after new found a =
+      let then = ap length a ∙ length-append rest those.items in
+      let fewer = listed_less ancestors x m those new found in
+      omega (arith, one_waits_less, then, fewer)
 
 -- what a variable reaches that is reached, is reached
 pub via : (S : VarName → Option Tree) (t : Tree) (v y : VarName) → Reaches S t v → Reaches S (variable v) y → Reaches S t y
@@ -197,18 +235,41 @@ has_all_below S t among reached all is v w i p = is_member reached among all w (
 
 -- of the variables, just the ancestors of y reach it
 module _ (S : VarName → Option Tree) (among : List VarName) (m : Parents) (y : VarName) (are : AreParentsAmong S among m) where
-  up : {v : VarName} → IsAncestor m y v → Reaches S (variable v) y
-  up start = here refl
+  abbrev IsAbove : VarName → Type 0
+  IsAbove = IsAncestor m (λ v. In v (y ∷ []))
+
+  up : {v : VarName} → IsAbove v → Reaches S (variable v) y
+  up (start i) = elim i [ inl same ↦ here (sym same) | inr never ↦ absurd never ]
   up (above {w = w} {v = v} a u) = let p = ((are w v).0 u).1 in through refl p.1 (via S p.0 w y (here p.2) (up a))
 
-  down : HasAllBelow S among → {t : Tree} {x : VarName} → Reaches S t x → x ≡ y → ((w : VarName) → Occurs w t → In w among) → (w : VarName) × Occurs w t × IsAncestor m y w
-  down below (here {x = x} o) same all = (x, o, subst (IsAncestor m y) (sym same) start)
+  down : HasAllBelow S among → {t : Tree} {x : VarName} → Reaches S t x → x ≡ y → ((w : VarName) → Occurs w t → In w among) → (w : VarName) × Occurs w t × IsAbove w
+  down below (here {x = x} o) same all = (x, o, start (inl same))
   down below (through {u = u} {y = w} o e r) same all =
       let d = down below r same (λ z q. below w z (all w o) (u, e, q)) in
       (w, o, above d.2 ((are d.0 w).1 (all w o, (u, e, d.1))))
 
-  pub ancestors_reach : HasAllBelow S among → (xs : Variables) → IsSetOf xs (IsAncestor m y) → (v : VarName) → In v among → IsTrue (set.contains xs v) ↔ Reaches S (variable v) y
+  pub ancestors_reach : HasAllBelow S among → (xs : Variables) → IsSetOf xs IsAbove → (v : VarName) → In v among → IsTrue (set.contains xs v) ↔ Reaches S (variable v) y
   ancestors_reach below xs is v i = (
     λ c. up ((is v).0 c),
-    λ r. let d = down below r refl (λ w o. subst (λ z. In z among) (sym o) i) in (is v).1 (subst (IsAncestor m y) d.1 d.2),
+    λ r. let d = down below r refl (λ w o. subst (λ z. In z among) (sym o) i) in (is v).1 (subst IsAbove d.1 d.2),
   )
+
+-- where each parent of each variable is listed, a term reaches y just where an ancestor of y stands in it
+module _ (S : VarName → Option Tree) (m : Parents) (y : VarName) (are : AreAllParents S m) where
+  abbrev IsOver : VarName → Type 0
+  IsOver = IsAncestor m (λ v. In v (y ∷ []))
+
+  climbed : {v : VarName} → IsOver v → Reaches S (variable v) y
+  climbed (start i) = elim i [ inl same ↦ here (sym same) | inr never ↦ absurd never ]
+  climbed (above {w = w} {v = v} a u) = let p = (are w v).0 u in through refl p.1 (via S p.0 w y (here p.2) (climbed a))
+
+  sunk : {t : Tree} {x : VarName} → Reaches S t x → x ≡ y → (w : VarName) × Occurs w t × IsOver w
+  sunk (here {x = x} o) same = (x, o, start (inl same))
+  sunk (through {u = u} {y = w} o e r) same = let d = sunk r same in (w, o, above d.2 ((are d.0 w).1 (u, e, d.1)))
+
+  pub reaches_by : (xs : Variables) → IsSetOf xs IsOver → (t : Tree) → HasOneOf xs t ↔ Reaches S t y
+  reaches_by xs is t = (λ h. via S t h.0 y (here h.1) (climbed ((is h.0).0 h.2)), λ r. let d = sunk r refl in (d.0, d.1, (is d.0).1 d.2))
+
+-- where a variable that is bound is one of those listed from, each parent is listed
+pub all_listed : (S : VarName → Option Tree) (among : List VarName) (m : Parents) → ((v : VarName) (u : Tree) → S v ≡ Some u → In v among) → AreParentsAmong S among m → AreAllParents S m
+all_listed S among m all are w v = (λ s. ((are w v).0 s).1, λ p. (are w v).1 (all v p.0 p.1, p))

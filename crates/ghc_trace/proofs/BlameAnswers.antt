@@ -44,7 +44,3 @@ module _ (d : Told) (rs : List Record) (t : State) (about : IsAbout d rs t) wher
   IsNext answers top next =
       IfSome next (λ one. (c : Call) × StandsAtPlace d.calls.now.list.items one.place c × IsAsked rs t d.target answers top one.count c.name)
       × IfNone next ((g : GoalName) → ¬ IsInQuestion rs t d.target answers top g)
-
--- the call that stands at an index is the one that is read there
-pub call_here : (calls list : List Call) (i : ℕ) (c k : Call) → list ≡ calls → StandsAtPlace calls i c → k ≡ get_or list i k → StandsAtPlace calls i k
-call_here calls list i c k same at is = at ∙ ap Some (sym (get_or_from_slice_get calls i c k at) ∙ ap (λ l. get_or l i k) (sym same) ∙ sym is)

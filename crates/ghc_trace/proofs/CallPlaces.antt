@@ -69,13 +69,6 @@ module _ (calls : List Call) (c : Call) (m n : BTreeMap GoalName ℕ) (h : AreNa
       kept other (Some i) p = (p.0, at_left calls c i p.0 p.1, p.2)
       kept other None none = λ i d at same. elim (at_more calls c d i at) [ inl a ↦ none i d a same | inr q ↦ other (ap (λ (z : Call). z.name) (sym q.1) ∙ same) ]
 
--- No call is found yet.
-pub found_none : (m : BTreeMap ℕ ℕ) → m.entries ≡ [] → AreFound [] m
-found_none m e = record {
-  taken = λ n. subst (IsPlaceTakenBy [] n) (sym (ap (λ es. lookup (is_at (nat_cmp n)) es) e)) (λ p c at. let clash : None ≡ Some c = at in cc);
-  before = λ i p c at. let clash : None ≡ Some c = at in cc;
-}
-
 module _ (calls new : List Call) (g : GoalName) (taker : Option ℕ) (add : AddsCall calls new g taker) where
   abbrev c : Call
   c = record { name = g; maker = add.0; taker = taker }

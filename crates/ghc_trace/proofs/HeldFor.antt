@@ -22,11 +22,11 @@ module _ {X : Type 0} {P : X → Type 0} (cmp : X → X → Ordering) where
   still_rising (x ∷ xs) ys s (leave n rest) = still_rising xs ys s.1 rest
 
 module _ (w : World) (notes : NotesByGoal) (settled : IsSettled w notes) (g : GoalName) where
-  abbrev IsAwaited : VarName → Type 0
+  abbrev pub IsAwaited : VarName → Type 0
   IsAwaited y = IsHookedOn w.opening.program w.state.goals w.state.store y g
 
   -- a goal that waits has a note that says so
-  noted : (y : VarName) → IsAwaited y → (note : Note) × (xs : Variables) × (finite.get notes g ≡ Some note) × (note.status ≡ waiting xs) × IsTrue (set.contains xs y)
+  pub noted : (y : VarName) → IsAwaited y → (note : Note) × (xs : Variables) × (finite.get notes g ≡ Some note) × (note.status ≡ waiting xs) × IsTrue (set.contains xs y)
   noted y h =
       let n = stuck_noted w.opening.program w.state.goals w.state.store notes (settled_in settled) g (waiting h.0) h.1 tt in
       (n.0, h.0, n.1, n.2, h.2)
@@ -46,7 +46,7 @@ module _ (w : World) (notes : NotesByGoal) (settled : IsSettled w notes) (g : Go
       calm xs (subst (λ (z : Note). z.status ≡ waiting xs) same waits))
 
   module _ (note : Note) (xs : Variables) (is : finite.get notes g ≡ Some note) (waits : note.status ≡ waiting xs) where
-    awaited : (y : VarName) → IsAwaited y ↔ IsTrue (set.contains xs y)
+    pub awaited : (y : VarName) → IsAwaited y ↔ IsTrue (set.contains xs y)
     awaited y = (
       λ h.
           let n = noted y h in

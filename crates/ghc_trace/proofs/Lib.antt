@@ -35,6 +35,11 @@ pub mod CallCounts
 pub mod CallWeights
 pub mod CallAnswers
 pub mod Ancestors
+pub mod AllParents
+pub mod AskedAbout
+pub mod LostSteps
+pub mod WhyNotTold
+pub mod WrittenIn
 pub mod CallTops
 pub mod Places
 pub mod Descending
@@ -46,4 +51,10 @@ pub mod BoundChain
 pub mod WayUp
 pub mod Spied
 pub mod SpyOrder
+pub mod Solving
+pub mod Refusing
+pub mod StillStuck
+pub mod NeverBound
+pub mod MayGo
+pub mod Passing
 mod Words

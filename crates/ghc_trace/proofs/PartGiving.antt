@@ -59,7 +59,7 @@ occurs_leaves (operation o a c) y = (
   ],
 )
 
-occurs_goal : (b : Goal) (y : VarName) → In y (variables_of_goal b) ↔ ((t : Tree) × In t (goal_terms b) × Occurs y t)
+pub occurs_goal : (b : Goal) (y : VarName) → In y (variables_of_goal b) ↔ ((t : Tree) × In t (goal_terms b) × Occurs y t)
 occurs_goal (call f ts) y = occurs_list ts y
 occurs_goal (unify l r) y = (
   λ i. elim (in_either (variables l) (variables r) y i) [ inl j ↦ (l, inl refl, of_variables l y j) | inr j ↦ (r, inr (inl refl), of_variables r y j) ],

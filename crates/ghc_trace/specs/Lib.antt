@@ -15,6 +15,9 @@ pub mod Spies
 pub mod SpyLaws
 pub mod OtherClauses
 pub mod Explaining
+pub mod StepGoals
+pub mod WhyNot
+pub mod WhyNotLaws
 pub mod Parts
 pub mod PartLines
 pub mod Blaming

@@ -11,3 +11,4 @@ pub mod PartsCode
 pub mod PortCode
 pub mod SpiesCode
 pub mod SpyKeys
+pub mod WhyNotCode

@@ -1,4 +1,4 @@
-// Which variables reach one variable: found backwards from it, by the variables in whose values each stands.
+// Which variables reach others: found backwards from these, by the variables in whose values each stands.
 ghost use Rattle.std.specs.Prelude.{◌≡◌, ◌↔◌, ◌++◌, IfOk, IsTrue, OnOk};
 ghost use Rattle.std.specs.FinSet as set;
 ghost use Rattle.ghc_term.specs.declared.var_name.VarName.{VarName as var_name};
@@ -7,14 +7,17 @@ ghost use Rattle.ghc_term.specs.Lists.{In};
 ghost use Rattle.ghc_term.specs.Sets.{IsSetOf};
 ghost use Rattle.ghc_term.specs.Store.{value_at};
 ghost use Rattle.ghc_term.specs.Tree.{variable};
-ghost use Rattle.ghc_trace.specs.inner.Backward.{AreParentsAmong, GainsParent, GainsParentsOf, HasAllBelow, IsAncestor};
+ghost use Rattle.ghc_trace.specs.inner.Backward.{AreAllParents, AreParentsAmong, GainsParent, GainsParentsOf, HasAllBelow, IsAncestor};
 
+use crate::parts::all_numbers;
+use crate::slice_store::bound_by;
+use ghc_core::Core;
 use ghc_term::{Store, VarName, Variables};
 use std::alloc::{AllocError, Global};
 use std::collections::BTreeMap;
 
-// Adds the parent to those of the child: two look-ups.
-fn add_parent(
+// Adds the parent to those that are listed under the child: two look-ups.
+pub(crate) fn add_parent(
     alloc: Global,
     parents: &mut BTreeMap<VarName, Vec<VarName>>,
     child: VarName,
@@ -77,26 +80,43 @@ fn push_all(xs: &[VarName], waiting: &mut Vec<VarName>) -> Result<(), AllocError
     Ok(())
 }
 
-// The variable, its parents, theirs, and so on: two look-ups for each that is listed. What is listed under a variable is taken out as
-// it is gone through, so that none is gone through twice.
-fn ancestors_of(
+// These variables, what is listed under them, what is listed under that, and so on: each once. It costs a look-up for each that is
+// listed, and two for each that is found.
+pub(crate) fn ancestors_of(
     alloc: Global,
-    parents: BTreeMap<VarName, Vec<VarName>>,
-    y: VarName,
+    parents: &BTreeMap<VarName, Vec<VarName>>,
+    from: &[VarName],
 ) -> Result<Variables, AllocError>
-    ensures { IfOk result (λ xs. IsSetOf xs (IsAncestor parents y)) }
+    ensures { IfOk result (λ xs. IsSetOf xs (IsAncestor parents.now (λ y. In y from.now))) }
 {
-    let mut left = parents;
     let mut ancestors = Variables::new(alloc);
     let mut waiting = Vec::new(alloc);
-    waiting.push(y)?;
+    push_all(from, &mut waiting)?;
     while let Some(x) = waiting.pop() {
+        if ancestors.contains(x) {
+            continue;
+        }
         ancestors.insert(x)?;
-        if let Some(those) = left.remove(&x) {
+        if let Some(those) = parents.get(&x) {
             push_all(those.as_slice(), &mut waiting)?;
         }
     }
     Ok(ancestors)
+}
+
+// The parents of each variable in the store. It goes once through the values that the kept steps bound, with some look-ups for each
+// variable there.
+pub(crate) fn all_parents(
+    alloc: Global,
+    core: &Core,
+) -> Result<BTreeMap<VarName, Vec<VarName>>, AllocError>
+    ensures { IfOk result (AreAllParents (value_at core.now.world.state.store)) }
+{
+    core.stands();
+    let records = core.records();
+    let steps = all_numbers(alloc, records)?;
+    let bound = bound_by(alloc, records, steps.as_slice())?;
+    parents_among(alloc, core.store(), bound.as_slice())
 }
 
 // Of these variables the set has just those that reach y, where what stands in the value of one is one of them. It goes once through
@@ -111,5 +131,5 @@ pub(crate) fn reaching(
     ensures { IfOk result (λ xs. (v : var_name) → In v among.now → (IsTrue (set.contains xs v) ↔ Reaches (value_at store.now.held) (variable v) y)) }
 {
     let parents = parents_among(alloc, store, among)?;
-    ancestors_of(alloc, parents, y)
+    ancestors_of(alloc, &parents, &[y])
 }

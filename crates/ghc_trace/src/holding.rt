@@ -22,7 +22,7 @@ pub struct Holder {
 }
 
 // Adds the leaves of the expression, from left to right. The parts still to visit stand in a list.
-fn push_leaves<'a>(
+pub(crate) fn push_leaves<'a>(
     alloc: Global,
     expression: &'a Expr,
     terms: &mut Vec<&'a Term>,
@@ -78,7 +78,7 @@ pub(crate) fn reached_by_goal(
 }
 
 // The unbound variables that the variable reaches in the store.
-fn unbound_in(alloc: Global, store: &Store, x: VarName) -> Result<Variables, AllocError>
+pub(crate) fn unbound_in(alloc: Global, store: &Store, x: VarName) -> Result<Variables, AllocError>
     ensures { IfOk result (λ ys. IsSetOf ys (IsUnboundIn (value_at store.now.held) x)) }
 {
     let variable = Term::variable(x);
@@ -122,7 +122,7 @@ fn listed(alloc: Global, holders: &BTreeSet<Holder>) -> Result<Vec<Holder>, Allo
 
 // The goals that reach one of these variables. Where there is a variable, it goes once through what each goal reaches, and sorts what
 // it finds.
-fn holders_among(
+pub(crate) fn holders_among(
     alloc: Global,
     core: &Core,
     variables: &Variables,

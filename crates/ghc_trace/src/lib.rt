@@ -1,8 +1,9 @@
 //! What a step shows as it is taken, and which goals a change leaves stuck. Why a step was possible, and by which other clauses. What
-//! bound the variables of a chain, which goals descend from a goal, and which predicates are spied.
+//! bound the variables of a chain, and why others are not bound. Which goals descend from a goal, and which predicates are spied.
 #![tactic(auto)]
 
 mod answered;
+mod asked_about;
 mod backward;
 mod blame_lines;
 mod blaming;
@@ -20,6 +21,7 @@ mod goal_parts;
 mod holding;
 mod judgements;
 mod laws;
+mod lost;
 mod news;
 mod next_question;
 mod others;
@@ -36,11 +38,15 @@ mod slices;
 mod spies;
 mod spy_laws;
 mod status_text;
+mod step_goals;
 mod step_ports;
 mod stuck;
 mod tops;
 mod verdict_lines;
 mod who_bound;
+mod why_not;
+mod why_not_laws;
+mod written_in;
 
 pub use blaming::push_blame;
 pub use descent::descends;
@@ -66,6 +72,11 @@ pub use slices::slice;
 pub use spies::SpySet;
 pub use spy_laws::listed_spies_come_back;
 pub use status_text::push_status;
+pub use step_goals::push_step_with_goal;
 pub use step_ports::{ports, push_ports_of};
 pub use stuck::Stuck;
 pub use who_bound::{Binder, binders, push_binder, who};
+pub use why_not::{push_why_not, push_why_not_goal};
+pub use why_not_laws::{
+    what_may_be_bound_is_reached, what_stays_unbound_is_never_bound, who_had_it_has_it_or_lost_it,
+};

@@ -26,7 +26,11 @@ fn add_bound(bound: &mut Vec<VarName>, step: &Record) -> Result<(), AllocError>
 }
 
 // The variables that the kept steps of these numbers bound.
-fn bound_by(alloc: Global, records: &Records, steps: &[u32]) -> Result<Vec<VarName>, AllocError>
+pub(crate) fn bound_by(
+    alloc: Global,
+    records: &Records,
+    steps: &[u32],
+) -> Result<Vec<VarName>, AllocError>
     requires { (n : ℕ) → In n steps.now → (r : record_spec) × IsKeptAs records.now.held n r }
     ensures { IfOk result (λ bound. (x : var_name) → In x bound.items ↔ ((n : ℕ) × In n steps.now × StepBinds records.now.held n x)) }
 {

@@ -7,7 +7,7 @@ use Rattle.ghc_term.specs.Bindings.{name_cmp}
 use Rattle.ghc_term.specs.Lists.{In}
 use Rattle.ghc_term.specs.Tree.{Tree, Occurs}
 
--- Under each variable a list: of those found so far in whose values it stands.
+-- Under each variable a list of others: of those in whose values it stands, say.
 abbrev pub Parents : Type 0
 Parents = BTreeMap VarName (Vec VarName)
 
@@ -31,10 +31,14 @@ GainsParentsOf S old new parent = (w v : VarName) → StandsUnder new w v ↔ (S
 abbrev pub AreParentsAmong : (VarName → Option Tree) → List VarName → Parents → Type 0
 AreParentsAmong S among m = (w v : VarName) → StandsUnder m w v ↔ (In v among × IsParent S v w)
 
--- The variable is y, or it stands under y, or under one that stands there, and so on.
-pub data IsAncestor (m : Parents) (y : VarName) : VarName → Type 0 where
-  start : IsAncestor m y y
-  above : {w v : VarName} → IsAncestor m y w → StandsUnder m w v → IsAncestor m y v
+-- The variable is one of those from which it begins, or it stands under one of these, or under one that stands there, and so on.
+pub data IsAncestor (m : Parents) (From : VarName → Type 0) : VarName → Type 0 where
+  start : {v : VarName} → From v → IsAncestor m From v
+  above : {w v : VarName} → IsAncestor m From w → StandsUnder m w v → IsAncestor m From v
+
+-- Under each variable stand just its parents.
+abbrev pub AreAllParents : (VarName → Option Tree) → Parents → Type 0
+AreAllParents S m = (w v : VarName) → StandsUnder m w v ↔ IsParent S v w
 
 -- What stands in the value of one of these variables, is one of them.
 abbrev pub HasAllBelow : (VarName → Option Tree) → List VarName → Type 0
