@@ -1,7 +1,15 @@
 -- A core may go to another thread, and threads may share one.
+use denote.RattleType.{RattleType}
 use denote.Param.Send.{IsSend, IsSync, sendable}
-use Rattle.std.proofs.Crossing.{crosses}
+use Rattle.std.specs.declared.cmp.Ord as ord
+use Rattle.std.specs.declared.cmp.PartialEq as eq
+use Rattle.std.specs.declared.cmp.PartialOrd as partial
+use Rattle.std.specs.contracts.alloc.Global as heap
+use Rattle.std.specs.contracts.collections.BTreeSet as tree_set
+use Rattle.std.specs.contracts.impls.GlobalAllocator.TheImpl.{ghosts}
+use Rattle.std.proofs.Crossing.{crosses, frees, send, sync}
 use Rattle.std.proofs.MapsCrossing as maps
+use Rattle.std.proofs.MapsCrossingOver as over
 use Rattle.counted_slot.proofs.Counted.TheSendSync as slot
 use Rattle.ghc_term.proofs.kept.Listed.TheSendSync as listed
 use Rattle.ghc_term.proofs.term.Term.TheLaws.TheKnot as of_terms
@@ -31,6 +39,7 @@ use Rattle.ghc_hooks.specs.contracts.note.Note as note
 use Rattle.ghc_hooks.specs.contracts.notes.Notes as notes
 use Rattle.ghc_hooks.specs.contracts.goal_set.GoalSet as goal_set
 use Rattle.ghc_hooks.specs.contracts.looks.Looks as looks
+use Rattle.ghc_hooks.specs.contracts.unblocked.Unblocked as unblocked
 use Rattle.ghc_hooks.specs.contracts.tries.Tries as tries
 use Rattle.ghc_core.specs.contracts.core_state.Core as core
 
@@ -119,10 +128,10 @@ shelf_sync : IsSync shelf.the_row
 shelf_sync = search (taken_sync, maps.crosses, crosses, sendable) depth 60 fits 20000
 
 history_send : IsSend history.the_row
-history_send = search (act_send, goal_name.the_send, crosses, sendable) depth 60 fits 20000
+history_send = search (act_send, act_sync, goal_name.the_send, goal_name.the_sync, crosses, sendable) depth 60 fits 20000
 
 history_sync : IsSync history.the_row
-history_sync = search (act_sync, goal_name.the_sync, crosses, sendable) depth 60 fits 20000
+history_sync = search (act_sync, act_send, goal_name.the_sync, goal_name.the_send, crosses, sendable) depth 60 fits 20000
 
 clause_send : IsSend clause.the_row
 clause_send = search (term_send, expression_send, goal_send, crosses, sendable) depth 60 fits 20000
@@ -172,11 +181,24 @@ looks_send = search (goal_set_send, maps.crosses, crosses, sendable) depth 60 fi
 looks_sync : IsSync looks.the_row
 looks_sync = search (goal_set_sync, maps.crosses, crosses, sendable) depth 60 fits 20000
 
+module _ (K : RattleType) (o : ord.Ghosts K.Denot) (e : eq.Ghosts K.Denot) (p : partial.Ghosts K.Denot) where
+  tree_set_send : IsSend K → IsSend (tree_set.the_field K heap.the_row o e p ghosts).row
+  tree_set_send k = over.BTreeSet-send K heap.the_row o e p ghosts k send frees
+
+  tree_set_sync : IsSync K → IsSync (tree_set.the_field K heap.the_row o e p ghosts).row
+  tree_set_sync k = over.BTreeSet-sync K heap.the_row o e p ghosts k sync
+
+unblocked_send : IsSend unblocked.the_field.row
+unblocked_send = search (goal_set_send, goal_name.the_send, tree_set_send, crosses, sendable) depth 60 fits 20000
+
+unblocked_sync : IsSync unblocked.the_field.row
+unblocked_sync = search (goal_set_sync, goal_name.the_sync, tree_set_sync, crosses, sendable) depth 60 fits 20000
+
 tries_send : IsSend tries.the_row
-tries_send = search (notes_send, goal_set_send, looks_send, crosses, sendable) depth 60 fits 20000
+tries_send = search (notes_send, goal_set_send, looks_send, unblocked_send, crosses, sendable) depth 60 fits 20000
 
 tries_sync : IsSync tries.the_row
-tries_sync = search (notes_sync, goal_set_sync, looks_sync, crosses, sendable) depth 60 fits 20000
+tries_sync = search (notes_sync, goal_set_sync, looks_sync, unblocked_sync, crosses, sendable) depth 60 fits 20000
 
 pub core_send : IsSend core.the_row
 core_send = search (program_send, program_sync, goal_send, state_send, records_send, shelf_send, taken_send, history_send, tries_send, crosses, sendable) depth 60 fits 20000

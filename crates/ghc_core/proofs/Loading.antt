@@ -1,5 +1,5 @@
 -- A history is loaded step by step: each step that is loaded leaves a world that its opening makes.
-use Rattle.ghc_core.proofs.Words.{◌≡◌, ℕ, ◌+◌, ◌<◌, ◌≤◌, List, [], ◌∷◌, ◌++◌, length, map, slice_get, refl, sym, ap, subst, subst₂, ◌∙◌, arith, map-append, Some, None, Ok, Err, GoalName, Fault, In, Program, Query, Effect, HasEffect, Goal, value_at, AreDistinct, kept_limit, State, Record, numbers, after, query_state, Runs, Step, Opening, Entry, took, step_of, History, IsHistory, loaded_opening, number_in, Goals, goal_cmp, goal_total, goal_antisymmetric, NotesByGoal, AreLeft, VarName, by_option, not_both, taken, taken_at, is_old, results_of, World, Opens, IsStanding, CanLoad, with_loaded, IsPossibleAs, IsImpossible, Loads, loads, stops, distinct_split, length-map, take, drop, slice_get_within, get_or_from_slice_get, take_all, take_more, length-take-le, splits_at, in_at}
+use Rattle.ghc_core.proofs.Words.{◌≡◌, ℕ, ◌+◌, ◌<◌, ◌≤◌, List, [], ◌∷◌, ◌++◌, length, map, slice_get, refl, sym, ap, subst, subst₂, ◌∙◌, arith, map-append, Some, None, Ok, Err, GoalName, Fault, In, Program, Query, Effect, HasEffect, Goal, value_at, AreDistinct, State, Record, numbers, after, query_state, Runs, Step, Opening, Entry, took, step_of, History, IsHistory, loaded_opening, number_in, Goals, goal_cmp, goal_total, goal_antisymmetric, NotesByGoal, AreLeft, VarName, by_option, not_both, taken, taken_at, is_old, results_of, World, Opens, IsStanding, CanLoad, with_loaded, IsPossibleAs, IsImpossible, Loads, loads, stops, distinct_split, length-map, take, drop, slice_get_within, get_or_from_slice_get, take_all, take_more, length-take-le, splits_at, in_at}
 use Rattle.std.specs.FinMap as finite
 use Rattle.ghc_core.proofs.Naming.{known_of_goal}
 use Rattle.ghc_core.proofs.Reaching.{each_more, reached_good}
@@ -31,10 +31,6 @@ pub loaded_is_new : (w : World) → IsStanding w → (r : Record) → CanLoad w 
 loaded_is_new w s r c g b there same =
     let old = is_old w.opening.query w.kept w.state (results_of w.opening.program w.opening.query w.kept w.state (standing_replay w s)) g b there in
     grind (arith, old, number_in)
-
--- Fewer steps are loaded than can be kept.
-pub room_to_load : (w : World) (r : Record) → Opens w.opening w → CanLoad w r → length w.opening.steps < kept_limit
-room_to_load w r o c = omega (arith, length-map w.kept step_of, ap length o.steps)
 
 -- The record of a step that consumes the goal named g, the goal b, with an effect that its act has on it.
 pub possible_as : (P : Program) (t : State) (s : Step) (g : GoalName) (b : Goal) (e : Effect) (r : Record) → s.goal ≡ Some g → finite.get t.goals g ≡ Some b
@@ -103,6 +99,13 @@ module _ (P : Program) (query : Query) (names : List (List ℕ)) (h : History) (
     -- It is of a goal.
     pub own_goal : IsHistory h → (g : GoalName) × (s.goal ≡ Some g)
     own_goal form = form.of_goals s (in_at h.steps i s at)
+
+    -- The first steps, with the next one, are those of the opening, with this one.
+    pub loaded_next : (first : History) → first ≡ record { steps = take (i + 1) h.steps; next = h.next } → first ≡ record { steps = w.opening.steps ++ s ∷ []; next = w.opening.next }
+    loaded_next first is =
+        let more = take_more h.steps i s (slice_get_within h.steps i s at) in
+        let steps : take (i + 1) h.steps ≡ take i h.steps ++ s ∷ [] = more ∙ ap (λ q. take i h.steps ++ q ∷ []) (get_or_from_slice_get h.steps i s s at) in
+        is ∙ ap (λ ss. record { steps = ss; next = h.next }) steps ∙ ap (λ (o : Opening). record { steps = o.steps ++ s ∷ []; next = o.next }) (sym l.opening)
 
     -- The next step was loaded.
     pub one_more_loaded : (v : World) (r : Record) → IsPossibleAs w.opening.program w.state s r → v ≡ with_loaded r w → Opens v.opening v → HasLoaded P query names h (i + 1) v

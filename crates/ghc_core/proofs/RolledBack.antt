@@ -38,11 +38,6 @@ struck_more kept some new gone more r parts =
 still_there : (kept some gone : List Record) (r : Record) → In r kept → ¬ In r gone → Picks (λ s. ¬ In s gone) kept some → In r some
 still_there kept some gone r there fresh before = elim (picks_has kept some r before there) [ inl i ↦ i | inr n ↦ absurd (n fresh) ]
 
-pub struck_next : (kept some new gone : List Record) (r : Record) → In r kept → ¬ In r gone → Picks (λ s. ¬ In s gone) kept some → (In r some → Picks (λ s. ¬ (s ≡ r)) some new) → Picks (λ s. ¬ In s (gone ++ r ∷ [])) kept new
-struck_next kept some new gone r there fresh before next =
-    let parts : (s : Record) → In s gone ⊎ (s ≡ r) → In s (gone ++ r ∷ []) = λ s i. elim i [ inl j ↦ in_left gone _ s j | inr e ↦ rw e (in_last gone r) ] in
-    struck_more kept some new gone _ r (λ s. (in_more gone r s, parts s)) before (next (still_there kept some gone r there fresh before))
-
 -- and the first of them last
 pub struck_first : (kept some new gone : List Record) (r : Record) → AreDistinct (r ∷ gone) → In r kept → Picks (λ s. ¬ In s gone) kept some → (In r some → Picks (λ s. ¬ (s ≡ r)) some new) → Picks (λ s. ¬ In s (r ∷ gone)) kept new
 struck_first kept some new gone r once there before next =

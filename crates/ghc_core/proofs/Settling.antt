@@ -1,8 +1,7 @@
 -- Goals are tried and noted one after another.
-use Rattle.ghc_core.proofs.Words.{◌≡◌, ℕ, zero, suc, ◌+◌, ◌-◌, ◌<◌, List, false, cond, refl, ap, ◌∙◌, arith, Some, None, IsTrue, GoalName, Goal, StoreValue, value_at, Program, is_stream, goal_cmp, Goals, tried, Meter, goal_total, goal_antisymmetric, GoalNames, Note, NotesByGoal, IsExact, AreExact, goal_itself, goal_cases, goal_taken, put_here, put_elsewhere, World, IsConsistent, AreExactIn, tells, IsNoteOf, AreKept, IsNoted, AreNoted, tried_often, by_option}
+use Rattle.ghc_core.proofs.Words.{◌≡◌, ℕ, ◌+◌, List, false, ap, arith, Some, None, IsTrue, GoalName, Goal, StoreValue, value_at, Program, is_stream, Goals, tried, Meter, goal_total, goal_antisymmetric, GoalNames, Note, NotesByGoal, IsExact, AreExact, goal_itself, goal_cases, one_less, goal_taken, put_here, put_elsewhere, World, IsConsistent, AreExactIn, tells, IsNoteOf, AreKept, IsNoted, AreNoted, tried_often, by_option}
 use Rattle.std.specs.FinMap as finite
 use Rattle.std.specs.FinSet as set
-use Rattle.ghc_term.proofs.ListsLemmas.{not_both}
 
 module _ (m : NotesByGoal) (g : GoalName) (n : Note) where
   -- a note that is there is put again in vain
@@ -40,17 +39,6 @@ pub consistent_now : (w : World) (m new : NotesByGoal) (u left : GoalNames) (nam
     → IsConsistent w new left names
 consistent_now w m new u left names g n c q put taken =
     rw (put, taken) (record { standing = c.standing; exact = noted_exact c.exact g q.0 q.1.0 q.1.1 n q.2; streams = c.streams })
-
--- an untried goal is taken out
-pub one_less : (u : GoalNames) (g : GoalName) → IsTrue (set.contains u g) → set.len (set.remove u g) + 1 ≡ set.len u
-one_less u g there =
-    let less : set.len (set.remove u g) ≡ set.len u - 1 = set.len-remove goal_total u g ∙ ap (λ b. cond b (set.len u - 1) (set.len u)) there in
-    let some : 0 < set.len u = by (set.len u) refl in
-    omega (arith, less, some)
-  where
-    by : (k : ℕ) → set.len u ≡ k → 0 < k
-    by zero z = absurd (not_both (set.contains u g) (ap (λ s. set.contains s g) (set.empty_of_len u z) ∙ set.contains-empty goal_cmp g) there)
-    by (suc k) z = omega arith
 
 -- counts of tries
 abbrev counted : Meter → ℕ → Meter

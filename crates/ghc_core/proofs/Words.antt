@@ -87,7 +87,7 @@ pub use Rattle.ghc_hooks.proofs.EachStatus.{each_status}
 pub use Rattle.ghc_hooks.proofs.Few.{take_absent}
 pub use Rattle.ghc_hooks.proofs.Fitting.{gone_elsewhere, gone_here, put_elsewhere, put_here}
 pub use Rattle.ghc_hooks.proofs.LookedAt.{exact_stays}
-pub use Rattle.ghc_hooks.proofs.Looking.{goal_cases, goal_itself, goal_put, goal_taken}
+pub use Rattle.ghc_hooks.proofs.Looking.{goal_cases, goal_itself, goal_put, goal_taken, one_less}
 pub use Rattle.ghc_hooks.proofs.LookingAll.{earlier, latest, so_far}
 pub use Rattle.ghc_hooks.proofs.NotedFaces.{settled_notes}
 pub use Rattle.ghc_hooks.proofs.Statuses.{status_once}

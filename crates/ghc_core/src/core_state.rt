@@ -114,7 +114,7 @@ impl Core {
             shelf: Shelf::new(alloc),
             next,
             journal: Journal::new(alloc),
-            loaded: History::empty(alloc, next),
+            loaded: History::empty(next),
             meter: Meter::new(),
             tries,
             streams,

@@ -122,4 +122,13 @@ impl Core {
         }
         Ok(count)
     }
+
+    /// Puts the goals that by their notes do not wait in order, for `Tries::sorted`: a search and some look-ups for each that was noted
+    /// since this was done. Where memory is refused, some of them are not in order.
+    pub fn sort_goals(&mut self) -> Result<(), AllocError>
+        ensures stays { Stays self.old self.new }
+        ensures meter { self.new.meter ≡ self.old.meter }
+    {
+        self.tries.sort()
+    }
 }

@@ -161,8 +161,8 @@ impl Core {
 
     /// Finds what it takes to roll the step of this number back: `NotKept` exactly where the step is not kept, which it reports
     /// before it asks for memory. Else it fails only where memory is refused. It costs a look-up for each direct dependence on the
-    /// step or on a consequence, and puts the consequences in order; where the index of the record is not whole, a search of the record
-    /// for each.
+    /// step or on a consequence, and puts the consequences in order; where the index of the record is not whole, it goes once over the
+    /// records after the step.
     pub fn prepare_rollback(&self, alloc: Global, number: u32) -> Result<Rollback, Fault>
         ensures found { IfOk result (λ gone. CanChange self.now.world (goes Going.Together gone)) }
         ensures step { IfOk result (λ gone. gone.first.number ≡ number) }

@@ -1,5 +1,5 @@
 // Loading histories.
-ghost use Rattle.std.specs.Prelude.{◌≡◌, Ok, Err, Some, length, IfOk, IfSome, IfNone, OnOk};
+ghost use Rattle.std.specs.Prelude.{◌≡◌, ◌++◌, ◌∷◌, [], Ok, Err, Some, length, IfOk, IfSome, IfNone};
 ghost use Rattle.std.specs.FinMap as finite;
 ghost use Rattle.ghc_term.specs.Answered.{Answered};
 ghost use Rattle.ghc_term.specs.declared.goal_name.GoalName.{GoalName as goal_name};
@@ -21,7 +21,7 @@ use ghc_fire::{MadeGoal, Meter, effect_as};
 use ghc_flat::Program;
 use ghc_reader::Query;
 use ghc_records::{Addition, History, Record, State, Step};
-use ghc_term::{Fault, Goal, GoalName};
+use ghc_term::{Fault, GoalName};
 use std::alloc::{AllocError, Global};
 
 // The record of the step that consumes this goal, as it is possible in the state, if it is. A firing is counted.
@@ -32,7 +32,7 @@ fn fire_at(
     state: &State,
     step: &Step,
     name: GoalName,
-    goal: &Goal,
+    goal: &MadeGoal,
 ) -> Result<Option<Record>, AllocError>
     requires named { step.now.goal ≡ Some name }
     requires there { finite.get state.now.held.goals name ≡ Some goal.now }
@@ -46,15 +46,14 @@ fn fire_at(
         meter,
         program,
         state.store(),
-        goal,
+        goal.goal(),
         step.act(),
         number,
     )?;
     let Some(effect) = found else {
         return Ok(None);
     };
-    let shared = goal.share()?;
-    let consumed = MadeGoal::alone(alloc, shared)?;
+    let consumed = goal.share()?;
     let act = step.act().share()?;
     let record = Record::new(alloc, number, Some(name), Some(consumed), act, effect)?;
     Ok(Some(record))
@@ -76,7 +75,7 @@ fn fire_step(
     let Some(name) = step.goal() else {
         return Ok(None);
     };
-    match state.goals().get(name) {
+    match state.goals().handle(name) {
         Some(goal) => fire_at(alloc, meter, program, state, step, name, goal),
         None => Ok(None),
     }
@@ -99,31 +98,36 @@ impl Core {
         fire_step(alloc, &mut self.meter, &*self.program, &self.state, step)
     }
 
-    // Takes the step as the next one of those that are loaded, at the end of the opening. An error leaves the core as it was.
-    fn add_loaded(&mut self, addition: Addition, step: Step) -> Result<(), AllocError>
+    // Takes the step as the next one of those that are loaded, which with it are these.
+    fn add_loaded(&mut self, addition: Addition, loaded: History)
         requires opened { Opens self.old.world.opening self.old.world }
         requires found { CanLoad self.old.world addition }
-        requires step { step ≡ step_of addition }
+        requires loaded { loaded ≡ record { steps = self.old.world.opening.steps ++ step_of addition ∷ []; next = self.old.world.opening.next } }
         requires room { HasRoomFor self.old.world self.old.room (comes Coming.Next addition) }
-        ensures world { OnOk result (self.new.world ≡ with_loaded addition self.old.world) }
-        ensures opens { OnOk result (Opens self.new.world.opening self.new.world) }
-        ensures notes { self.old.notes ≡ finite.empty → OnOk result (self.new.notes ≡ finite.empty) }
+        ensures world { self.new.world ≡ with_loaded addition self.old.world }
+        ensures opens { Opens self.new.world.opening self.new.world }
+        ensures notes { self.old.notes ≡ finite.empty → self.new.notes ≡ finite.empty }
         ensures meter { self.new.meter ≡ self.old.meter }
     {
-        self.loaded.push(step)?;
+        self.loaded = loaded;
         let (taken, entry) = self.state.take(addition);
         carry_over(&mut self.tries, &taken);
         self.streams.tell(&taken);
         self.records.put(taken);
         self.journal.put(entry);
-        Ok(())
     }
 
-    // Takes the step where it is possible, as the next one of those that are loaded. It fires once where it is, and costs what
-    // firing and applying it cost.
-    fn load_step(&mut self, alloc: Global, step: &Step) -> Result<Outcome, AllocError>
+    // Takes the step where it is possible, as the next one of those that are loaded, which with it are these. It fires once where it
+    // is, and costs what firing and applying it cost.
+    fn load_step(
+        &mut self,
+        alloc: Global,
+        step: &Step,
+        loaded: History,
+    ) -> Result<Outcome, AllocError>
         requires opened { Opens self.old.world.opening self.old.world }
         requires of_goal { (g : goal_name) × (step.now.goal ≡ Some g) }
+        requires loaded { loaded ≡ record { steps = self.old.world.opening.steps ++ step.now ∷ []; next = self.old.world.opening.next } }
         requires own { (r : record_spec) → IsPossibleAs self.old.world.opening.program self.old.world.state step.now r → CanLoad self.old.world r }
         ensures carried { IfOk result (λ outcome. outcome ≡ Outcome.CarriedOut → (r : record_spec) × IsPossibleAs self.old.world.opening.program self.old.world.state step.now r × (self.new.world ≡ with_loaded r self.old.world)) }
         ensures opens { IfOk result (λ outcome. outcome ≡ Outcome.CarriedOut → Opens self.new.world.opening self.new.world) }
@@ -136,10 +140,9 @@ impl Core {
         let Some(record) = found else {
             return Ok(Outcome::Refused);
         };
-        let loaded = record.step()?;
         let addition = Addition::of(alloc, record)?;
         self.reserve_to_add(addition.step())?;
-        self.add_loaded(addition, loaded)?;
+        self.add_loaded(addition, loaded);
         Ok(Outcome::CarriedOut)
     }
 
@@ -165,7 +168,8 @@ impl Core {
         let count = steps.len() as u32;
         let mut core = Core::numbered_from(alloc, program, query, history.next())?;
         for index in 0..count {
-            match core.load_step(alloc, &steps[index as usize]) {
+            let loaded = history.first(index + 1)?;
+            match core.load_step(alloc, &steps[index as usize], loaded) {
                 Ok(Outcome::CarriedOut) => {}
                 Ok(Outcome::Refused) => return Err(Fault::History { line: index + 3 }),
                 Err(_) => return Err(Fault::Memory),

@@ -117,6 +117,6 @@ impl Core {
             return Err(Fault::Limit(Limit::Version));
         }
         let steps = steps_of(alloc, &self.records)?;
-        Ok(History::new(steps, self.next))
+        Ok(History::new(alloc, steps, self.next)?)
     }
 }

@@ -6,28 +6,8 @@ ghost use Rattle.ghc_records.specs.inner.WrittenEntryCode.{said_by};
 
 use crate::core_state::Core;
 use crate::saved::taken_again::numbers_again;
-use ghc_records::{Chronicle, Entry, History, Journal, Predicate, Step, WrittenEntry};
+use ghc_records::{Chronicle, Entry, History, Journal, Predicate, WrittenEntry};
 use std::alloc::{AllocError, Global};
-
-// The step once more, with its parts shared.
-fn step_again(step: &Step) -> Result<Step, AllocError>
-    ensures { IfOk result (λ s. s ≡ step.now) }
-{
-    Ok(Step::new(step.number(), step.goal(), step.act().share()?))
-}
-
-// The history once more, with the parts of its steps shared: one step for each.
-fn history_again(alloc: Global, history: &History) -> Result<History, AllocError>
-    ensures { IfOk result (λ h. h ≡ history.now) }
-{
-    let steps = history.steps();
-    let mut again = Vec::new(alloc);
-    again.reserve_exact(steps.len())?;
-    for step in steps {
-        again.push(step_again(step)?)?;
-    }
-    Ok(History::new(again, history.next()))
-}
 
 // The entry as a chronicle has it.
 fn entry_told(alloc: Global, entry: &Entry) -> Result<WrittenEntry, AllocError>
@@ -87,12 +67,12 @@ impl Core {
     }
 
     /// The chronicle that tells the whole of the core, with these predicates spied: what it began with, all entries of its journal
-    /// after that, and the number that the next step gets. It takes one step for each step of the opening and each entry, and for
-    /// each number of an order. It fails only where memory is refused or a count of handles is full.
+    /// after that, and the number that the next step gets. It shares the opening, and takes one step for each entry, and for each
+    /// number of an order. It fails only where memory is refused or a count of handles is full.
     pub fn chronicle(&self, alloc: Global, spies: Vec<Predicate>) -> Result<Chronicle, AllocError>
         ensures { IfOk result (λ chronicle. chronicle ≡ chronicle_of_world self.now.world spies.items) }
     {
-        let opening = history_again(alloc, &self.loaded)?;
+        let opening = self.loaded.share()?;
         let entries = entries_told(alloc, &self.journal, self.loaded.steps().len())?;
         Ok(Chronicle::new(opening, entries, spies, self.next))
     }

@@ -1,9 +1,9 @@
-use Rattle.ghc_core.proofs.Words.{◌≡◌, ◌<◌, [], ◌∷◌, ◌++◌, subst, sym, ap, ◌∙◌, In, Record, numbers, loaded_opening, AreLeft, MakesGoal, Binds, World, Opens, Core, IsConsistent, AreCarriedOver, CanLoad, with_loaded, told, number_in}
+use Rattle.ghc_core.proofs.Words.{◌≡◌, ◌<◌, [], ◌∷◌, ◌++◌, subst, sym, ap, ◌∙◌, In, Record, numbers, loaded_opening, step_of, AreLeft, MakesGoal, Binds, World, Opens, Core, IsConsistent, AreCarriedOver, CanLoad, with_loaded, told, number_in}
 use Rattle.ghc_core.proofs.Standing.{standing_replay, standing_well_made}
 use Rattle.ghc_core.proofs.Taking.{unbound_there}
 use Rattle.ghc_core.proofs.StreamNames.{stands_over}
 use Rattle.ghc_core.proofs.Exactness.{unnoted, not_there, over_exact, over_left}
-use Rattle.ghc_core.proofs.Loading.{loaded_opens, loaded_stands, loaded_is_new, loaded_world, room_to_load, none_noted}
+use Rattle.ghc_core.proofs.Loading.{loaded_opens, loaded_stands, loaded_is_new, loaded_world, none_noted}
 use Rattle.ghc_core.proofs.core_state.Core.add_loaded.Goals as goal
 
 -- the world before the step, and what is known of it
@@ -15,10 +15,6 @@ opened c = subst (λ (x : Core). Opens x.world.opening x.world) (sym c.self.view
 
 found : (c : goal.After-put-2) → CanLoad (before c) c.args.addition
 found c = subst (λ (x : Core). CanLoad x.world c.args.addition) (sym c.self.view_is) c.requires.found
-
-pub push-requires : goal.push-requires
-push-requires c =
-    record { few = room_to_load _ c.args.addition (subst (λ (x : Core). Opens x.world.opening x.world) (sym c.self.view_is) c.requires.opened) (subst (λ (x : Core). CanLoad x.world c.args.addition) (sym c.self.view_is) c.requires.found) }
 
 pub take-taken-requires-clause-acyclic : goal.take-taken-requires-clause-acyclic
 take-taken-requires-clause-acyclic c =
@@ -46,10 +42,10 @@ carry_over-requires-clause-new c g made =
 
 -- the world that is left is the one with the step
 left : (c : goal.After-put-2)
-    → record { opening = loaded_opening c.self.inside.program.value c.self.inside.query.goals c.self.inside.query.variables c.push.new.self; state = c.take-taken.new.self.held; kept = c.put.new.self.held; shelf = c.self.inside.shelf.held; next = c.self.inside.next; journal = c.put-2.new.self.held }
+    → record { opening = loaded_opening c.self.inside.program.value c.self.inside.query.goals c.self.inside.query.variables c.args.loaded; state = c.take-taken.new.self.held; kept = c.put.new.self.held; shelf = c.self.inside.shelf.held; next = c.self.inside.next; journal = c.put-2.new.self.held }
     ≡ with_loaded c.args.addition (before c)
 left c =
-    loaded_world c.args.addition (before c) (c.in_ok-push.ensures.ok ∙ ap (λ s. record { steps = c.self.inside.loaded.steps ++ s ∷ []; next = c.self.inside.loaded.next }) c.requires.step)
+    loaded_world c.args.addition (before c) (subst (λ (x : Core). c.args.loaded ≡ record { steps = x.world.opening.steps ++ step_of c.args.addition ∷ []; next = x.world.opening.next }) (sym c.self.view_is) c.requires.loaded)
     c.take-taken.ensures.state
     (c.put.ensures ∙ ap (λ (r : Record). c.self.inside.records.held ++ r ∷ []) c.take-taken.ensures.record)
     (c.put-2.ensures.held ∙ ap (λ e. c.self.inside.journal.held ++ e ∷ []) c.take-taken.ensures.entry)
@@ -58,8 +54,8 @@ left c =
 carried : (c : goal.After-put-2) → AreCarriedOver c.args.addition c.self.inside.tries c.carry_over.new.tries
 carried c = subst (λ r. AreCarriedOver r c.self.inside.tries c.carry_over.new.tries) c.take-taken.ensures.record c.carry_over.ensures
 
-pub invariant_of-self-2 : goal.invariant_of-self-2
-invariant_of-self-2 c =
+pub invariant_of-self : goal.invariant_of-self
+invariant_of-self c =
     subst (λ w. IsConsistent w c.carry_over.new.tries.notes c.carry_over.new.tries.untried c.tell.new.self) (sym (left c)) (record {
       standing = loaded_stands (before c) c.self.invariant.standing c.args.addition (opened c) (found c);
       exact = over_exact (before c) c.args.addition (found c).possible (loaded_is_new (before c) c.self.invariant.standing c.args.addition (found c)) c.self.inside.tries c.carry_over.new.tries c.self.invariant.exact (carried c);

@@ -1,5 +1,5 @@
 use Rattle.ghc_core.proofs.Words.{◌≡◌, ℕ, ◌+◌, ◌<◌, List, [], length, get_or, slice_get, refl, ap, subst, ◌∙◌, inr, arith, Some, slice_get_read, loaded_opening, Opens, Meter, Step}
-use Rattle.ghc_core.proofs.Loading.{nothing_loaded, own_step, own_goal, one_more_loaded, stopped_at, all_loaded}
+use Rattle.ghc_core.proofs.Loading.{loaded_next, nothing_loaded, own_step, own_goal, one_more_loaded, stopped_at, all_loaded}
 use Rattle.ghc_core.proofs.core_state.Core.load.Goals as goal
 
 -- the step at the place that the loop is at
@@ -23,6 +23,16 @@ pub load_step-requires-clause-of_goal : goal.load_step-requires-clause-of_goal
 load_step-requires-clause-of_goal c =
     let at = at_place _ _ _ _ c.steps-steps.ensures.steps c.loop-index-test.true c.index-steps-index.is in
     own_goal _ _ _ _ _ _ c.loop-index.invariant.loaded _ at c.requires.history
+
+pub first-requires : goal.first-requires
+first-requires c =
+    let same : length c.steps-steps.result.now ≡ length c.args.history.now.steps = ap length c.steps-steps.ensures.steps in
+    omega (arith, c.loop-index-test.true, same)
+
+pub load_step-requires-clause-loaded : goal.load_step-requires-clause-loaded
+load_step-requires-clause-loaded c =
+    let at = at_place _ _ _ _ c.steps-steps.ensures.steps c.loop-index-test.true c.index-steps-index.is in
+    loaded_next _ _ _ _ _ _ c.loop-index.invariant.loaded _ at c.in_ok-loaded.loaded c.in_ok-loaded.ensures
 
 pub returns-in-Ok-Refused-clause-answer : goal.returns-in-Ok-Refused-clause-answer
 returns-in-Ok-Refused-clause-answer c =

@@ -1,7 +1,7 @@
-use Rattle.ghc_core.proofs.Words.{◌≡◌, ◌+◌, subst, sym, ap, ◌∙◌, arith, err_from_is_err_and, goal_cmp, tried, AreNoted, tried_often}
+use Rattle.ghc_core.proofs.Words.{◌≡◌, ◌+◌, subst, sym, ap, ◌∙◌, arith, err_from_is_err_and, goal_cmp, one_less, tried, AreNoted, tried_often}
 use Rattle.std.specs.FinSet as set
 use Rattle.ghc_term.proofs.ListsLemmas.{not_both}
-use Rattle.ghc_core.proofs.Settling.{one_noted, one_less, tried_more}
+use Rattle.ghc_core.proofs.Settling.{one_noted, tried_more}
 use Rattle.ghc_core.proofs.core_state.Core.settle.Goals as goal
 
 pub loop-goal-smaller : goal.loop-goal-smaller
