@@ -4,6 +4,7 @@ pub mod Noting
 pub mod Spied
 pub mod Standings
 pub mod Surveyed
+pub mod Listing
 pub mod Taking
 pub mod Failures
 pub mod Moves

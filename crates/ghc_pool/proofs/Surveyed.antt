@@ -1,65 +1,30 @@
--- What the goals in question give a run.
-use Rattle.ghc_pool.proofs.Words.{◌≡◌, ℕ, List, [], ◌∷◌, ◌++◌, length, refl, sym, ap, ◌∙◌, subst, inl, inr, true, false, arith, ◌⊎◌, Option, eqb, eqb-true, eqb-false, GoalName, In, in_left, in_right, in_either, NotesByGoal, IsUntried, World, IsFull, Spies, Stop, IsSpiedIn, HasFailed, AsksForNoStop, CanGoOn, Holds, has_failed, is_spied, starved, is_quiet, AreListed, IsStopped}
+-- What the goals that are ready, and those that have failed, give a run.
+use Rattle.ghc_pool.proofs.Words.{◌≡◌, ◌↔◌, ℕ, List, [], ◌∷◌, refl, ap, ◌∙◌, inl, Option, eqb, eqb-true, eqb-false, length, true, false, arith, GoalName, Fault, In, IsAcyclic, value_at, GoalNames, ready, failed, NotesByGoal, IsNotedAs, World, IsFull, AreExactIn, Spies, Stop, IsInQuestion, HasFailed, Holds, is_quiet}
+use Rattle.std.specs.FinSet as set
 use Rattle.ghc_pool.specs.Runs.{IsReady}
+use Rattle.ghc_pool.proofs.Standings.{none_untried, note_stands, stands_noted}
 
-module _ (root : Option GoalName) (w : World) where
-  -- no goals
-  pub none_listed : AreListed root w [] []
-  none_listed = record { unfailed = λ g i. absurd i; listed = λ g i r. absurd i; each = λ g i. absurd i }
+module _ (w : World) (notes : NotesByGoal) (untried : GoalNames) (acyclic : IsAcyclic (value_at w.state.store)) (exact : AreExactIn w notes untried) (settled : untried ≡ set.empty) (root : Option GoalName) where
+  -- the goals that are noted as ready, of which those in question are ready
+  module _ (goals : List GoalName) (noted : (g : GoalName) → In g goals ↔ IsNotedAs notes g ready) where
+    pub is_ready_one : (g : GoalName) → In g goals → IsInQuestion root w.kept g → IsReady root w g
+    is_ready_one g i asked = let n = (noted g).0 i in (asked, note_stands w notes untried acyclic exact settled g n.0 ready n.1 n.2)
 
-  -- one goal more
-  module _ (done more : List GoalName) (goal : GoalName) (split : (g : GoalName) → In g more → In g done ⊎ (g ≡ goal)) (list : List GoalName) (before : AreListed root w done list) (here : ¬ HasFailed root w goal) where
-    no_failed_more : (g : GoalName) → In g more → ¬ HasFailed root w g
-    no_failed_more g i f = elim (split g i) [ inl old ↦ before.unfailed g old f | inr is ↦ here (subst (HasFailed root w) is f) ]
+    pub ready_there : (g : GoalName) → IsReady root w g → In g goals
+    ready_there g r = (noted g).1 (stands_noted w notes untried acyclic exact settled g ready (λ e. cc) r.1)
 
-    -- that is not listed
-    pub idle_more : ¬ IsReady root w goal → AreListed root w more list
-    idle_more idle = record {
-      unfailed = no_failed_more;
-      listed = λ g i r. elim (split g i) [ inl old ↦ before.listed g old r | inr is ↦ absurd (idle (subst (IsReady root w) is r)) ];
-      each = before.each;
-    }
+  -- the goals that are noted as failed, of which those in question have failed
+  module _ (goals : List GoalName) (noted : (g : GoalName) → In g goals ↔ ((f : Fault) × IsNotedAs notes g (failed f))) where
+    pub is_failed_one : (g : GoalName) → In g goals → IsInQuestion root w.kept g → HasFailed root w g
+    is_failed_one g i asked = let n = (noted g).0 i in (asked, (n.0, note_stands w notes untried acyclic exact settled g n.1.0 (failed n.0) n.1.1 n.1.2))
 
-    -- that is listed
-    pub ready_more : IsReady root w goal → AreListed root w more (list ++ goal ∷ [])
-    ready_more is_ready = record {
-      unfailed = no_failed_more;
-      listed = λ g i r. elim (split g i) [ inl old ↦ in_left list (goal ∷ []) g (before.listed g old r) | inr is ↦ in_right list (goal ∷ []) g (inl is) ];
-      each = λ g i. elim (in_either list (goal ∷ []) g i) [
-        | inl old ↦ before.each g old
-        | inr new ↦ elim new [ inl is ↦ subst (IsReady root w) (sym is) is_ready | inr none ↦ absurd none ]
-      ];
-    }
+    pub none_failed : ((g : GoalName) → In g goals → ¬ IsInQuestion root w.kept g) → (g : GoalName) → ¬ HasFailed root w g
+    none_failed unasked g f = unasked g ((noted g).1 (f.1.0, stands_noted w notes untried acyclic exact settled g (failed f.1.0) (λ e. cc) f.1.1)) f.0
 
-module _ (spies : Spies) (root : Option GoalName) (w : World) (goals : List GoalName) (among : (g : GoalName) → IsReady root w g ⊎ HasFailed root w g → In g goals) (list : List GoalName) (listed : AreListed root w goals list) where
-  pub none_failed : (g : GoalName) → ¬ HasFailed root w g
-  none_failed g f = listed.unfailed g (among g (inr f)) f
-
-  pub each_listed : (g : GoalName) → IsReady root w g → In g list
-  each_listed g r = listed.listed g (among g (inl r)) r
-
-  -- no goal that is listed is spied
-  module _ (unspied : (g : GoalName) → In g list → ¬ IsSpiedIn spies w g) where
-    pub no_stop : AsksForNoStop spies root w
-    no_stop = record { unfailed = none_failed; unspied = λ g r. unspied g (each_listed g r) }
-
-    pub goes_on : ¬ IsFull w → (g : GoalName) → In g list → CanGoOn spies root w
-    goes_on room g i = record { unstopped = no_stop; room = room; goal = g; is_ready = listed.each g i }
-
-  -- a goal that is listed is spied
-  pub spied_holds : (Starved : Type 0) (limit taken : ℕ) (notes : NotesByGoal) (g : GoalName) → In g list → IsSpiedIn spies w g → Holds Starved spies root limit taken w notes (Stop.Spied g)
-  spied_holds Starved limit taken notes g i s = is_spied g none_failed (listed.each g i) s
-
-  -- none is listed
-  pub quiet_holds : (Starved : Type 0) (limit taken : ℕ) (notes : NotesByGoal) → ((g : GoalName) → ¬ IsUntried w.state.goals notes g) → ¬ IsFull w → list ≡ [] → Holds Starved spies root limit taken w notes Stop.Quiet
-  quiet_holds Starved limit taken notes tried room none =
-      is_quiet room (record { tried = λ g q. tried g; unready = λ g r. absurd (subst (In g) none (each_listed g r)); unfailed = none_failed })
-
--- what stops a survey holds
-pub stopped_holds : (Starved : Type 0) (s : Starved) (spies : Spies) (root : Option GoalName) (limit taken : ℕ) (w : World) (notes : NotesByGoal) (stop : Stop) → IsStopped root w stop
-    → Holds Starved spies root limit taken w notes stop
-stopped_holds Starved s spies root limit taken w notes stop (inl is) = subst (Holds Starved spies root limit taken w notes) (sym is) (starved s)
-stopped_holds Starved s spies root limit taken w notes stop (inr f) = subst (Holds Starved spies root limit taken w notes) (sym f.1) (has_failed f.0 f.2)
+  -- none is ready, so nothing is left to do
+  pub quiet_holds : (Starved : Type 0) (spies : Spies) (limit taken : ℕ) → ¬ IsFull w → ((g : GoalName) → ¬ IsReady root w g) → ((g : GoalName) → ¬ HasFailed root w g) → Holds Starved spies root limit taken w notes Stop.Quiet
+  quiet_holds Starved spies limit taken room unready unfailed =
+      is_quiet room (record { tried = λ g q. none_untried w notes untried acyclic exact settled g; unready = unready; unfailed = unfailed })
 
 -- a list that is not empty has an element
 pub some_member : (list : List GoalName) → ¬ (list ≡ []) → (g : GoalName) × In g list

@@ -123,18 +123,3 @@ names_added (y ∷ xs) x = ap (λ gs. y.name ∷ gs) (names_added xs x)
 pub length_of_names : (xs : List InHand) → length (names_in xs) ≡ length xs
 length_of_names [] = refl
 length_of_names (x ∷ xs) = ap suc (length_of_names xs)
-
-module _ {P L : Type 0} (excerpts : GoalName → core.Excerpt → Type 0) (attempts : GoalName → Result Proposal Fault → Type 0) (takes : Bool) where
-  pub can_given : (xs : List InHand) (j k : Job P L) → k.worker ≡ j.worker → j.spare ≤ k.spare → CanDecide excerpts attempts takes xs j → CanDecide excerpts attempts takes xs k
-  can_given xs j k worker more can = record {
-    permit = λ t. omega (arith, can.permit t, more);
-    room = subst (λ w. HasRoomToAnswer (length xs) w) (sym worker) can.room;
-    apart = can.apart;
-  }
-
-  pub can_found : (xs : List InHand) (j k : Job P L) → DidNothing j.worker k.worker → k.spare ≡ j.spare → CanDecide excerpts attempts takes xs j → CanDecide excerpts attempts takes xs k
-  can_found xs j k same spare can = record {
-    permit = λ t. omega (arith, can.permit t, spare);
-    room = omega (arith, can.room, same.more, ap (λ l. length l) same.taken, j.worker.taken.ok.0, k.worker.taken.ok.0);
-    apart = can.apart;
-  }

@@ -15,16 +15,6 @@ offered_after u v w (inr p) (inl q) = inr (q.1 ∙ p)
 offered_after u v w p (inr q) = inr q
 
 module _ (fed : List Taken → Type 0) (asks : List Taken → RoundStop → Type 0) where
-  pub well_offered : (k l : Work) → IsWell fed asks k → l.taken ≡ k.taken → ((l.left.items ≡ k.left.items) × (l.stop ≡ k.stop)) ⊎ (l.stop ≡ Some RoundStop.Memory) → IsWell fed asks l
-  well_offered k l well taken (inl same) = record {
-    reason = subst (λ s. IsReason fed asks s l.taken.items) (sym same.1) (subst (λ t. IsReason fed asks k.stop t.items) (sym taken) well.reason);
-    left = λ none. same.0 ∙ well.left (sym same.1 ∙ none);
-  }
-  well_offered k l well taken (inr memory) = record {
-    reason = subst (λ s. IsReason fed asks s l.taken.items) (sym memory) tt;
-    left = λ none. absurd (some_none RoundStop.Memory (sym memory ∙ none));
-  }
-
   pub well_same : (u v : Worker) → DidNothing u v → IsWell fed asks (work_of u) → IsWell fed asks (work_of v)
   well_same u v same well = record {
     reason = subst (λ t. IsReason fed asks v.stop t) (sym same.taken) (subst (λ s. IsReason fed asks s u.taken.items) (sym same.stop) well.reason);

@@ -7,7 +7,6 @@ pub use Rattle.ghc_core.proofs.Committing.{proposed_holds}
 pub use Rattle.ghc_core.proofs.Histories.{leaves_once, legal_reachable, not_longer, reached_legal}
 pub use Rattle.ghc_core.proofs.Moving.{reachable_reached}
 pub use Rattle.ghc_core.proofs.Reaching.{reached_good}
-pub use Rattle.ghc_core.proofs.Settling.{one_less}
 pub use Rattle.ghc_core.proofs.Standing.{standing_below, standing_replay}
 pub use Rattle.ghc_core.specs.Answers.{Answers, AsksFor}
 pub use Rattle.ghc_core.specs.Change.{Changes}
@@ -35,13 +34,13 @@ pub use Rattle.ghc_fire.specs.declared.act.Act.TheVariants.{ByClause}
 pub use Rattle.ghc_flat.specs.Clause.{Clause, IsClause, IsFor, Program}
 pub use Rattle.ghc_flat.specs.Flat.{is_stream}
 pub use Rattle.ghc_hooks.proofs.Fitting.{put_elsewhere, put_here}
-pub use Rattle.ghc_hooks.proofs.Looking.{goal_cases}
+pub use Rattle.ghc_hooks.proofs.Looking.{goal_cases, one_less}
 pub use Rattle.ghc_hooks.proofs.LookingAll.{so_far}
 pub use Rattle.ghc_hooks.proofs.Statuses.{status_once}
 pub use Rattle.ghc_hooks.specs.Face.{GoalNames}
+pub use Rattle.ghc_hooks.specs.NotedFace.{IsNotedAs}
 pub use Rattle.ghc_hooks.specs.Notes.{AreLeft, IsUntried, Note, NotesByGoal}
 pub use Rattle.ghc_hooks.specs.Status.{HasStatus, Status, failed, is_failed, is_stream_goal, ready, streaming, waiting}
-pub use Rattle.ghc_hooks.specs.Tries.{IsUnblocked}
 pub use Rattle.ghc_hooks.specs.Verdict.{status_of}
 pub use Rattle.ghc_pool.specs.inner.Answers.{IsReason, Taken, one_if, submits_in}
 pub use Rattle.ghc_pool.specs.inner.Fair.{Balanced, IdleIsEmpty, all_parts, hand, most_permits, total, weigh}
@@ -54,7 +53,7 @@ pub use Rattle.ghc_pool.specs.inner.Plans.{GoesOnWithout, IsDecidedAs, IsNoteSto
 pub use Rattle.ghc_pool.specs.Runs.{AsksForNoStop, CanGoOn, HasFailed, HasMetNoFailure, Holds, IsInQuestion, IsNotedFailed, IsRunStep, IsSpiedIn, Runs, RunsIn, Takes, all_taken, and_step, and_tries, at_start, has_failed, is_full, is_quiet, is_spied, starved}
 pub use Rattle.ghc_pool.specs.inner.Stops.{AreFed, AreJudged, AreOpen, AreWell, GoesOn, IsJudged, IsOpen, IsSpent, IsWell, OneAsks, WentOn, joined}
 pub use Rattle.ghc_pool.specs.inner.Stretches.{TakesAtMost}
-pub use Rattle.ghc_pool.specs.inner.Survey.{AreListed, IsStopped, StandsTo}
+pub use Rattle.ghc_pool.specs.inner.Survey.{AreLast, AreThose}
 pub use Rattle.ghc_pool.specs.inner.Told.{AreAnswers, AreFedAnswers, Asks, Covers, IsAnswerOf, IsAskedBy, IsInScope, IsNotedFor, IsPassAfter, IsSpiedGoal, IsStarved, IsStarvedGoal, IsUnspiedStep, StandsIn, after_submits, places_if, places_in, step_places, submits_since}
 pub use Rattle.ghc_pool.specs.inner.Workers.{AreVictims, DidNothing, HasRoomToAnswer, HasRoomToOffer, IsAble, IsOfferedOrStopped, IsRoomier, IsVictim, Keeps, KeepsRoom, Work, deques, got_of, in_of, left_in, names, offered_in, out_of, over, put_of, stolen, stolen_of, submits, submits_by, submits_of, taken_in, total_work, work_of, works}
 pub use Rattle.ghc_pool.specs.declared.answer.Answer.{Answer}
@@ -72,7 +71,6 @@ pub use Rattle.ghc_pool.specs.declared.rounds.working.Job.{Job}
 pub use Rattle.ghc_pool.specs.declared.scope.Scope.{Scope}
 pub use Rattle.ghc_pool.specs.declared.scope.Scope.TheVariants.{Any, Of}
 pub use Rattle.ghc_pool.specs.declared.stop.Stop.{Stop}
-pub use Rattle.ghc_pool.specs.declared.runs.survey.Standing.TheVariants.{Failed, Idle, Ready}
 pub use Rattle.ghc_records.specs.Journal.{Entry, Item, Opening, entered, history, step_of, took}
 pub use Rattle.ghc_records.specs.Record.{Record}
 pub use Rattle.ghc_records.specs.inner.RecordCode.{opening_code}
@@ -97,11 +95,11 @@ pub use Rattle.ghc_term.specs.declared.goal_name.GoalName.{GoalName}
 pub use Rattle.ghc_term.specs.declared.var_name.VarName.{VarName}
 pub use Rattle.ghc_trace.specs.News.{Stands}
 pub use Rattle.ghc_trace.specs.Spies.{HasPredicate, IsSpied, Spies, predicate, predicate_cmp}
-pub use Rattle.std.proofs.Common.{All, Bool, Err, IsTrue, List, MatchBool, None, Ok, Option, Some, [], ap, append-nil, append_assoc, arith, cond, drop, eq-eqb, false, get_or, inl, inr, length, length-append, map, ne_eqb, refl, set, subst, subst₂, suc, sym, take, true, zero, ℕ, ⊎_elim, ◌++◌, ◌+◌, ◌-◌, ◌<◌, ◌==◌, ◌↔◌, ◌∙◌, ◌∷◌, ◌≡◌, ◌≢◌, ◌≤◌, ◌⊎◌}
+pub use Rattle.std.proofs.Common.{All, Bool, Err, IsTrue, List, MatchBool, None, Ok, Option, Some, [], ap, append-nil, append_assoc, arith, cond, drop, eq-eqb, false, get_or, inl, inr, length, length-append, map, ne_eqb, refl, reverse, set, subst, subst₂, suc, sym, take, true, zero, ℕ, ⊎_elim, ◌++◌, ◌+◌, ◌-◌, ◌<◌, ◌==◌, ◌↔◌, ◌∙◌, ◌∷◌, ◌≡◌, ◌≢◌, ◌≤◌, ◌⊎◌}
 pub use Rattle.std.proofs.Crossing.{crosses}
 pub use Rattle.std.proofs.Math.Dec.{eqb}
 pub use Rattle.std.proofs.lemmas.Bool.{eqb-false, eqb-true}
-pub use Rattle.std.proofs.lemmas.List.{map-append, take-append-drop, take_all, with_items_is}
+pub use Rattle.std.proofs.lemmas.List.{length-reverse, map-append, reverse-append, take-append-drop, take_all, with_items_is}
 pub use Rattle.std.proofs.lemmas.List.Elements.{All-contains, All-head, All-nil, All-tail, Contains-get_or}
 pub use Rattle.std.proofs.lemmas.List.Sorted.{Contains-permutation, IsPermutation-sym}
 pub use Rattle.std.proofs.lemmas.Map.Views.{All-insert_key, btree_set_contains_iff}

@@ -1,19 +1,19 @@
 // What a round does with a goal: a step of it is proposed and submitted, or it is noted.
-ghost use Rattle.std.specs.Prelude.{◌≡◌, ◌↔◌, IsTrue, MatchOption, true, false};
+ghost use Rattle.std.specs.Prelude.{◌≡◌, ◌⊎◌, IsTrue, MatchOption, true, false};
 ghost use Rattle.std.specs.FinSet as set;
-ghost use Rattle.ghc_term.specs.declared.fault.Fault.TheVariants.{Memory as memory};
-ghost use Rattle.ghc_hooks.specs.Status.{ready};
-ghost use Rattle.ghc_pool.specs.inner.Told.{IsInScope, IsSpiedGoal, IsRefusedGoal, IsStarvedGoal, IsUnspiedStep, TellsStatus};
-ghost use Rattle.ghc_pool.specs.inner.Plans.{IsPlan, IsSubmitStop, IsSettlingStop, IsNoteStop, step_in, made_if_stepped, GoesOnWithout, IsDecidedAs, AreWokenOf, IsExcerptOf, IsAttempt};
+ghost use Rattle.ghc_pool.specs.inner.Told.{IsInScope, IsSpiedGoal, IsRefusedGoal, IsStarvedGoal, IsUnspiedStep};
+ghost use Rattle.ghc_pool.specs.inner.Plans.{IsPlan, GoesOnWithout, IsDecidedAs, AreWokenOf, IsExcerptOf, IsAttempt};
 
 use crate::answer::{Answer, RoundStop};
 use crate::craft::{Craft, Decided};
 use crate::gate::Gate;
+use crate::heard::{
+    is_memory, is_ready, step_and_made, stop_of_note, stop_of_settling, stop_of_submit,
+};
 use crate::manner::Manner;
 use crate::scope::Scope;
-use ghc_core::{Core, Excerpt, Reply};
+use ghc_core::{Core, Excerpt};
 use ghc_fire::{Meter, Proposal};
-use ghc_hooks::Verdict;
 use ghc_shared::{Naming, Pass, Receipt, Shared};
 use ghc_term::{Fault, GoalName};
 use ghc_trace::SpySet;
@@ -46,69 +46,6 @@ pub enum Plan {
     Refuse,
     // Nothing: memory was refused.
     Starve,
-}
-
-// Whether memory was refused.
-fn is_memory(fault: &Fault) -> bool
-    ensures { IsTrue result ↔ (fault.now ≡ memory) }
-{
-    matches!(fault, Fault::Memory)
-}
-
-// Whether the reply tells that a goal is ready.
-fn is_ready(reply: &Reply) -> bool
-    ensures { IsTrue result ↔ TellsStatus ready reply.now }
-{
-    matches!(reply, Reply::Noted(_, Verdict::Ready))
-}
-
-// The reason to stop, if the reply to a submit is one.
-fn stop_of_submit(reply: &Reply) -> Option<RoundStop>
-    ensures { IsSubmitStop reply.now result }
-{
-    match reply {
-        Reply::Refused(Fault::Memory) => Some(RoundStop::Memory),
-        Reply::Refused(Fault::Full) => Some(RoundStop::Full),
-        _ => None,
-    }
-}
-
-// The reason to stop, if the reply to a note of the goal is one.
-fn stop_of_note(reply: &Reply, goal: GoalName, spied: bool) -> Option<RoundStop>
-    ensures { IsNoteStop spied goal reply.now result }
-{
-    match reply {
-        Reply::Refused(Fault::Memory) => Some(RoundStop::Memory),
-        Reply::Noted(_, Verdict::Failed(_)) => Some(RoundStop::Clash(goal)),
-        Reply::Noted(_, Verdict::Ready) => {
-            if spied {
-                return Some(RoundStop::Spied(goal));
-            }
-            None
-        }
-        _ => None,
-    }
-}
-
-// The stop for memory, if the reply says that memory was refused.
-fn stop_of_settling(reply: &Reply) -> Option<RoundStop>
-    ensures { IsSettlingStop reply.now result }
-{
-    match reply {
-        Reply::Refused(Fault::Memory) => Some(RoundStop::Memory),
-        _ => None,
-    }
-}
-
-// The step that was taken, and how many goals it made; or none, if the reply tells of no step.
-fn step_and_made(reply: &Reply, made: u32) -> (u32, u32)
-    ensures step { result.0 ≡ step_in reply.now }
-    ensures made { result.1 ≡ made_if_stepped reply.now made }
-{
-    match reply {
-        Reply::Stepped(step) => (*step, made),
-        _ => (0, 0),
-    }
 }
 
 impl<N: Naming, R: Wait, G: Gate> Deciding<'_, N, R, G> {
@@ -172,25 +109,9 @@ impl<N: Naming, R: Wait, G: Gate> Deciding<'_, N, R, G> {
         }
     }
 
-    // Notes the goal where no steps are taken; any status is the answer.
-    fn settle(&self, pass: &mut Pass<Core, N>, goal: GoalName) -> Decided
-        requires { self.now.steps ≡ false }
-        ensures { IsDecidedAs N.opened self.now.scope.now self.now.spies.now self.now.steps goal pass.old pass.new result }
-    {
-        let receipt = self.shared.note(self.rt, self.alloc, pass, goal);
-        let stop = stop_of_settling(&receipt.reply);
-        Decided {
-            answer: Answer::Noted(receipt),
-            stop,
-            step: 0,
-            made: 0,
-            woken: Vec::new(self.alloc),
-        }
-    }
-
-    // Notes the goal, which the round may not step; any status is the answer.
-    fn note_outside(&self, pass: &mut Pass<Core, N>, goal: GoalName) -> Decided
-        requires { ¬ IsInScope self.now.scope.now goal }
+    // Notes the goal where no step of it may be taken; any status is the answer.
+    fn note_unstepped(&self, pass: &mut Pass<Core, N>, goal: GoalName) -> Decided
+        requires { (self.now.steps ≡ false) ⊎ (¬ IsInScope self.now.scope.now goal) }
         ensures { IsDecidedAs N.opened self.now.scope.now self.now.spies.now self.now.steps goal pass.old pass.new result }
     {
         let receipt = self.shared.note(self.rt, self.alloc, pass, goal);
@@ -311,7 +232,7 @@ impl<N: Naming, R: Wait, G: Gate> Deciding<'_, N, R, G> {
             Plan::Submit(proposal, woken) => {
                 Some(self.submit(worker, pass, goal, proposal, woken))
             }
-            Plan::Outside => Some(self.note_outside(pass, goal)),
+            Plan::Outside => Some(self.note_unstepped(pass, goal)),
             Plan::Pass => Some(self.note_spied(pass, goal)),
             Plan::Refuse => self.note_refused(pass, goal),
             Plan::Starve => Some(self.starve(pass, goal)),
@@ -411,6 +332,6 @@ impl<N: Naming, R: Wait, G: Gate> Craft<Pass<Core, N>> for Deciding<'_, N, R, G>
         if self.steps {
             return self.take_step(worker, pass, name);
         }
-        self.settle(pass, name)
+        self.note_unstepped(pass, name)
     }
 }

@@ -5,6 +5,7 @@ mod answer;
 mod craft;
 mod deciding;
 mod gate;
+mod heard;
 mod laws;
 mod manner;
 mod mode;

@@ -1,5 +1,5 @@
 -- What a run finds at a goal that it meets.
-use Rattle.std.specs.Prelude.{◌≡◌, ◌≤◌, ◌⊎◌, ℕ, List, Option, Some, IsTrue}
+use Rattle.std.specs.Prelude.{◌≡◌, ◌≤◌, ◌⊎◌, ℕ, zero, suc, List, [], ◌∷◌, Option, Some, IsTrue}
 use Rattle.std.specs.FinMap as finite
 use Rattle.std.specs.FinSet as set
 use Rattle.ghc_term.specs.declared.goal_name.GoalName.{GoalName}
@@ -65,3 +65,8 @@ IsNotedWaiting notes g = (note : Note) × (xs : Variables) × (finite.get notes 
 -- The goal named g is untried, or noted as ready.
 abbrev pub IsToMeet : Core → GoalName → Type 0
 IsToMeet c g = IsTrue (set.contains c.untried g) ⊎ IsNotedReady c.notes g
+
+-- the names of so many goals that the step of this number makes, the first one last
+abbrev pub made_back : ℕ → ℕ → List GoalName
+made_back step zero = []
+made_back step (suc n) = record { step = step; place = suc n } ∷ made_back step n

@@ -56,6 +56,21 @@ fn take_apart(workers: Vec<Worker>, done: &mut Vec<Work>)
     }
 }
 
+// What is told of a round that ended so. There is room for what the workers did.
+fn report_of(ended: Ended, done: Vec<Work>) -> RoundReport
+    requires room { (done.items ≡ []) × (vec_len ended.workers ≤ vec_capacity done) }
+    ensures workers { result.workers.items ≡ works ended.workers.items }
+    ensures stop { result.stop ≡ ended.stop }
+{
+    let Ended { workers, stop } = ended;
+    let mut done = done;
+    take_apart(workers, &mut done);
+    RoundReport {
+        workers: done,
+        stop,
+    }
+}
+
 /// A round over a shared core. As many workers as there are passes, from 1 to 64, each in a thread of its own, work off the names,
 /// and the goals that their steps make or wake. The first offers first what is handed in. Where steps are taken, a worker proposes and
 /// submits a step of each name in the scope, unless the goal is a call of a spied predicate. Where nothing is spied, and the gate holds
@@ -89,7 +104,7 @@ pub fn round<'a, N: Naming + Send + Sync, R: Threads + Wait + Sync, G: Gate + Sy
     ensures begins { IfOk result (λ r. FirstBegins names.now r.1.workers.items) }
     ensures refused { IfErr result (λ back. back ≡ passes) }
 {
-    let Ok(mut done) = Vec::with_capacity(alloc, passes.len()) else {
+    let Ok(done) = Vec::with_capacity(alloc, passes.len()) else {
         return Err(passes);
     };
     let steps = mode.takes_steps();
@@ -111,13 +126,7 @@ pub fn round<'a, N: Naming + Send + Sync, R: Threads + Wait + Sync, G: Gate + Sy
     ) {
         Ok(ended) => {
             let (passes, ended) = ended;
-            let Ended { workers, stop } = ended;
-            take_apart(workers, &mut done);
-            let report = RoundReport {
-                workers: done,
-                stop,
-            };
-            Ok((passes, report))
+            Ok((passes, report_of(ended, done)))
         }
         Err(passes) => Err(passes),
     }

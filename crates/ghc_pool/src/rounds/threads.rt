@@ -1,5 +1,5 @@
 // A round of workers.
-ghost use Rattle.std.specs.Prelude.{◌≡◌, ◌≤◌, ◌+◌, ◌<◌, ◌^◌, ℕ, [], length, List, IfOk, IfErr, true};
+ghost use Rattle.std.specs.Prelude.{◌≡◌, ◌≤◌, ◌+◌, ◌<◌, ◌^◌, ℕ, [], length, List, IfOk, IfErr, IfSome, true};
 ghost use Rattle.std.specs.Vec.{vec_capacity, vec_len};
 ghost use Rattle.ghc_term.specs.declared.goal_name.GoalName.{GoalName as goal_name};
 ghost use Rattle.std.specs.declared.alloc.Global.{Global as heap};
@@ -32,6 +32,19 @@ use std::thread::Threads;
 pub struct Ended {
     pub workers: Vec<Worker>,
     pub stop: Option<RoundStop>,
+}
+
+// Room for so many jobs, and for the workers that come out of them.
+fn room_for<P: Drop, L: Limited>(
+    alloc: Global,
+    count: usize,
+) -> Option<(Vec<Job<P, L>>, Vec<Worker>)>
+    ensures jobs { IfSome result (λ room. (room.0.items ≡ []) × (count ≤ vec_capacity room.0)) }
+    ensures workers { IfSome result (λ room. (room.1.items ≡ []) × (count ≤ vec_capacity room.1)) }
+{
+    let jobs = Vec::with_capacity(alloc, count).ok()?;
+    let workers = Vec::with_capacity(alloc, count).ok()?;
+    Some((jobs, workers))
 }
 
 // Gives each worker a pass and a share of the budget, for which there is room.
@@ -229,7 +242,7 @@ pub fn work_together<
     craft: &C,
     blank: Blank,
     limit: u64,
-    passes: Vec<P>,
+    mut passes: Vec<P>,
     names: &[GoalName],
 ) -> Result<(Vec<P>, Ended), Vec<P>>
     requires name { (blank.name ≡ L.name) × (blank.parts ≡ L.parts) × (blank.parts ≡ vec_len passes + 1) × (limit ≡ L.limit) }
@@ -242,15 +255,11 @@ pub fn work_together<
     ensures begins { IfOk result (λ r. FirstBegins names.now (works r.1.workers.items)) }
     ensures refused { IfErr result (λ back. back ≡ passes) }
 {
-    let mut passes = passes;
     let count = passes.len();
     let Some(mut hired) = new_workers(alloc, count) else {
         return Err(passes);
     };
-    let Ok(mut jobs) = Vec::with_capacity(alloc, count) else {
-        return Err(passes);
-    };
-    let Ok(mut workers) = Vec::with_capacity(alloc, count) else {
+    let Some((mut jobs, mut workers)) = room_for(alloc, count) else {
         return Err(passes);
     };
     if !offer_first(&mut hired, names) {

@@ -1,5 +1,5 @@
 // What a worker does in a round.
-ghost use Rattle.std.specs.Prelude.{◌≡◌, ◌≤◌, ◌+◌, ◌<◌, ℕ, [], ◌∷◌, true, false, None, IfSome};
+ghost use Rattle.std.specs.Prelude.{◌≡◌, ◌≤◌, ◌+◌, ◌*◌, ◌<◌, ℕ, [], ◌∷◌, min, true, false, None, IfSome};
 ghost use Rattle.std.specs.Vec.{vec_len};
 ghost use Rattle.crossbeam_deque.specs.Handles.{worker_view};
 ghost use Rattle.ghc_pool.specs.inner.Fair.{most_permits};
@@ -337,11 +337,13 @@ fn make_writable(alloc: Global) {
 // How many names are taken at most in the turn after one of so many. The first turns are short, so that a small program is shown in
 // other orders, too; with long ones, workers seldom meet at the door. Where turns become the longest the run is long, and memory is made
 // writable for it.
-fn longer(alloc: Global, most: u32) -> u32 {
+fn longer(alloc: Global, most: u32) -> u32
+    ensures { result ≡ min (most * 2) MOST }
+{
     if most >= MOST {
         return MOST;
     }
-    let longer = most * 2;
+    let longer = (most * 2).min(MOST);
     if longer == MOST {
         make_writable(alloc);
     }

@@ -34,7 +34,7 @@ fn go_on(
             };
         }
         added += taken;
-        match pause(core, alloc, spies, root) {
+        match pause(core, alloc, spies, root, limit - added) {
             Ok(ready) => listed = ready,
             Err(stop) => return Report { added, stop },
         }
@@ -55,7 +55,8 @@ fn go_on(
 /// those that were ready, and then those that the run wakes. A step is found with one attempt and taken at once. A goal is noted only
 /// where its step is refused, where it is spied, or where it is not in question. A run costs its attempts and steps, and with a root
 /// named, the way up from each goal that it meets and did not make. At its start and at its end it costs the tries of the goals that are
-/// untried, each goal put in its place in the order, and a look-up or two for each.
+/// untried, and a search for each goal that does not wait and was noted since a run began or ended. Only with spies or a root does it cost
+/// look-ups for the others that are ready.
 pub fn run(
     core: &mut Core,
     alloc: Global,
@@ -68,7 +69,7 @@ pub fn run(
     // Where a run cannot go on nothing is added.
     ensures stopped { ¬ CanGoOn spies.now root core.old.world → result.added ≡ 0 }
 {
-    match pause(core, alloc, spies, root) {
+    match pause(core, alloc, spies, root, limit) {
         Ok(ready) => go_on(core, alloc, spies, root, limit, ready),
         Err(stop) => Report { added: 0, stop },
     }

@@ -1,17 +1,18 @@
 // A stretch of a run: steps taken one after another, as long as a goal is met that can be stepped.
-ghost use Rattle.std.specs.Prelude.{◌≡◌, ◌≤◌, true, false};
+ghost use Rattle.std.specs.Prelude.{◌≡◌, ◌≤◌, ◌++◌, true, false, OnErr, OnOk};
+ghost use mathlib.Core.List.{IsPrefix};
 ghost use Rattle.ghc_term.specs.declared.goal_name.GoalName.{GoalName as goal_name};
 ghost use Rattle.ghc_records.specs.Record.{Record as record_spec};
 ghost use Rattle.ghc_core.specs.Settling.{AreKept};
 ghost use Rattle.ghc_pool.specs.Runs.{HasFailed, HasMetNoFailure};
-ghost use Rattle.ghc_pool.specs.inner.Meeting.{TookInQuestion, HasStepped, IsMet};
+ghost use Rattle.ghc_pool.specs.inner.Meeting.{TookInQuestion, HasStepped, IsMet, made_back};
 ghost use Rattle.ghc_pool.specs.inner.Stretches.{TakesSoMany};
 
 use crate::runs::meet::{Met, is_to_meet, meet};
 use ghc_core::Core;
 use ghc_term::GoalName;
 use ghc_trace::SpySet;
-use std::alloc::Global;
+use std::alloc::{AllocError, Global};
 
 // Meets the goals that are listed and still untried or noted as ready, the last one first, up to one that the run does not go by.
 fn among_listed(
@@ -79,14 +80,16 @@ fn take_one(
     }
 }
 
-// Lists the goals that a step made, the first one last, as far as memory is found: the others are met after all that are listed.
-fn list_made(step: u32, count: u32, listed: &mut Vec<GoalName>) {
+// Lists the goals that a step made, the first one last. Where memory is refused some are not listed, and are met after all that are.
+fn list_made(step: u32, count: u32, listed: &mut Vec<GoalName>) -> Result<(), AllocError>
+    ensures all { OnOk result (listed.new.items ≡ listed.old.items ++ made_back step count) }
+    ensures some { OnErr result (IsPrefix listed.new.items (listed.old.items ++ made_back step count)) }
+{
     for index in 0..count {
         let place = count - index;
-        if listed.push(GoalName { step, place }).is_err() {
-            return;
-        }
+        listed.push(GoalName { step, place })?;
     }
+    Ok(())
 }
 
 // Takes one step, lists the goals that it makes, and says whether one was taken.
@@ -105,7 +108,7 @@ fn advance(
 {
     match take_one(core, alloc, spies, root, since, listed) {
         Met::Stepped(step, count) => {
-            list_made(step, count, listed);
+            let _ = list_made(step, count, listed);
             true
         }
         Met::Stop => false,

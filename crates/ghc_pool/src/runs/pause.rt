@@ -12,13 +12,14 @@ use ghc_term::GoalName;
 use ghc_trace::SpySet;
 use std::alloc::Global;
 
-// Tries the untried goals, and gives the goals in question that are ready, by step, then place, where a run can go on; or else
-// the reason to stop. It costs the tries, and what `survey` does.
+// Tries the untried goals, and gives the last goals in question that are ready, by step, then place, where a run can go on: as many as it
+// may take steps, and one at least. Where it cannot, it gives the reason to stop. It costs the tries, and what `survey` does.
 pub fn pause(
     core: &mut Core,
     alloc: Global,
     spies: &SpySet,
     root: Option<GoalName>,
+    most: usize,
 ) -> Result<Vec<GoalName>, Stop>
     ensures world { core.new.world ≡ core.old.world }
     ensures kept { AreKept core.old.notes core.new.notes }
@@ -26,8 +27,11 @@ pub fn pause(
     ensures each { IfOk result (λ ready. (g : goal_name) → In g ready.items → IsReady root core.new.world g) }
     ensures stop { IfErr result (λ stop. (limit taken : ℕ) → Holds (Unit {0}) spies.now root limit taken core.new.world core.new.notes stop) }
 {
-    match core.settle(alloc) {
-        Ok(_) => survey(core, alloc, spies, root),
+    let Ok(_) = core.settle(alloc) else {
+        return Err(Stop::Memory);
+    };
+    match core.sort_goals() {
+        Ok(()) => survey(core, alloc, spies, root, most),
         Err(_) => Err(Stop::Memory),
     }
 }

@@ -65,7 +65,7 @@ impl<R: Threads + Wait + Sync, G: Gate + Sync> Team<'_, R, G> {
                 return (core, Report { added, stop });
             }
             added += taken;
-            match pause(&mut core, self.alloc, self.spies, root) {
+            match pause(&mut core, self.alloc, self.spies, root, limit - added) {
                 Ok(ready) => listed = ready,
                 Err(stop) => return (core, Report { added, stop }),
             }
@@ -84,7 +84,7 @@ impl<R: Threads + Wait + Sync, G: Gate + Sync> Team<'_, R, G> {
             let report = run(&mut core, self.alloc, self.spies, root, limit);
             return (core, report);
         }
-        match pause(&mut core, self.alloc, self.spies, root) {
+        match pause(&mut core, self.alloc, self.spies, root, limit) {
             Ok(ready) => self.go_on(core, root, limit, ready),
             Err(stop) => (core, Report { added: 0, stop }),
         }

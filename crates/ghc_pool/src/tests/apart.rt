@@ -37,7 +37,16 @@ struct Meeting<'a, N: Naming, R: Wait + Clock> {
     met: AtomicU64,
 }
 
-impl<N: Naming, R: Wait + Clock> Meeting<'_, N, R> {
+impl<'a, N: Naming, R: Wait + Clock> Meeting<'a, N, R> {
+    // Workers of which none has begun an attempt.
+    fn new(crew: Deciding<'a, N, R, Open>) -> Meeting<'a, N, R> {
+        Meeting {
+            crew,
+            begun: AtomicU64::new(0),
+            met: AtomicU64::new(0),
+        }
+    }
+
     // Waits until two attempts have begun, for at most so many turns of a millisecond's sleep.
     fn meet(&self, turns: u32) {
         self.begun.fetch_add(1, Ordering::SeqCst);
@@ -140,20 +149,16 @@ fn met<N: Naming + Send + Sync, R: Threads + Wait + Clock + Abort + Sync>(
     let scope = Scope::Any;
     let spies = SpySet::new(alloc);
     let gate = Open { holds_up: false };
-    let meeting = Meeting {
-        crew: Deciding {
-            rt,
-            alloc,
-            shared: &shared,
-            scope: &scope,
-            spies: &spies,
-            gate: &gate,
-            steps: true,
-            manner: Manner::serving(rt, &shared, false),
-        },
-        begun: AtomicU64::new(0),
-        met: AtomicU64::new(0),
-    };
+    let meeting = Meeting::new(Deciding {
+        rt,
+        alloc,
+        shared: &shared,
+        scope: &scope,
+        spies: &spies,
+        gate: &gate,
+        steps: true,
+        manner: Manner::serving(rt, &shared, false),
+    });
     let blank = Blank::new(passes.len() as u64 + 1);
     match work_together::<Pass<Core, N>, Meeting<'_, N, R>, Brand, R>(
         rt, alloc, &meeting, blank, 10, passes, &names,

@@ -49,7 +49,17 @@ fn is_first_undone(reply: &Reply) -> bool {
     }
 }
 
-impl<R: Wait + Clock> Undoing<'_, R> {
+impl<'a, R: Wait + Clock> Undoing<'a, R> {
+    // The gate before a proposal of 1.1 is held.
+    fn new(rt: &'a R) -> Undoing<'a, R> {
+        Undoing {
+            rt,
+            held: AtomicU64::new(0),
+            undone: AtomicU64::new(0),
+            seen: AtomicU64::new(0),
+        }
+    }
+
     // Whether the word is 1 within 10,000 turns of a millisecond's sleep.
     fn is_set(&self, word: &AtomicU64) -> bool {
         for _ in 0..10_000 {
@@ -209,12 +219,7 @@ fn undo_named<N: Naming + Send + Sync, R: Threads + Wait + Clock + Abort + Sync>
         return Err("three passes".into());
     }
     let other = passes.remove(0);
-    let gate = Undoing {
-        rt,
-        held: AtomicU64::new(0),
-        undone: AtomicU64::new(0),
-        seen: AtomicU64::new(0),
-    };
+    let gate = Undoing::new(rt);
     let (other, ended) = thread::join(
         rt,
         ||

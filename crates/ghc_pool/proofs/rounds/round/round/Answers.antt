@@ -13,8 +13,8 @@ work_together-requires-send-P g c κs within = search (crosses, sendable, core_p
 pub work_together-requires-sync-C : goal.work_together-requires-sync-C
 work_together-requires-sync-C g c κs within = record { shared = (deciding_sync (record { mir = named 3; lft = κs.1.1.1.1.0 }) (param 0 g.row.N) (param 1 g.row.R) (param 2 g.row.G) g.N.Naming g.N.Ledger c.type_bounds.sync-R c.type_bounds.sync-G).shared }
 
-pub take_apart-requires : goal.take_apart-requires
-take_apart-requires g c =
+pub report_of-requires : goal.report_of-requires
+report_of-requires g c =
     let ended = c.in-Ok-work_together.ended in
     let workers = ended.1.workers in
     let passes = c.args.passes in

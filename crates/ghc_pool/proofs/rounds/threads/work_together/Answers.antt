@@ -27,7 +27,7 @@ conclude-stop-requires-clause-few g c = omega (arith, c.work_in_threads-budget.e
 
 pub conclude-stop-requires-clause-workers : goal.conclude-stop-requires-clause-workers
 conclude-stop-requires-clause-workers g c =
-    (c.in-Ok-with_capacity.ensures.items, omega (arith, c.in-Ok-with_capacity.ensures.capacity, c.work_in_threads-budget.ensures.count, c.hire.ensures.count, c.if-not-offer_first.ensures.count, c.in-Some.ensures.count, c.len-count.ensures))
+    (c.in-Some-room_for.ensures.workers.0, omega (arith, c.in-Some-room_for.ensures.workers.1, c.work_in_threads-budget.ensures.count, c.hire.ensures.count, c.if-not-offer_first.ensures.count, c.in-Some.ensures.count, c.len-count.ensures))
 
 pub conclude-stop-requires-clause-passes : goal.conclude-stop-requires-clause-passes
 conclude-stop-requires-clause-passes g c =
