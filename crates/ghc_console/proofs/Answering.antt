@@ -1,5 +1,5 @@
 -- What the words after `blame` say, and when reading them takes memory.
-use Rattle.ghc_console.proofs.CitedWords.{◌≡◌, ◌⊎◌, ◌∙◌, inl, inr, true, false, ℕ, List, [], ◌∷◌, refl, sym, ap, subst, cond, Option, Some, Result, Ok, Err, OnErr, bytes_eq, codes, list_all, bytes_eq-Decides, GoalName, goal_name_of, is_printable, is_variable, words_of, command_of, command_of_words, Unknown, TakesMemory}
+use Rattle.ghc_console.proofs.CitedWords.{◌≡◌, ◌⊎◌, ◌∙◌, inl, inr, true, false, ℕ, List, [], ◌∷◌, refl, sym, ap, subst, cond, Some, Result, Ok, Err, OnErr, bytes_eq, codes, list_all, bytes_eq-Decides, GoalName, goal_name_of, is_printable, is_variable, words_of, command_of, command_of_words, Unknown, TakesMemory}
 use Rattle.ghc_trace.specs.declared.judgements.Answer.{Answer}
 use Rattle.ghc_console.specs.BlameWords.{answer_of, answers_of, blame_goal, blame_of, blame_of_variable, blame_place, blame_term}
 use Rattle.ghc_console.specs.LineMemory.{BeginsWithAnswer, BlameTakesMemory, KeepsText, after_a_goal, after_a_place, after_a_variable, for_a_text, for_answers}
@@ -8,13 +8,6 @@ use Rattle.ghc_console.specs.LineMemory.{BeginsWithAnswer, BlameTakesMemory, Kee
 pub answers_begun : (rest words more : List (List ℕ)) (word : List ℕ) (answer : Answer) → (rest ≡ words) ⊎ BeginsWithAnswer words → rest ≡ word ∷ more → Some answer ≡ answer_of word → BeginsWithAnswer words
 answers_begun rest words more word answer (inl same) found is = subst BeginsWithAnswer (sym found ∙ same) (answer, sym is)
 answers_begun rest words more word answer (inr begins) found is = begins
-
--- With answers the command keeps the variables.
-pub term_kept : (word : List ℕ) (answers : List Answer) (said : Option (List Answer)) → Some answers ≡ said → KeepsText (blame_term word said)
-term_kept word answers said is = subst (λ (o : Option (List Answer)). KeepsText (blame_term word o)) is tt
-
-pub place_kept : (word place : List ℕ) (answers : List Answer) (said : Option (List Answer)) → Some answers ≡ said → KeepsText (blame_place word place said)
-place_kept word place answers said is = subst (λ (o : Option (List Answer)). KeepsText (blame_place word place o)) is tt
 
 -- a variable alone, one with a word after it that is none, and one with another variable after it
 pub term_alone : (word : List ℕ) (words : List (List ℕ)) → words ≡ [] → blame_of_variable word words ≡ blame_term word (answers_of words)

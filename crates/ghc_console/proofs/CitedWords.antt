@@ -12,13 +12,14 @@ pub use Rattle.ghc_console.specs.PredicateWords.{is_name, predicate_named, predi
 pub use Rattle.ghc_console.specs.Reading.{AsksAtNeed, CountsGiven, HasGathered, IsMadeOf, IsNextLine, LineSays, TakesFirst, TakesFront, TakesLine, line_limit}
 pub use Rattle.ghc_console.specs.Replies.{Answers, AreGoalsTold, IsFrontOf, IsGoalTold, IsObeyed, IsReply, RepliesToAsk, RepliesToGoals, RepliesToInput, RepliesToKeep, RepliesToSaveSteps, RepliesToShow, RepliesToSpy, RepliesToStep, RepliesToWho, RepliesToWhy, Settled, TellsChange, TellsSlot, asks, fails, full, goal_too_long, has_asked, is_spied, is_undefined, keeps, keeps_nothing, lined, lines_or_none, lists, names_nothing, no_goals, no_memory, no_variable, not_kept, numbers_text, obeys, quits, reads, record_lines, refusal, refuses, replies, settled, shows, steps, takes, tells_binders, tells_history, tells_reasons, text_lines, too_long, unasked, unread, unsettled}
 pub use Rattle.ghc_console.specs.RunReplies.{AreLinesTold, IsAdded, IsLineTold, RepliesToSkip, TellsRun, and_line, last_of, mode_of, no_goal, no_line, run_lines, skips, step_line, stop_line}
-pub use Rattle.ghc_console.specs.ScheduleReplies.{Hears, IsAskedOf, IsDoneBy, IsGiven, PlaysCommand, does, reply_text, starves, told_text}
-pub use Rattle.ghc_console.specs.ScheduleText.{ArePlayedOut, BrokenOff, Schedule, WritesSchedule, hand_count, nothing_more, part_of_records, part_of_reply, then_begun, then_whole, told_at_end, with_hands}
+pub use Rattle.ghc_console.specs.ScheduleReplies.{Hears, HearsLine, IsAskedOf, IsDoneBy, IsGiven, PlaysCommand, reply_text, starves, told_text}
+pub use Rattle.ghc_console.specs.ScheduleText.{ArePlayedOut, BrokenOff, PlaysLine, Schedule, TellsSchedule, WritesSchedule, hand_count, nothing_more, part_of_records, part_of_reply, then_begun, then_whole, told_at_end, with_hands}
 pub use Rattle.ghc_console.specs.Session.{Began, Served, Session, Tells, at_end, broken, ends, goes_on, nothing_yet, went_on}
 pub use Rattle.ghc_console.specs.SessionState.{HasClauseFor, SessionState, state_of}
 pub use Rattle.ghc_console.specs.inner.Told.{IsJustChanged}
 pub use Rattle.ghc_console.specs.VariableNamed.{IsGivenName, IsVariableNamed, numbered_of, variable_numbered, variable_of_parts}
 pub use Rattle.ghc_console.specs.Words.{behind, from_space, goal_name_of, goal_named, goal_of_parts, in_front, is_printable, is_variable, number_of, numbers_of, unindented, words_of}
+pub use Rattle.ghc_console.specs.inner.OnlyWrites.{OnlyWrites, ReadsNothing}
 pub use Rattle.ghc_console.specs.inner.WritesTold.{WritesGoal, WritesGoals, WritesTold, form_text}
 pub use Rattle.ghc_console.specs.declared.answered.Answered.{Answered}
 pub use Rattle.ghc_console.specs.declared.answered.Answered.TheVariants.{Asks, Ends, Lists, Told}
@@ -105,6 +106,7 @@ pub use Rattle.std.proofs.lemmas.List.Elements.{All-append, All-cons, All-head, 
 pub use Rattle.std.proofs.lemmas.List.Splits.{join_with_byte-slice_split, slice_split-cons_no, slice_split-cons_yes, slice_split_at, slice_split_none}
 pub use Rattle.std.proofs.lemmas.List.Sums.{AllPass-from_list_all, list_all-from_AllPass, sum_by-append}
 pub use Rattle.std.proofs.lemmas.Option.{get_or_from_slice_get, slice_get-get_or, slice_get_cases, slice_get_within}
+pub use Rattle.std.proofs.lemmas.Result.{err_from_is_err_and}
 pub use Rattle.std.proofs.lemmas.Slice.Eq.{bytes_eq-Decides}
 pub use Rattle.std.specs.Char.{digit_value, is_ascii_digit}
 pub use Rattle.std.proofs.lemmas.List.Folds.{concat-append}

@@ -3,7 +3,7 @@ use Rattle.ghc_term.proofs.ListsLemmas.{in_more, in_left, in_last, in_either}
 use Rattle.std.proofs.lemmas.List.{length-append}
 use Rattle.std.specs.FinMap as finite
 use Rattle.ghc_records.specs.Journal.{Opening}
-use Rattle.ghc_console.proofs.CitedWords.{◌≡◌, ◌↔◌, ℕ, List, [], ◌∷◌, ◌++◌, refl, sym, ap, subst, ◌∙◌, inl, inr, arith, Some, In, VarName, value_at, AreDistinct, Record, numbers, record_once, World, IsVariableOf, IsNotKept, opening_stays}
+use Rattle.ghc_console.proofs.CitedWords.{◌≡◌, ◌↔◌, ℕ, List, [], ◌∷◌, ◌++◌, refl, sym, ap, subst, ◌∙◌, inl, inr, arith, Some, In, value_at, AreDistinct, Record, numbers, record_once, World, IsVariableOf, opening_stays}
 use Rattle.ghc_core.proofs.Reaching.{reached_good}
 use Rattle.ghc_core.proofs.Redoing.{on_shelf, still_on_shelf, redo_each}
 use Rattle.ghc_core.proofs.Replayed.{replayed}
@@ -18,10 +18,9 @@ use Rattle.ghc_records.specs.Replay.{Replays, Runs, query_state}
 use Rattle.ghc_records.proofs.OrderLemmas.{number_in, number_of, picks_once, records_distinct}
 use Rattle.ghc_records.proofs.PickLemmas.{no_longer, picks_in, picks_has, picks_distinct}
 use Rattle.ghc_records.proofs.Replaying.{replay_once, run_once}
-use Rattle.ghc_depend.specs.Depend.{GoesWith}
 use Rattle.ghc_depend.specs.Deletion.{IsPartedBy}
 use Rattle.ghc_depend.specs.Kept.{IsSplitAt, with_shelved}
-use Rattle.ghc_depend.specs.Slices.{IsCauseOf, Gave, GaveGoal, IsThereAlike, SameFrom, IsSliceOf}
+use Rattle.ghc_depend.specs.Slices.{IsCauseOf, Gave, GaveGoal, IsThereAlike, SameFrom}
 use Rattle.ghc_depend.proofs.ComingBack.{gone_come_back}
 use Rattle.ghc_depend.proofs.Following.{follows_in}
 use Rattle.ghc_depend.proofs.UndosSquare.{follows_more}
@@ -30,7 +29,7 @@ use Rattle.ghc_depend.proofs.Slicing.{goal_slices, rest_is_closed, slices}
 use Rattle.ghc_hooks.proofs.Statuses.{status_there}
 use Rattle.ghc_hooks.specs.Status.{HasStatus}
 use Rattle.ghc_console.specs.Keeping.{RollsBack, not_kept, rolls, RollBack, none_yet, and_next}
-use Rattle.ghc_console.specs.KeepLaws.{ComeBack, IsGoalKeptAlone, IsKeptAlone, KeepLeavesTheGoal, KeepLeavesTheSlice}
+use Rattle.ghc_console.specs.KeepLaws.{ComeBack, KeepLeavesTheGoal, KeepLeavesTheSlice}
 
 module _ {X : Type 0} where
   -- what is picked by one property is picked by another that says the same of each

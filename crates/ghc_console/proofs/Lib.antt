@@ -1,7 +1,6 @@
 pub mod WriteLoop
 pub mod Rows
 pub mod ReadLoop
-mod CutRows
 pub mod WordLemmas
 pub mod StepLines
 pub mod TextBehind
@@ -16,6 +15,7 @@ pub mod PredicateWordLemmas
 pub mod GivenNames
 pub mod CauseReplies
 pub mod ExplainReplies
+mod FoundReplies
 pub mod PartReplying
 pub mod BlameReplying
 pub mod LookReplies

@@ -1,9 +1,14 @@
 -- What the replies say that look at the record from a step on, at all causes and at what clauses say.
-use Rattle.ghc_console.proofs.CitedWords.{◌≡◌, ◌≢◌, ◌≤◌, ◌<◌, ◌+◌, ◌∙◌, ℕ, List, [], ◌∷◌, ◌++◌, inl, inr, refl, sym, ap, subst, arith, append_assoc, append-nil, codes, length, drop, take, drop_of_length-le, take-append-drop, slice_get, Option, Some, get_or, get_or_from_slice_get, slice_get_within, Goal, GoalName, VarName, Tree, Program, Record, SlotList, held_in, rank, rank_zero, rank_stands, rank_next, rank_gap, rank_end, World, lined, record_lines, text_lines}
+use Rattle.ghc_console.proofs.CitedWords.{◌≡◌, ◌≢◌, ◌≤◌, ◌<◌, ◌+◌, ◌∙◌, ℕ, List, [], ◌∷◌, ◌++◌, inl, inr, refl, sym, ap, subst, arith, append_assoc, append-nil, codes, length, drop, take, drop_of_length-le, take-append-drop, slice_get, Option, Some, None, get_or, get_or_from_slice_get, slice_get_within, Goal, GoalName, VarName, Tree, Program, Record, SlotList, held_in, rank, rank_zero, rank_stands, rank_next, rank_gap, rank_end, World, lined, record_lines, text_lines}
 use Rattle.std.specs.List.{AllZip, concat}
+use Rattle.std.specs.Option.{IsSome}
 use Rattle.std.specs.FinMap as finite
 use Rattle.std.proofs.lemmas.List.{take_all, take_more}
 use Rattle.std.proofs.lemmas.List.Folds.{concat-append}
+use Rattle.ghc_flat.specs.Clause.{Clause}
+use Rattle.ghc_match.specs.Match.{Refuses}
+use Rattle.ghc_match.specs.declared.refusal.RefusalPlace.{RefusalPlace}
+use Rattle.ghc_match.specs.inner.Refusing.{TellsRefusal}
 use Rattle.ghc_fire.specs.Goals.{Goals}
 use Rattle.ghc_records.specs.inner.Slots.{HasNumberIn}
 use Rattle.ghc_console.specs.TextLines.{text_or_none}
@@ -72,17 +77,22 @@ pub told_or_none : (text after : List ℕ) → (text ≡ [] → after ≡ lined 
 told_or_none [] after none some = none refl
 told_or_none (b ∷ bs) after none some = some (λ e. cc)
 
--- The text tells what the clauses of the first of these numbers say.
-module _ (P : Program) (ts : List Tree) (S : VarName → Option Tree) where
-  abbrev pub TellsFirst : List ℕ → ℕ → List ℕ → Type 0
-  TellsFirst ks i text = (told : List (List ℕ)) × AllZip (TellsClause P ts S) (take i ks) told × (text ≡ text_lines told)
+-- A clause that refuses does so at a place that was found.
+pub place_there : (c : Clause) (ts : List Tree) (S : VarName → Option Tree) (found : Option RefusalPlace) → TellsRefusal c ts S found → Refuses c ts S → IsSome found
+place_there c ts S None told refuses = absurd (told refuses)
+place_there c ts S (Some place) told refuses = refl
 
-  pub one_clause_told : (ks : List ℕ) (i : ℕ) (before after line : List ℕ) → i < length ks → TellsFirst ks i before → TellsClause P ts S (get_or ks i 0) line → after ≡ before ++ (line ++ codes "\n") → TellsFirst ks (i + 1) after
+-- The text tells what the clauses of the first of these numbers say.
+module _ (lines : List ℕ) (P : Program) (ts : List Tree) (S : VarName → Option Tree) where
+  abbrev pub TellsFirst : List ℕ → ℕ → List ℕ → Type 0
+  TellsFirst ks i text = (told : List (List ℕ)) × AllZip (TellsClause lines P ts S) (take i ks) told × (text ≡ text_lines told)
+
+  pub one_clause_told : (ks : List ℕ) (i : ℕ) (before after line : List ℕ) → i < length ks → TellsFirst ks i before → TellsClause lines P ts S (get_or ks i 0) line → after ≡ before ++ (line ++ codes "\n") → TellsFirst ks (i + 1) after
   one_clause_told ks i before after line within (told, of_each, is) says added =
       let all = told ++ line ∷ [] in
       let text : after ≡ text_lines all = added ∙ ap (λ l. l ++ (line ++ codes "\n")) is ∙ sym (lines_joined told (line ∷ [])) in
-      (all, subst (λ js. AllZip (TellsClause P ts S) js all) (sym (take_more ks i 0 within)) (one_more (TellsClause P ts S) (take i ks) told (get_or ks i 0) line of_each says), text)
+      (all, subst (λ js. AllZip (TellsClause lines P ts S) js all) (sym (take_more ks i 0 within)) (one_more (TellsClause lines P ts S) (take i ks) told (get_or ks i 0) line of_each says), text)
 
 -- The text of the goal that is found is the reply.
-pub clauses_told : (w : World) (g : GoalName) (goals : Goals) (found : Option Goal) (text : List ℕ) → goals ≡ w.state.goals → found ≡ finite.get goals g → TellsClausesFor w found text → RepliesToClauses w g text
-clauses_told w g goals found text same there told = subst (λ o. TellsClausesFor w o text) (there ∙ ap (λ gs. finite.get gs g) same) told
+pub clauses_told : (lines : List ℕ) (w : World) (g : GoalName) (goals : Goals) (found : Option Goal) (text : List ℕ) → goals ≡ w.state.goals → found ≡ finite.get goals g → TellsClausesFor lines w found text → RepliesToClauses lines w g text
+clauses_told lines w g goals found text same there told = subst (λ o. TellsClausesFor lines w o text) (there ∙ ap (λ gs. finite.get gs g) same) told

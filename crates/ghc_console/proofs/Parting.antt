@@ -1,6 +1,6 @@
 -- A list of numbers goes by beside a part of it: the next of the part is passed, or the number is outside of it.
-use Rattle.ghc_console.proofs.CitedWords.{◌≡◌, ◌+◌, ℕ, zero, suc, List, [], ◌∷◌, ◌++◌, drop, take, get_or, refl, sym, subst, ◌∙◌, drop_more, slice_get, slice_get_within, Option, Some, None, In, in_at}
-use Rattle.ghc_records.specs.Orders.{Picks, nothing, take as taken, leave}
+use Rattle.ghc_console.proofs.CitedWords.{◌≡◌, ◌+◌, ℕ, zero, suc, List, [], ◌∷◌, ◌++◌, drop, get_or, refl, subst, drop_more, slice_get, slice_get_within, Some, In, in_at}
+use Rattle.ghc_records.specs.Orders.{Picks, take as taken, leave}
 use Rattle.ghc_records.proofs.PickLemmas.{pick_last, leave_last}
 
 -- a number of the part is the next of it

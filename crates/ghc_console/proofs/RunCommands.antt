@@ -14,8 +14,8 @@ line_answered s t line text (lists listed) short h = (h.0, short, h.1)
 
 -- The text of a run for which a command asks is its reply, after which the session goes on.
 run_answers : (s t : SessionState) (c : LineCommand) (root : Option GoalName) (limit : ℕ) (text : List ℕ) → AsksForRun s.world c root limit → HasRun s root limit text t → Answers s c text t × (quits c ≡ false)
-run_answers s t c root limit text (leap_asks most) ran = (record { told = ran.run; spies = ran.spies; workers = ran.workers }, refl)
-run_answers s t c root limit text (skip_asks g b there) ran = (record { told = skips b there ran.run; spies = ran.spies; workers = ran.workers }, refl)
+run_answers s t c root limit text (leap_asks most) ran = (record { told = ran.run; spies = ran.spies; workers = ran.workers; lines = ran.lines }, refl)
+run_answers s t c root limit text (skip_asks g b there) ran = (record { told = skips b there ran.run; spies = ran.spies; workers = ran.workers; lines = ran.lines }, refl)
 
 -- So is that of a run for which a line asks.
 pub run_replied : (s t : SessionState) (line : List ℕ) (root : Option GoalName) (limit : ℕ) (text : List ℕ) → length line ≤ line_limit → AsksForRun s.world (command_of line) root limit → HasRun s root limit text t
@@ -26,14 +26,14 @@ run_replied s t line root limit text short asked ran =
 
 -- The text of a listing for which a command asks is its reply, after which the session goes on; or memory was refused.
 listing_answers : (s : SessionState) (c : LineCommand) (listed : Listing) (text : List ℕ) → AsksForListing c listed → IsListing s.world s.spies listed text → (Answers s c text s × (quits c ≡ false)) ⊎ (text ≡ refusal fault.Memory)
-listing_answers s c listed text records_asks lines = inl (record { told = (lines, refl); spies = refl; workers = refl }, refl)
-listing_answers s c listed text goals_asks (inl lines) = inl (record { told = (lines, refl); spies = refl; workers = refl }, refl)
+listing_answers s c listed text records_asks lines = inl (record { told = (lines, refl); spies = refl; workers = refl; lines = refl }, refl)
+listing_answers s c listed text goals_asks (inl lines) = inl (record { told = (lines, refl); spies = refl; workers = refl; lines = refl }, refl)
 listing_answers s c listed text goals_asks (inr starved) = inr starved
-listing_answers s c listed text shelf_asks (inl lines) = inl (record { told = (lines, refl); spies = refl; workers = refl }, refl)
+listing_answers s c listed text shelf_asks (inl lines) = inl (record { told = (lines, refl); spies = refl; workers = refl; lines = refl }, refl)
 listing_answers s c listed text shelf_asks (inr starved) = inr starved
-listing_answers s c listed text save_asks (inl lines) = inl (record { told = (lines, refl); spies = refl; workers = refl }, refl)
+listing_answers s c listed text save_asks (inl lines) = inl (record { told = (lines, refl); spies = refl; workers = refl; lines = refl }, refl)
 listing_answers s c listed text save_asks (inr starved) = inr starved
-listing_answers s c listed text save_steps_asks (inl lines) = inl (record { told = (lines, refl); spies = refl; workers = refl }, refl)
+listing_answers s c listed text save_steps_asks (inl lines) = inl (record { told = (lines, refl); spies = refl; workers = refl; lines = refl }, refl)
 listing_answers s c listed text save_steps_asks (inr starved) = inr starved
 
 listing_told : (s : SessionState) (line : List ℕ) (listed : Listing) (text : List ℕ) → length line ≤ line_limit → AsksForListing (command_of line) listed → IsListing s.world s.spies listed text → IsReply s line text s false

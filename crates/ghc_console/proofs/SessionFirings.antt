@@ -1,5 +1,5 @@
 -- How many firings a session has come to.
-use Rattle.ghc_console.proofs.CitedWords.{◌≡◌, ◌≤◌, ◌+◌, ◌∙◌, ℕ, Option, None, Some, IfSome, List, [], ◌∷◌, inl, inr, ap, arith, sum_by-append, Command, command_of, Fires, FiresInObeying, firings_in, firings_of, firings_of_obeying, runs_in, runs_of, lines_of, TakesLine, LineCommand, Nothing, Step, Obey, Show, Records, Goals, Why, Who, Shelf, Save, SaveSteps, Spy, Unspy, Input, Ask, Leap, Skip, Quit, Unknown}
+use Rattle.ghc_console.proofs.CitedWords.{◌≡◌, ◌≤◌, ◌+◌, ◌∙◌, ℕ, Option, None, Some, IfSome, List, [], ◌∷◌, inl, inr, ap, arith, sum_by-append, Command, command_of, Fires, FiresInObeying, firings_in, firings_of, firings_of_obeying, runs_in, runs_of, lines_of, TakesLine, LineCommand, Step, Obey, Leap, Skip}
 use Rattle.ghc_core.specs.CommandCode.{command_of as core_command_of}
 use Rattle.ghc_core.specs.Events as command
 

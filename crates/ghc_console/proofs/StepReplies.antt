@@ -1,7 +1,6 @@
 -- What the texts of replies say.
-use Rattle.ghc_console.proofs.CitedWords.{◌≡◌, ◌≢◌, ◌⊎◌, ◌<◌, inl, inr, refl, sym, subst, subst₂, ap, ◌∙◌, List, [], ◌∷◌, ◌++◌, append_assoc, ℕ, length, codes, Result, Ok, Err, IfOk, OnErr, MatchResult, Option, Fault, GoalName, VarName, variable, value_at, IsTextOf, Proposal, Record, World, Comes as comes, Coming, IsCommitOf, StepFails, Port, port_text, ports_text, IsVariableNamed, Settled, TellsChange, takes, full, RepliesToStep, steps, fails, RepliesToShow, too_long, refusal, print_limit}
+use Rattle.ghc_console.proofs.CitedWords.{◌≡◌, ◌≢◌, ◌⊎◌, inl, inr, refl, sym, subst, subst₂, ap, ◌∙◌, List, [], ◌∷◌, ◌++◌, append_assoc, ℕ, codes, Result, Ok, Err, IfOk, OnErr, MatchResult, Option, Fault, GoalName, Proposal, Record, World, Comes as comes, Coming, IsCommitOf, StepFails, Port, port_text, ports_text, Settled, TellsChange, takes, full, RepliesToStep, steps, fails, refusal}
 use Rattle.ghc_term.specs.declared.fault.Fault.TheVariants as fault
-use Rattle.ghc_term.specs.declared.limit.Limit.TheVariants as limit
 use Rattle.ghc_console.specs.Replies.{Takes}
 pub use Rattle.ghc_trace.proofs.CausePlaces.{on_ok}
 
@@ -33,12 +32,3 @@ step_taken w v p r text commit told =
 pub ports_joined : (ps qs : List Port) → ports_text (ps ++ qs) ≡ ports_text ps ++ ports_text qs
 ports_joined [] qs = refl
 ports_joined (p ∷ ps) qs = ap (λ l. port_text p ++ (codes "\n" ++ l)) (ports_joined ps qs) ∙ sym (append_assoc (port_text p) (codes "\n" ++ ports_text ps) (ports_text qs))
-
--- A refusal by a printed term says that it is too long.
-pub printed_refused : (w : World) (word : List ℕ) (x : VarName) (f : Fault) (text : List ℕ) → IsVariableNamed w word x → (f ≡ fault.Memory) ⊎ (f ≡ fault.Limit limit.Print)
-    → (f ≡ fault.Limit limit.Print → (long : List ℕ) × (IsTextOf (value_at w.state.store) (variable x) long × (print_limit < length long)))
-    → text ≡ refusal f → f ≢ fault.Memory → RepliesToShow w word text
-printed_refused w word x f text named (inl m) past told kept = absurd (kept m)
-printed_refused w word x f text named (inr q) past told kept =
-    let long = past q in
-    subst (RepliesToShow w word) (sym (told ∙ ap refusal q)) (too_long x long.0 named long.1.0 long.1.1)

@@ -1,5 +1,5 @@
 -- Lemmas on words, numbers and names of goals.
-use Rattle.ghc_console.proofs.CitedWords.{◌≡◌, ◌≢◌, ℕ, ◌+◌, ◌-◌, ◌*◌, Bool, true, false, cond, eqb, All, Option, Some, None, inl, inr, ◌⊎◌, List, [], ◌&&◌, ◌<◌, not, leb, zero, suc, length, filter, get_or, take, drop, ◌∷◌, ◌++◌, refl, sym, ap, ◌∙◌, arith, rules, eq-eqb, eqb-true, false≢true, take_rest, drop-drop, slice_split-cons_no, slice_split-cons_yes, slice_split_at, slice_split_none, digit_value, is_ascii_digit, list_all, slice_split, onto_first, digits_value, digits_value_after, IsAscii, is_name_byte, goal_name_of, goal_named, goal_of_parts, is_variable, number_of, words_of}
+use Rattle.ghc_console.proofs.CitedWords.{◌≡◌, ◌≢◌, ℕ, ◌+◌, ◌-◌, ◌*◌, Bool, true, false, cond, eqb, All, Option, Some, None, inl, inr, ◌⊎◌, List, [], ◌&&◌, ◌<◌, not, leb, zero, suc, length, filter, get_or, take, drop, ◌∷◌, ◌++◌, refl, sym, ap, ◌∙◌, arith, rules, eq-eqb, eqb-true, false≢true, take_rest, drop-drop, slice_split-cons_no, slice_split-cons_yes, slice_split_at, digit_value, is_ascii_digit, list_all, slice_split, onto_first, digits_value, digits_value_after, IsAscii, is_name_byte, goal_name_of, goal_named, goal_of_parts, is_variable, number_of, words_of}
 use Rattle.std.proofs.Math.Seq.{drop-cons}
 pub use Rattle.ghc_records.proofs.CutLemmas.{only_piece}
 use Rattle.ghc_records.proofs.CutLemmas.{none_passes, value_after_le}

@@ -8,7 +8,7 @@ use Rattle.ghc_console.specs.Words.{behind, goal_name_of, is_printable, is_varia
 use Rattle.ghc_console.specs.BlameWords.{blame_of}
 use Rattle.ghc_console.specs.PredicateWords.{predicate_of}
 use Rattle.ghc_console.specs.declared.command.LineCommand.{LineCommand}
-use Rattle.ghc_console.specs.declared.command.LineCommand.TheVariants.{Nothing, Step, Obey, Show, Records, Since, Causes, GoalOf, Clauses, Goals, Why, Who, Explain, ExplainGoal, Part, Keep, KeepGoal, Shelf, Save, SaveSteps, Spy, Unspy, Input, Ask, Leap, Skip, Quit, Unknown}
+use Rattle.ghc_console.specs.declared.command.LineCommand.TheVariants.{Nothing, Step, Obey, Show, Records, Since, Causes, GoalOf, Clauses, Goals, Why, Who, Explain, ExplainGoal, WhyNot, WhyNotGoal, Part, Keep, KeepGoal, Shelf, Save, SaveSteps, Spy, Unspy, Input, Ask, Leap, Skip, Quit, Unknown}
 
 -- A step with the goal, by the least clause that accepts, where the word named one.
 abbrev pub step_with : Option GoalName → LineCommand
@@ -65,18 +65,20 @@ abbrev pub numbered : List ℕ → Option ℕ → LineCommand
 numbered name (Some number) = command_with_number name number
 numbered name None = Unknown
 
--- The command of a word with a variable: `show X`, `who X`, `explain X` or `keep X`.
+-- The command of a word with a variable: `show X`, `who X`, `explain X`, `whynot X` or `keep X`.
 abbrev pub command_with_variable : List ℕ → List ℕ → LineCommand
 command_with_variable name word = if bytes_eq name (codes "show") then Show word
     else (if bytes_eq name (codes "who") then Who word
     else (if bytes_eq name (codes "explain") then Explain word
-    else (if bytes_eq name (codes "keep") then Keep word else Unknown)))
+    else (if bytes_eq name (codes "whynot") then WhyNot word
+    else (if bytes_eq name (codes "keep") then Keep word else Unknown))))
 
--- The command of a word with a goal: `explain G`, `part G` or `keep G`.
+-- The command of a word with a goal: `explain G`, `whynot G`, `part G` or `keep G`.
 abbrev pub command_with_goal : List ℕ → GoalName → LineCommand
 command_with_goal name goal = if bytes_eq name (codes "explain") then ExplainGoal goal
+    else (if bytes_eq name (codes "whynot") then WhyNotGoal goal
     else (if bytes_eq name (codes "part") then Part goal
-    else (if bytes_eq name (codes "keep") then KeepGoal goal else Unknown))
+    else (if bytes_eq name (codes "keep") then KeepGoal goal else Unknown)))
 
 -- The same, where the next word named a goal; or the command of a number, where it said one.
 abbrev pub named : List ℕ → Option GoalName → Option ℕ → LineCommand

@@ -1,11 +1,11 @@
 -- What lines fire in the core as they are carried out.
 use Rattle.std.specs.Prelude.{◌≡◌, ◌⊎◌, ℕ, List, sum_by}
 use Rattle.ghc_fire.specs.Meter.{one_more}
-use Rattle.ghc_core.specs.Events.{Command, input, finish, undo, roll, redo, arrange, ask}
+use Rattle.ghc_core.specs.Events.{Command, redo}
 use Rattle.ghc_core.specs.CommandCode.{command_of as core_command_of}
 use Rattle.ghc_console.specs.Commands.{command_of}
 use Rattle.ghc_console.specs.declared.command.LineCommand.{LineCommand}
-use Rattle.ghc_console.specs.declared.command.LineCommand.TheVariants.{Nothing, Step, Obey, Show, Records, Goals, Why, Who, Keep, Shelf, Save, SaveSteps, Spy, Unspy, Input, Ask, Leap, Skip, Quit, Unknown}
+use Rattle.ghc_console.specs.declared.command.LineCommand.TheVariants.{Step, Obey, Leap, Skip}
 
 -- FiresInObeying c old new: obeying the command c of the core takes the count of firings from old to new. A redo fires once, or not at all where it is refused before; no other command fires.
 abbrev pub FiresInObeying : Command → ℕ → ℕ → Type 0

@@ -11,6 +11,7 @@ pub mod SessionState
 pub mod TextLines
 pub mod Looks
 pub mod Explaining
+pub mod WhyNot
 pub mod PartReplies
 pub mod BlameReplies
 pub mod RunReplies

@@ -7,13 +7,14 @@ use Rattle.ghc_console.specs.Words.{goal_name_of, is_printable, is_variable, num
 use Rattle.ghc_console.specs.BlameWords.{answer_of}
 use Rattle.ghc_console.specs.Commands.{command_of}
 use Rattle.ghc_console.specs.declared.command.LineCommand.{LineCommand}
-use Rattle.ghc_console.specs.declared.command.LineCommand.TheVariants.{Show, Who, Explain, Blame, BlamePlace, Keep, Spy, Unspy, Input, Ask}
+use Rattle.ghc_console.specs.declared.command.LineCommand.TheVariants.{Show, Who, Explain, WhyNot, Blame, BlamePlace, Keep, Spy, Unspy, Input, Ask}
 
 -- The command keeps a text of its line: the word of a variable, the name of a predicate, or what is given or asked for.
 abbrev pub KeepsText : LineCommand → Type 0
 KeepsText (Show word) = Unit {0}
 KeepsText (Who word) = Unit {0}
 KeepsText (Explain word) = Unit {0}
+KeepsText (WhyNot word) = Unit {0}
 KeepsText (Blame word answers) = Unit {0}
 KeepsText (BlamePlace word place answers) = Unit {0}
 KeepsText (Keep word) = Unit {0}

@@ -1,6 +1,5 @@
 -- The replies to lines: what is written for each, and which state it leaves.
 use Rattle.std.specs.Prelude.{◌≡◌, ◌≢◌, ◌⊎◌, ◌<◌, ◌≤◌, ℕ, Bool, true, false, List, [], ◌∷◌, ◌++◌, codes, length, map, Option, Some, None}
-use Rattle.std.specs.Fmt.{decimal}
 use Rattle.std.specs.FinMap as finite
 use Rattle.std.specs.List.{AllZip, concat}
 use Rattle.ghc_term.specs.declared.var_name.VarName.{VarName}
@@ -44,6 +43,7 @@ use Rattle.ghc_trace.specs.Who.{AreBindersTold, binder_text}
 use Rattle.ghc_trace.specs.Spies.{Spies}
 pub use Rattle.ghc_console.specs.TextLines.{lined, lines_or_none, numbers_text, record_lines, refusal, text_lines, undone_text}
 use Rattle.ghc_console.specs.Explaining.{RepliesToExplain, RepliesToExplainGoal}
+use Rattle.ghc_console.specs.WhyNot.{RepliesToWhyNot, RepliesToWhyNotGoal}
 use Rattle.ghc_console.specs.BlameReplies.{RepliesToBlame, RepliesToBlameGoal, RepliesToBlamePlace}
 use Rattle.ghc_console.specs.PartReplies.{RepliesToPart}
 use Rattle.ghc_console.specs.Looks.{RepliesToSince, RepliesToCauses, RepliesToGoalOf, RepliesToClauses}
@@ -54,7 +54,7 @@ use Rattle.ghc_console.specs.VariableNamed.{IsVariableNamed}
 use Rattle.ghc_console.specs.AskedFor.{IsReadAskFor}
 use Rattle.ghc_console.specs.Commands.{command_of}
 use Rattle.ghc_console.specs.declared.command.LineCommand.{LineCommand}
-use Rattle.ghc_console.specs.declared.command.LineCommand.TheVariants.{Nothing as nothing, Step as step, Obey as obey, Show as show, Records as records, Since as since, Causes as causes, GoalOf as goal_of, Clauses as clauses, Goals as goals, Why as why, Who as who, Explain as explain, ExplainGoal as explain_goal, Part as part, Blame as blame, BlamePlace as blame_place, BlameGoal as blame_goal, Keep as keep, KeepGoal as keep_goal, Shelf as shelf, Save as save, SaveSteps as save_steps, Spy as spy, Unspy as unspy, Input as input, Ask as ask, Leap as leap, Skip as skip, Quit as quit, Unknown as unknown}
+use Rattle.ghc_console.specs.declared.command.LineCommand.TheVariants.{Nothing as nothing, Step as step, Obey as obey, Show as show, Records as records, Since as since, Causes as causes, GoalOf as goal_of, Clauses as clauses, Goals as goals, Why as why, Who as who, Explain as explain, ExplainGoal as explain_goal, WhyNot as why_not, WhyNotGoal as why_not_goal, Part as part, Blame as blame, BlamePlace as blame_place, BlameGoal as blame_goal, Keep as keep, KeepGoal as keep_goal, Shelf as shelf, Save as save, SaveSteps as save_steps, Spy as spy, Unspy as unspy, Input as input, Ask as ask, Leap as leap, Skip as skip, Quit as quit, Unknown as unknown}
 use Rattle.ghc_console.specs.Reading.{line_limit}
 use Rattle.ghc_console.specs.SessionState.{SessionState, HasClauseFor, LeavesSpies, predicate_text}
 
@@ -157,39 +157,41 @@ pub data RepliesToSpy (P : Program) (f : List ℕ) (n : ℕ) : List ℕ → Type
   is_spied : HasClauseFor P f n → RepliesToSpy P f n (lined (codes "spying " ++ predicate_text f n))
   is_undefined : ¬ HasClauseFor P f n → RepliesToSpy P f n (refusal (Fault.Undefined f n))
 
--- Replies workers spies w c text v: the reply to the command c in the world w is the text, and it leaves the world v. These predicates are spied, and so many workers make a run.
-abbrev pub Replies : ℕ → Spies → World → LineCommand → List ℕ → World → Type 0
-Replies workers spies w nothing text v = (text ≡ []) × (v ≡ w)
-Replies workers spies w (step g choice) text v = RepliesToStep w g choice text v
-Replies workers spies w (obey c) text v = IsObeyed w (core_command_of c) text v
-Replies workers spies w (show word) text v = RepliesToShow w word text × (v ≡ w)
-Replies workers spies w records text v = TellsListing (records_listed w.kept) text × (v ≡ w)
-Replies workers spies w (since n) text v = RepliesToSince w n text × (v ≡ w)
-Replies workers spies w causes text v = RepliesToCauses w text × (v ≡ w)
-Replies workers spies w (goal_of n) text v = RepliesToGoalOf w n text × (v ≡ w)
-Replies workers spies w (clauses g) text v = RepliesToClauses w g text × (v ≡ w)
-Replies workers spies w goals text v = RepliesToGoals w text × (v ≡ w)
-Replies workers spies w (why n) text v = RepliesToWhy w n text × (v ≡ w)
-Replies workers spies w (who word) text v = RepliesToWho w word text × (v ≡ w)
-Replies workers spies w (explain word) text v = RepliesToExplain w word text × (v ≡ w)
-Replies workers spies w (explain_goal g) text v = RepliesToExplainGoal w g text × (v ≡ w)
-Replies workers spies w (part g) text v = RepliesToPart w g text × (v ≡ w)
-Replies workers spies w (blame word told) text v = RepliesToBlame w word told text × (v ≡ w)
-Replies workers spies w (blame_place word place told) text v = RepliesToBlamePlace w word place told text × (v ≡ w)
-Replies workers spies w (blame_goal g told) text v = RepliesToBlameGoal w g told text × (v ≡ w)
-Replies workers spies w (keep word) text v = RepliesToKeep w word text v
-Replies workers spies w (keep_goal g) text v = RepliesToKeepGoal w g text v
-Replies workers spies w shelf text v = TellsListing (shelf_listed w.shelf) text × (v ≡ w)
-Replies workers spies w save text v = TellsListing (session_listed w spies) text × (v ≡ w)
-Replies workers spies w save_steps text v = RepliesToSaveSteps w text × (v ≡ w)
-Replies workers spies w (spy f n) text v = RepliesToSpy w.opening.program f n text × (v ≡ w)
-Replies workers spies w (unspy f n) text v = (text ≡ lined (codes "not spying " ++ predicate_text f n)) × (v ≡ w)
-Replies workers spies w (input k given) text v = RepliesToInput w k given text v
-Replies workers spies w (ask given) text v = RepliesToAsk w given text v
-Replies workers spies w (leap limit) text v = TellsRun workers spies None limit w text v
-Replies workers spies w (skip g) text v = RepliesToSkip workers spies w g text v
-Replies workers spies w quit text v = (text ≡ []) × (v ≡ w)
-Replies workers spies w unknown text v = (text ≡ refusal Fault.Command) × (v ≡ w)
+-- Replies lines workers spies w c text v: the reply to the command c in the world w is the text, and it leaves the world v. These predicates are spied, so many workers make a run, and the program's clauses begin at these lines of its text.
+abbrev pub Replies : List ℕ → ℕ → Spies → World → LineCommand → List ℕ → World → Type 0
+Replies lines workers spies w nothing text v = (text ≡ []) × (v ≡ w)
+Replies lines workers spies w (step g choice) text v = RepliesToStep w g choice text v
+Replies lines workers spies w (obey c) text v = IsObeyed w (core_command_of c) text v
+Replies lines workers spies w (show word) text v = RepliesToShow w word text × (v ≡ w)
+Replies lines workers spies w records text v = TellsListing (records_listed w.kept) text × (v ≡ w)
+Replies lines workers spies w (since n) text v = RepliesToSince w n text × (v ≡ w)
+Replies lines workers spies w causes text v = RepliesToCauses w text × (v ≡ w)
+Replies lines workers spies w (goal_of n) text v = RepliesToGoalOf lines w n text × (v ≡ w)
+Replies lines workers spies w (clauses g) text v = RepliesToClauses lines w g text × (v ≡ w)
+Replies lines workers spies w goals text v = RepliesToGoals w text × (v ≡ w)
+Replies lines workers spies w (why n) text v = RepliesToWhy w n text × (v ≡ w)
+Replies lines workers spies w (who word) text v = RepliesToWho w word text × (v ≡ w)
+Replies lines workers spies w (explain word) text v = RepliesToExplain w word text × (v ≡ w)
+Replies lines workers spies w (explain_goal g) text v = RepliesToExplainGoal w g text × (v ≡ w)
+Replies lines workers spies w (why_not word) text v = RepliesToWhyNot w word text × (v ≡ w)
+Replies lines workers spies w (why_not_goal g) text v = RepliesToWhyNotGoal w g text × (v ≡ w)
+Replies lines workers spies w (part g) text v = RepliesToPart w g text × (v ≡ w)
+Replies lines workers spies w (blame word told) text v = RepliesToBlame w word told text × (v ≡ w)
+Replies lines workers spies w (blame_place word place told) text v = RepliesToBlamePlace w word place told text × (v ≡ w)
+Replies lines workers spies w (blame_goal g told) text v = RepliesToBlameGoal w g told text × (v ≡ w)
+Replies lines workers spies w (keep word) text v = RepliesToKeep w word text v
+Replies lines workers spies w (keep_goal g) text v = RepliesToKeepGoal w g text v
+Replies lines workers spies w shelf text v = TellsListing (shelf_listed w.shelf) text × (v ≡ w)
+Replies lines workers spies w save text v = TellsListing (session_listed w spies) text × (v ≡ w)
+Replies lines workers spies w save_steps text v = RepliesToSaveSteps w text × (v ≡ w)
+Replies lines workers spies w (spy f n) text v = RepliesToSpy w.opening.program f n text × (v ≡ w)
+Replies lines workers spies w (unspy f n) text v = (text ≡ lined (codes "not spying " ++ predicate_text f n)) × (v ≡ w)
+Replies lines workers spies w (input k given) text v = RepliesToInput w k given text v
+Replies lines workers spies w (ask given) text v = RepliesToAsk w given text v
+Replies lines workers spies w (leap limit) text v = TellsRun workers spies None limit w text v
+Replies lines workers spies w (skip g) text v = RepliesToSkip workers spies w g text v
+Replies lines workers spies w quit text v = (text ≡ []) × (v ≡ w)
+Replies lines workers spies w unknown text v = (text ≡ refusal Fault.Command) × (v ≡ w)
 
 -- The command ends the session.
 abbrev pub quits : LineCommand → Bool
@@ -198,9 +200,10 @@ quits c = false
 
 -- Answers s c text t: the reply to the command c in the state s is the text, and it leaves the state t.
 pub record Answers (s : SessionState) (c : LineCommand) (text : List ℕ) (t : SessionState) : Type 0 where
-  pub told : Replies s.workers s.spies s.world c text t.world
+  pub told : Replies s.clause_lines s.workers s.spies s.world c text t.world
   pub spies : LeavesSpies s.world.opening.program s.spies c t.spies
   pub workers : t.workers ≡ s.workers
+  pub lines : t.clause_lines ≡ s.clause_lines
 
 -- IsReply s line text t ended: the text is the reply to the line in the state s, which leaves the state t, and the session ends or goes on. A line past the limit is refused; and each line may find no memory, which changes nothing.
 pub data IsReply (s : SessionState) (line : List ℕ) : List ℕ → SessionState → Bool → Type 0 where

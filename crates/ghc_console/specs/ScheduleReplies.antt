@@ -1,5 +1,5 @@
 -- The replies to the lines of a schedule.
-use Rattle.std.specs.Prelude.{◌≡◌, ◌<◌, ◌≤◌, ℕ, List, [], ◌++◌, length, Option, None, Some, codes}
+use Rattle.std.specs.Prelude.{◌≡◌, ℕ, List, [], ◌++◌, Option, None, Some, codes}
 use Rattle.std.specs.Fmt.{decimal}
 use Rattle.ghc_term.specs.declared.fault.Fault.{Fault}
 use Rattle.ghc_term.specs.declared.limit.Limit.TheVariants as limit
@@ -16,12 +16,14 @@ use Rattle.ghc_core.specs.declared.world.World.{World as Played}
 use Rattle.ghc_console.specs.AskedFor.{IsReadAskFor}
 use Rattle.ghc_console.specs.Commands.{command_of}
 use Rattle.ghc_console.specs.LineMemory.{TakesMemory}
-use Rattle.ghc_console.specs.Reading.{line_limit}
+use Rattle.ghc_console.specs.Reading.{LineSays}
 use Rattle.ghc_console.specs.TextLines.{lined, refusal}
 use Rattle.ghc_console.specs.Replies.{undone_text}
 use Rattle.ghc_console.specs.ScheduleLines.{schedule_line_of}
 use Rattle.ghc_console.specs.declared.command.LineCommand.{LineCommand}
-use Rattle.ghc_console.specs.declared.command.LineCommand.TheVariants.{Nothing as nothing, Step as step, Obey as obey, Show as show, Records as records, Goals as goals, Why as why, Who as who, Explain as explain, ExplainGoal as explain_goal, Keep as keep, KeepGoal as keep_goal, Shelf as shelf, Save as save, SaveSteps as save_steps, Spy as spy, Unspy as unspy, Input as input, Ask as ask, Leap as leap, Skip as skip, Quit as quit, Unknown as unknown}
+use Rattle.ghc_console.specs.declared.command.LineCommand.TheVariants.{Nothing as nothing, Obey as obey, Input as input, Ask as ask}
+use Rattle.ghc_console.specs.declared.devices.reading.Line.{Line}
+use Rattle.ghc_console.specs.declared.devices.reading.Line.TheVariants as read
 use Rattle.ghc_console.specs.declared.schedules.line.ScheduleLine.{ScheduleLine}
 use Rattle.ghc_console.specs.declared.schedules.line.ScheduleLine.TheVariants as line
 
@@ -79,7 +81,14 @@ IsDoneBy bytes (line.Event e) old reply new = IsPlayed (event_of e) old reply ne
 IsDoneBy bytes line.AsConsole old reply new = IsDoneAsConsole bytes old reply new
 IsDoneBy bytes line.Unknown old reply new = IsTurnedDown Fault.Command old reply new
 
--- Hears bytes old reply new: a core with hands replies so to the line of these bytes, or not at all where it has no words; old and new are core and hands before and after. A line past the limit is refused.
-pub data Hears (bytes : List ℕ) (old : Played) (reply : Option Reply) (new : Played) : Type 0 where
-  does : length bytes ≤ line_limit → IsDoneBy bytes (schedule_line_of bytes) old reply new → Hears bytes old reply new
-  too_long : line_limit < length bytes → IsTurnedDown (Fault.Limit limit.Line) old reply new → Hears bytes old reply new
+-- HearsLine line old reply new: a core with hands replies so to a line that was read, or not at all where it has no words; old and new are core and hands before and after. A line past the limit is refused, and so is one for which memory was refused.
+abbrev pub HearsLine : Line → Played → Option Reply → Played → Type 0
+HearsLine (read.Whole v) old reply new = IsDoneBy v.items (schedule_line_of v.items) old reply new
+HearsLine read.TooLong old reply new = IsTurnedDown (Fault.Limit limit.Line) old reply new
+HearsLine read.NoMemory old reply new = IsTurnedDown Fault.Memory old reply new
+
+-- Hears bytes old reply new: the same of a line of these bytes, as it was read.
+pub record Hears (bytes : List ℕ) (old : Played) (reply : Option Reply) (new : Played) : Type 0 where
+  pub line : Line
+  pub says : LineSays line bytes
+  pub heard : HearsLine line old reply new

@@ -1,5 +1,5 @@
 -- What playing a schedule writes.
-use Rattle.std.specs.Prelude.{◌≡◌, ◌⊎◌, ◌+◌, ℕ, List, [], ◌∷◌, ◌++◌, Option, Result, MatchResult, take}
+use Rattle.std.specs.Prelude.{◌≡◌, ◌⊎◌, ◌+◌, ℕ, List, [], ◌∷◌, ◌++◌, Option, Result, IfSome, MatchResult, take}
 use Rattle.std.specs.Io.KnownBytes.{Appends}
 use Rattle.ghc_term.specs.declared.fault.Fault.{Fault}
 use Rattle.ghc_core.specs.Core.{Core}
@@ -50,9 +50,13 @@ WritesSchedule Run old lines written now new = (out : List ℕ) × Appends writt
 abbrev pub ArePlayedOut : {E : Type 0} → Played → List (List ℕ) → Option (List ℕ) → Option (List ℕ) → Played → Result Unit E → Type 0
 ArePlayedOut old lines written now new result = MatchResult result (λ _. WritesSchedule Schedule old lines written now new) (λ _. WritesSchedule BrokenOff old lines written now new)
 
--- IsScheduleOf core text written now left result: what was written are the replies to the lines of the text, and then the records, or a beginning of that where it was broken off. The 64 hands hold nothing at first. The core is left so.
-abbrev pub IsScheduleOf : {E : Type 0} → Core → List ℕ → Option (List ℕ) → Option (List ℕ) → Core → Result Unit E → Type 0
-IsScheduleOf core text written now left result = (new : Played) × (new.core ≡ left) × ArePlayedOut (with_hands core) (lines_of text) written now new result
+-- The same of the lines to come, where these are known.
+abbrev pub TellsSchedule : {E : Type 0} → Played → Option (List ℕ) → Option (List ℕ) → Option (List ℕ) → Played → Result Unit E → Type 0
+TellsSchedule old unread written now new result = IfSome unread (λ text. ArePlayedOut old (lines_of text) written now new result)
+
+-- IsScheduleOf core unread written now left result: what was written are the replies to the lines to come, and then the records, or a beginning of that where it was broken off. The 64 hands hold nothing at first. The core is left so.
+abbrev pub IsScheduleOf : {E : Type 0} → Core → Option (List ℕ) → Option (List ℕ) → Option (List ℕ) → Core → Result Unit E → Type 0
+IsScheduleOf core unread written now left result = (new : Played) × (new.core ≡ left) × TellsSchedule (with_hands core) unread written now new result
 
 -- One line was played: the line of its reply was written, or a beginning of it where it was broken off.
 pub record PlaysLine {E : Type 0} (bytes : List ℕ) (old new : Played) (written now : Option (List ℕ)) (result : Result Unit E) : Type 0 where

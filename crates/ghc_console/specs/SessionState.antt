@@ -9,15 +9,16 @@ use Rattle.ghc_console.specs.declared.command.LineCommand.{LineCommand}
 use Rattle.ghc_console.specs.declared.command.LineCommand.TheVariants.{Spy as spy, Unspy as unspy}
 use Rattle.ghc_console.specs.declared.debugger.Debugger.{Debugger}
 
--- What replies depend on: the world and the predicates that are spied, which lines change; and by how many workers a run is made.
+-- What replies depend on: the world and the predicates that are spied, which commands change; by how many workers a run is made; and the lines of the program's text at which its clauses begin.
 pub record SessionState : Type 0 where
   pub world : World
   pub spies : Spies
   pub workers : ℕ
+  pub clause_lines : List ℕ
 
 -- the state of a debugger
 abbrev pub state_of : Debugger → SessionState
-state_of d = record { world = d.core.world; spies = d.spies; workers = d.workers }
+state_of d = record { world = d.core.world; spies = d.spies; workers = d.workers; clause_lines = d.clause_lines }
 
 -- The program has a clause of this name and arity.
 abbrev pub HasClauseFor : Program → List ℕ → ℕ → Type 0

@@ -3,7 +3,8 @@ ghost use Rattle.std.specs.Prelude.{◌≡◌, ◌≤◌, false, true, [], List,
 ghost use Rattle.ghc_console.specs.Commands.{command_of};
 ghost use Rattle.ghc_console.specs.Firing.{Fires};
 ghost use Rattle.ghc_console.specs.Reading.{LineSays, line_limit};
-ghost use Rattle.ghc_console.specs.inner.Answered.{IsAnsweredBy, IsCommandAnsweredBy, is_told_at_once};
+ghost use Rattle.ghc_console.specs.inner.Answered.{IsAnsweredBy, IsCommandAnsweredBy, is_told_at_once, looks_up};
+ghost use Rattle.ghc_trace.specs.Spies.{Spies};
 ghost use Rattle.ghc_console.specs.Replies.{IsReply, Replies, refusal};
 ghost use Rattle.ghc_console.specs.SessionState.{LeavesSpies, state_of};
 
@@ -24,9 +25,48 @@ use crate::replies::part::part;
 use crate::replies::runs::skip;
 use crate::replies::since::since;
 use crate::replies::spy_reply::{spy, unspy};
+use crate::replies::why_not::{why_not, why_not_goal};
 use crate::replies::{refused, show, step};
+use ghc_core::Core;
+use ghc_reader::ClauseLines;
 use ghc_term::{Fault, Limit};
 use std::alloc::{AllocError, Global};
+
+// Tells what a command looks up. What is untried is tried first, where that matters; the world stays as it is.
+fn look(
+    alloc: Global,
+    core: &mut Core,
+    lines: &ClauseLines,
+    command: &LineCommand,
+    reply: &mut String,
+) -> Result<(), AllocError>
+    requires empty { string_bytes reply.old ≡ [] }
+    requires looks { looks_up command.now ≡ true }
+    ensures reply { (workers : ℕ) (spies : Spies) → OnOk result (Replies lines.now workers spies core.old.world command.now (string_bytes reply.new) core.new.world) }
+    ensures world { core.new.world ≡ core.old.world }
+    ensures firings { core.new.meter.firings ≡ core.old.meter.firings }
+{
+    match command {
+        LineCommand::Show(word) => show(alloc, core, word.as_str(), reply),
+        LineCommand::Since(number) => since(core, *number, reply),
+        LineCommand::Causes => causes(alloc, core, reply),
+        LineCommand::GoalOf(number) => goal_of(core, lines, *number, reply),
+        LineCommand::Clauses(goal) => clauses(alloc, core, lines, *goal, reply),
+        LineCommand::Why(number) => why(alloc, core, *number, reply),
+        LineCommand::Who(word) => who(alloc, core, word.as_str(), reply),
+        LineCommand::Explain(word) => explain(alloc, core, word.as_str(), reply),
+        LineCommand::ExplainGoal(goal) => explain_goal(alloc, core, *goal, reply),
+        LineCommand::WhyNot(word) => why_not(alloc, core, word.as_str(), reply),
+        LineCommand::WhyNotGoal(goal) => why_not_goal(alloc, core, *goal, reply),
+        LineCommand::Part(goal) => part(alloc, core, *goal, reply),
+        LineCommand::Blame(word, answers) => blame(alloc, core, word.as_str(), answers, reply),
+        LineCommand::BlamePlace(word, place, answers) => {
+            blame_place(alloc, core, word.as_str(), place.as_str(), answers, reply)
+        }
+        LineCommand::BlameGoal(goal, answers) => blame_goal(alloc, core, *goal, answers, reply),
+        _ => unreachable!(),
+    }
+}
 
 // Carries a command out whose reply is made at once, and writes it. An error leaves the state as it was.
 fn tell(
@@ -37,11 +77,12 @@ fn tell(
 ) -> Result<(), AllocError>
     requires empty { string_bytes reply.old ≡ [] }
     requires told { is_told_at_once command.now ≡ true }
-    ensures reply { OnOk result (Replies debugger.old.workers debugger.old.spies debugger.old.core.world command.now (string_bytes reply.new) debugger.new.core.world) }
+    ensures reply { OnOk result (Replies debugger.old.clause_lines debugger.old.workers debugger.old.spies debugger.old.core.world command.now (string_bytes reply.new) debugger.new.core.world) }
     ensures spies { OnOk result (LeavesSpies debugger.old.core.world.opening.program debugger.old.spies command.now debugger.new.spies) }
     ensures world { OnErr result (debugger.new.core.world ≡ debugger.old.core.world) }
     ensures kept { OnErr result (debugger.new.spies ≡ debugger.old.spies) }
     ensures workers { debugger.new.workers ≡ debugger.old.workers }
+    ensures lines { debugger.new.clause_lines ≡ debugger.old.clause_lines }
     ensures opening { debugger.new.core.world.opening ≡ debugger.old.core.world.opening }
     ensures fires { Fires command.now debugger.old.core.meter.firings debugger.new.core.meter.firings }
 {
@@ -49,30 +90,6 @@ fn tell(
         LineCommand::Nothing | LineCommand::Quit => Ok(()),
         LineCommand::Step(goal, choice) => step(alloc, &mut debugger.core, *goal, *choice, reply),
         LineCommand::Obey(command) => obey(alloc, &mut debugger.core, command, reply),
-        LineCommand::Show(word) => show(alloc, &debugger.core, word.as_str(), reply),
-        LineCommand::Since(number) => since(&debugger.core, *number, reply),
-        LineCommand::Causes => causes(alloc, &debugger.core, reply),
-        LineCommand::GoalOf(number) => goal_of(&debugger.core, *number, reply),
-        LineCommand::Clauses(goal) => clauses(alloc, &debugger.core, *goal, reply),
-        LineCommand::Why(number) => why(alloc, &debugger.core, *number, reply),
-        LineCommand::Who(word) => who(alloc, &debugger.core, word.as_str(), reply),
-        LineCommand::Explain(word) => explain(alloc, &mut debugger.core, word.as_str(), reply),
-        LineCommand::ExplainGoal(goal) => explain_goal(alloc, &mut debugger.core, *goal, reply),
-        LineCommand::Part(goal) => part(alloc, &mut debugger.core, *goal, reply),
-        LineCommand::Blame(word, answers) => {
-            blame(alloc, &mut debugger.core, word.as_str(), answers, reply)
-        }
-        LineCommand::BlamePlace(word, place, answers) => blame_place(
-            alloc,
-            &mut debugger.core,
-            word.as_str(),
-            place.as_str(),
-            answers,
-            reply,
-        ),
-        LineCommand::BlameGoal(goal, answers) => {
-            blame_goal(alloc, &mut debugger.core, *goal, answers, reply)
-        }
         LineCommand::Keep(word) => keep(alloc, &mut debugger.core, word.as_str(), reply),
         LineCommand::KeepGoal(goal) => keep_goal(alloc, &mut debugger.core, *goal, reply),
         LineCommand::Spy(name, arity) => {
@@ -98,6 +115,13 @@ fn tell(
         | LineCommand::Shelf
         | LineCommand::Save
         | LineCommand::SaveSteps => unreachable!(),
+        _ => look(
+            alloc,
+            &mut debugger.core,
+            &debugger.clause_lines,
+            command,
+            reply,
+        ),
     }
 }
 
@@ -188,10 +212,10 @@ pub fn answer(
     reply.clear();
     match line {
         Line::Whole(bytes) => execute_line(alloc, debugger, bytes.as_slice(), reply),
-        Line::TooLong => match refused(&Fault::Limit(Limit::Line), reply) {
-            Ok(()) => Ok(Answered::Told),
-            Err(error) => Err(error),
-        },
+        Line::TooLong => {
+            refused(&Fault::Limit(Limit::Line), reply)?;
+            Ok(Answered::Told)
+        }
         Line::NoMemory => Err(AllocError),
     }
 }

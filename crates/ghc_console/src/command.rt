@@ -51,6 +51,10 @@ pub enum LineCommand {
     Explain(Word),
     /// Why the goal is there, and stands as it does.
     ExplainGoal(GoalName),
+    /// Why the variable that is written so is not bound.
+    WhyNot(Word),
+    /// Why the variables for which the goal waits are not bound.
+    WhyNotGoal(GoalName),
     /// What the call of the goal was given, and what it gave.
     Part(GoalName),
     /// The next question about the value of the variable that is written so, by these answers.
@@ -175,6 +179,9 @@ fn variable_command(
     if first_word == b"explain".as_slice() {
         return Ok(LineCommand::Explain(variable_word(alloc, word)?));
     }
+    if first_word == b"whynot".as_slice() {
+        return Ok(LineCommand::WhyNot(variable_word(alloc, word)?));
+    }
     if first_word == b"keep".as_slice() {
         return Ok(LineCommand::Keep(variable_word(alloc, word)?));
     }
@@ -187,6 +194,9 @@ fn goal_command(first_word: &[u8], goal: GoalName) -> LineCommand
 {
     if first_word == b"explain".as_slice() {
         return LineCommand::ExplainGoal(goal);
+    }
+    if first_word == b"whynot".as_slice() {
+        return LineCommand::WhyNotGoal(goal);
     }
     if first_word == b"part".as_slice() {
         return LineCommand::Part(goal);
@@ -384,7 +394,7 @@ fn of_any_line(alloc: Global, line: &[u8]) -> Result<LineCommand, AllocError>
 }
 
 /// The command that a line says; a line that says none is `Unknown`. It takes time in proportion to the line. It takes memory only for
-/// the word of `show`, `who`, `explain` or `keep`, the words after `blame`, the name of `spy` or `nospy`, the numbers of `arrange` and the
+/// the word of `show`, `who`, `explain`, `whynot` or `keep`, the words after `blame`, the name of `spy` or `nospy`, the numbers of `arrange` and the
 /// text of `in` or `ask`.
 #[inline(always)]
 pub fn parse(alloc: Global, line: &[u8]) -> Result<LineCommand, AllocError>

@@ -6,4 +6,4 @@ pub(crate) mod lines;
 pub(crate) mod made_line;
 pub(crate) mod reading;
 pub(crate) mod script;
-pub(crate) mod text_rows;
+pub(crate) mod writing;

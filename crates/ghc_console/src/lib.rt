@@ -20,12 +20,12 @@ pub mod words;
 
 pub use command::{LineCommand, parse};
 pub use debugger::Debugger;
-pub use devices::device::{Broken, Device, write_all};
+pub use devices::device::{Broken, Device};
 pub use devices::line_buffer::LINE_LIMIT;
 pub use devices::lines::Lines;
 pub use devices::reading::{Ahead, Line};
 pub use devices::script::Script;
-pub use devices::text_rows::next_row;
+pub use devices::writing::write_all;
 pub use input_text::InputText;
 pub use named_variable::variable_named;
 pub use replies::keep_laws::{keep_leaves_the_goal, keep_leaves_the_slice};

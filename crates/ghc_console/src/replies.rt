@@ -1,6 +1,5 @@
 // The replies to commands, each written into a text that is empty before. Where one gives up, what stands there is no reply.
 ghost use Rattle.std.specs.Prelude.{◌≡◌, ◌≢◌, ◌⊎◌, ◌++◌, ◌∷◌, [], List, OnErr, OnOk, codes, string_bytes};
-ghost use Rattle.std.specs.Io.KnownBytes.{Keeps};
 ghost use Rattle.ghc_fire.specs.Meter.{one_more};
 ghost use Rattle.ghc_records.specs.Replay.{MakesGoal};
 ghost use Rattle.ghc_depend.specs.Depend.{Binds};
@@ -8,9 +7,9 @@ ghost use Rattle.ghc_trace.specs.Disturbed.{AreDisturbed};
 ghost use Rattle.ghc_trace.specs.Laws.{IsSettled};
 ghost use Rattle.ghc_trace.specs.Ports.{Port, ArePorts};
 ghost use Rattle.ghc_trace.specs.PortText.{ports_text};
-ghost use Rattle.ghc_console.specs.inner.Device.{Counts};
 ghost use Rattle.ghc_console.specs.inner.WritesTold.{WritesTold};
 ghost use Rattle.ghc_console.specs.Replies.{RepliesToStep, RepliesToShow, lined, TellsSlot, refusal};
+ghost use Rattle.ghc_console.specs.inner.OnlyWrites.{OnlyWrites};
 
 pub(crate) mod all_causes;
 pub(crate) mod blame;
@@ -18,6 +17,7 @@ pub(crate) mod causes;
 pub(crate) mod clause_lines;
 pub(crate) mod explain;
 pub(crate) mod explain_goal;
+pub(crate) mod found;
 pub(crate) mod goal_listing;
 pub(crate) mod goal_of_step;
 pub(crate) mod keep;
@@ -37,15 +37,16 @@ pub(crate) mod settled;
 pub(crate) mod shelf_listing;
 pub(crate) mod since;
 pub(crate) mod spy_reply;
+pub(crate) mod why_not;
 
 use crate::devices::device::{Broken, Device};
 use crate::devices::made_line::write_made;
-use crate::named_variable::variable_named;
-use crate::replies::obey_reply::carry_out;
+use crate::replies::found::value_named;
+use crate::replies::obey_reply::tell_and_make;
 use crate::replies::settled::settle;
 use ghc_core::{Change, Coming, Core};
 use ghc_records::{Addition, Record, Records, push_record};
-use ghc_term::{Fault, GoalName, Term, print};
+use ghc_term::{Fault, GoalName};
 use ghc_trace::{Disturbed, notes_tell_ports, push_ports_of};
 use std::alloc::{AllocError, Global};
 
@@ -101,7 +102,7 @@ pub fn step(
     match core.prepare_step(alloc, goal, choice) {
         Ok(step) => {
             let addition = Addition::of(alloc, step)?;
-            carry_out(alloc, core, Change::Comes(Coming::Next, addition), reply)
+            tell_and_make(alloc, core, Change::Comes(Coming::Next, addition), reply)
         }
         Err(fault) => refused(&fault, reply),
     }
@@ -124,12 +125,8 @@ pub fn show(alloc: Global, core: &Core, word: &str, reply: &mut String) -> Resul
     requires { string_bytes reply.old ≡ [] }
     ensures { OnOk result (RepliesToShow core.now.world word.now (string_bytes reply.new)) }
 {
-    let Some(x) = variable_named(core, word.as_bytes()) else {
-        return refused(&Fault::NoVariable, reply);
-    };
-    let variable = Term::variable(x);
-    match print(alloc, &variable, core.store()) {
-        Ok(term) => shown(word, term.as_str(), reply),
+    match value_named(alloc, core, word) {
+        Ok((_x, term)) => shown(word, term.as_str(), reply),
         Err(fault) => refused(&fault, reply),
     }
 }
@@ -164,10 +161,7 @@ pub(crate) fn write_refusal<D: Device>(
     line: &mut String,
 ) -> Result<(), Broken>
     ensures told { WritesTold (refusal fault.now ∷ []) (D.written device.old) (D.written device.new) result }
-    ensures unread { Keeps (D.unread device.old) (D.unread device.new) }
-    ensures count { Counts (D.failures device.old) (D.failures device.new) result }
-    ensures earlier { D.earlier device.new ≡ D.earlier device.old }
-    ensures latest { D.latest device.new ≡ D.latest device.old }
+    ensures writes { OnlyWrites D.Device device.old device.new result }
 {
     line.clear();
     let made = refused(fault, line);

@@ -1,20 +1,21 @@
 // The session: lines are read, and their replies written.
 ghost use Rattle.std.specs.Prelude.{◌≡◌, ◌+◌, ◌-◌, ◌≤◌, ℕ, List, [], IfErr, IfOk, IfSome, OnOk, MatchResult};
-ghost use Rattle.std.specs.Io.KnownBytes.{Keeps};
 ghost use Rattle.ghc_console.specs.inner.Answered.{HasRun, IfAsksForRun, ServesSo};
 ghost use Rattle.ghc_console.specs.Commands.{command_of};
-ghost use Rattle.ghc_console.specs.inner.Device.{Counts, WritesFront};
+ghost use Rattle.ghc_console.specs.inner.Device.{WritesFront};
 ghost use Rattle.ghc_console.specs.Firing.{Fires, firings_in, runs_in};
 ghost use Rattle.ghc_console.specs.Lines.{lines_of};
 ghost use Rattle.ghc_console.specs.Reading.{LineSays};
 ghost use Rattle.ghc_console.specs.Session.{Began, Session, SoFar, Tells};
 ghost use Rattle.ghc_console.specs.SessionState.{SessionState, state_of};
+ghost use Rattle.ghc_console.specs.inner.OnlyWrites.{OnlyWrites};
 
 use crate::answer::answer;
 use crate::answered::Answered;
 use crate::debugger::Debugger;
-use crate::devices::device::{Broken, Device, write_all};
+use crate::devices::device::{Broken, Device};
 use crate::devices::reading::{Ahead, Line};
+use crate::devices::writing::write_all;
 use crate::replies::listing::write_listing;
 use crate::replies::run_lines::write_run;
 use crate::replies::runs::leap;
@@ -49,44 +50,36 @@ fn serve<D: Device>(
     ensures opening { debugger.new.core.world.opening ≡ debugger.old.core.world.opening }
     ensures fires { (bytes : List ℕ) → LineSays line.now bytes → Fires (command_of bytes) debugger.old.core.meter.firings debugger.new.core.meter.firings }
     ensures handed_on { IfOk result (λ answered. IfAsksForRun answered (D.held device.new ≡ [])) }
-    ensures unread { Keeps (D.unread device.old) (D.unread device.new) }
-    ensures count { Counts (D.failures device.old) (D.failures device.new) result }
-    ensures earlier { D.earlier device.new ≡ D.earlier device.old }
-    ensures latest { D.latest device.new ≡ D.latest device.old }
+    ensures writes { OnlyWrites D.Device device.old device.new result }
 {
     match answer(alloc, debugger, line, reply) {
-        Ok(Answered::Told) => match write_all(device, reply.as_bytes()) {
-            Ok(()) => Ok(Answered::Told),
-            Err(Broken) => Err(Broken),
-        },
-        Ok(Answered::Ends) => match write_all(device, reply.as_bytes()) {
-            Ok(()) => Ok(Answered::Ends),
-            Err(Broken) => Err(Broken),
-        },
+        Ok(Answered::Told) => {
+            write_all(device, reply.as_bytes())?;
+            Ok(Answered::Told)
+        }
+        Ok(Answered::Ends) => {
+            write_all(device, reply.as_bytes())?;
+            Ok(Answered::Ends)
+        }
         Ok(Answered::Asks(root, limit)) => {
-            let handed_on = device.flush();
-            match handed_on {
-                Ok(()) => Ok(Answered::Asks(root, limit)),
-                Err(Broken) => Err(Broken),
-            }
+            device.flush()?;
+            Ok(Answered::Asks(root, limit))
         }
         Ok(Answered::Lists(listing)) => {
-            match write_listing(
+            write_listing(
                 alloc,
                 device,
                 &mut debugger.core,
                 &debugger.spies,
                 listing,
                 reply,
-            ) {
-                Ok(()) => Ok(Answered::Lists(listing)),
-                Err(Broken) => Err(Broken),
-            }
+            )?;
+            Ok(Answered::Lists(listing))
         }
-        Err(_) => match write_all(device, b"F1 no memory\n") {
-            Ok(()) => Ok(Answered::Told),
-            Err(Broken) => Err(Broken),
-        },
+        Err(_) => {
+            write_all(device, b"F1 no memory\n")?;
+            Ok(Answered::Told)
+        }
     }
 }
 
@@ -106,10 +99,7 @@ fn serve_run<R: Threads + Wait + Sync, G: Gate + Sync, D: Device>(
     requires handed_on { D.held device.old ≡ [] }
     ensures told { (text : List ℕ) × HasRun (state_of debugger) root limit text (state_of result.0) × WritesFront (D.written device.old) (D.written device.new) result.1 text }
     ensures opening { result.0.core.world.opening ≡ debugger.core.world.opening }
-    ensures unread { Keeps (D.unread device.old) (D.unread device.new) }
-    ensures count { Counts (D.failures device.old) (D.failures device.new) result.1 }
-    ensures earlier { D.earlier device.new ≡ D.earlier device.old }
-    ensures latest { D.latest device.new ≡ D.latest device.old }
+    ensures writes { OnlyWrites D.Device device.old device.new result.1 }
 {
     let (debugger, report) = leap(rt, alloc, debugger, gate, root, limit);
     let written = write_run(device, &debugger.core, report, line);
@@ -123,7 +113,7 @@ fn serve_run<R: Threads + Wait + Sync, G: Gate + Sync, D: Device>(
 pub fn session<R: Threads + Wait + Sync, G: Gate + Sync, D: Device>(
     rt: &R,
     alloc: Global,
-    debugger: Debugger,
+    mut debugger: Debugger,
     gate: &G,
     device: &mut D,
 ) -> (Debugger, Result<(), Fault>)
@@ -150,7 +140,6 @@ pub fn session<R: Threads + Wait + Sync, G: Gate + Sync, D: Device>(
     ensures failed { IfErr result.1 (λ e. (e ≡ Fault.Device) × (D.failures device.new ≡ D.failures device.old + 1)) }
     ensures ok { OnOk result.1 (D.failures device.new ≡ D.failures device.old) }
 {
-    let mut debugger = debugger;
     // Where memory is refused, the first line that asks for a change settles.
     let _ = settle(alloc, &mut debugger.core);
     let mut ahead = Ahead::new();
@@ -162,9 +151,8 @@ pub fn session<R: Threads + Wait + Sync, G: Gate + Sync, D: Device>(
             Ok(None) => return (debugger, Ok(())),
             Ok(Some(line)) => line,
         };
-        let answered = match serve(alloc, &mut debugger, device, &line, &mut reply) {
-            Ok(answered) => answered,
-            Err(Broken) => return (debugger, Err(Fault::Device)),
+        let Ok(answered) = serve(alloc, &mut debugger, device, &line, &mut reply) else {
+            return (debugger, Err(Fault::Device));
         };
         match answered {
             Answered::Ends => return (debugger, Ok(())),
@@ -175,9 +163,8 @@ pub fn session<R: Threads + Wait + Sync, G: Gate + Sync, D: Device>(
                     rt, alloc, debugger, gate, device, root, limit, &mut reply,
                 );
                 debugger = left;
-                match written {
-                    Ok(()) => (),
-                    Err(Broken) => return (debugger, Err(Fault::Device)),
+                if let Err(Broken) = written {
+                    return (debugger, Err(Fault::Device));
                 }
             }
         }

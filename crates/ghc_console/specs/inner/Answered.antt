@@ -20,7 +20,7 @@ use Rattle.ghc_console.specs.declared.answered.Answered.TheVariants.{Told as tol
 use Rattle.ghc_console.specs.declared.answered.Listing.{Listing}
 use Rattle.ghc_console.specs.declared.answered.Listing.TheVariants as listing
 use Rattle.ghc_console.specs.declared.command.LineCommand.{LineCommand}
-use Rattle.ghc_console.specs.declared.command.LineCommand.TheVariants.{Leap as leap, Skip as skip, Records as records, Goals as goals, Shelf as shelf, Save as save, SaveSteps as save_steps}
+use Rattle.ghc_console.specs.declared.command.LineCommand.TheVariants.{Leap as leap, Skip as skip, Records as records, Goals as goals, Shelf as shelf, Save as save, SaveSteps as save_steps, Show as show, Since as since, Causes as causes, GoalOf as goal_of, Clauses as clauses, Why as why, Who as who, Explain as explain, ExplainGoal as explain_goal, WhyNot as why_not, WhyNotGoal as why_not_goal, Part as part, Blame as blame, BlamePlace as blame_place, BlameGoal as blame_goal}
 
 -- AsksForRun w c root limit: in the world w the command c asks for a run of at most so many steps. `leap` asks for one of any goals; `skip` for one of those that descend from a goal that is there, with the limit of a run for which no number is said.
 pub data AsksForRun (w : World) : LineCommand → Option GoalName → ℕ → Type 0 where
@@ -45,6 +45,25 @@ is_told_at_once shelf = false
 is_told_at_once save = false
 is_told_at_once save_steps = false
 is_told_at_once c = true
+
+-- The command looks something up, and changes nothing.
+abbrev pub looks_up : LineCommand → Bool
+looks_up (show word) = true
+looks_up (since number) = true
+looks_up causes = true
+looks_up (goal_of number) = true
+looks_up (clauses goal) = true
+looks_up (why number) = true
+looks_up (who word) = true
+looks_up (explain word) = true
+looks_up (explain_goal goal) = true
+looks_up (why_not word) = true
+looks_up (why_not_goal goal) = true
+looks_up (part goal) = true
+looks_up (blame word answers) = true
+looks_up (blame_place word place answers) = true
+looks_up (blame_goal goal answers) = true
+looks_up c = false
 
 -- IsListing w spies listed text: the text lists that of the world w, or the whole session with these spies. It may be the refusal alone, where memory was refused before the first line: to put the goals, the shelf or the spies in order, to try the goals, or to tell why nothing is listed.
 abbrev pub IsListing : World → Spies → Listing → List ℕ → Type 0
@@ -73,6 +92,7 @@ pub record HasRun (s : SessionState) (root : Option GoalName) (limit : ℕ) (tex
   pub run : TellsRun s.workers s.spies root limit s.world text t.world
   pub spies : t.spies ≡ s.spies
   pub workers : t.workers ≡ s.workers
+  pub lines : t.clause_lines ≡ s.clause_lines
 
 -- Where a run is asked for, this holds.
 abbrev pub IfAsksForRun : Answered → Type 0 → Type 0

@@ -1,8 +1,8 @@
 // What a session reads from and writes to.
 ghost use Rattle.std.specs.Prelude.{◌≡◌, ℕ, ◌+◌, ◌<◌, List, [], Option, length, IfOk, OnOk};
 ghost use Rattle.std.specs.Io.{ReadsAtMost, WritesAtMost};
-ghost use Rattle.std.specs.Io.KnownBytes.{Appends, Keeps, ReadConsumes, WriteAppends};
-ghost use Rattle.ghc_console.specs.inner.Device.{Counts, EndsWith, Gives, WritesFront};
+ghost use Rattle.std.specs.Io.KnownBytes.{Keeps, ReadConsumes, WriteAppends};
+ghost use Rattle.ghc_console.specs.inner.Device.{Counts, EndsWith, Gives};
 
 /// A call of a device failed.
 #[derive(Clone, Copy, Debug, PartialEq, Eq)]
@@ -62,23 +62,4 @@ pub trait Device {
         ensures count { Counts (failures self.old) (failures self.new) result }
         ensures earlier { earlier self.new ≡ earlier self.old }
         ensures latest { latest self.new ≡ latest self.old };
-}
-
-/// Writes all the bytes, or a front of them where a call fails, which is the last call. At most one call for each byte.
-#[inline(always)]
-pub fn write_all<D: Device>(device: &mut D, bytes: &[u8]) -> Result<(), Broken>
-    ensures bytes { WritesFront (D.written device.old) (D.written device.new) result bytes.now }
-    ensures unread { Keeps (D.unread device.old) (D.unread device.new) }
-    ensures count { Counts (D.failures device.old) (D.failures device.new) result }
-    ensures earlier { D.earlier device.new ≡ D.earlier device.old }
-    ensures latest { D.latest device.new ≡ D.latest device.old }
-{
-    let mut rest = bytes;
-    while !rest.is_empty() {
-        match device.write(rest) {
-            Ok(n) => rest = &rest[n..],
-            Err(Broken) => return Err(Broken),
-        }
-    }
-    Ok(())
 }

@@ -1,12 +1,12 @@
 // Reading lines from a device.
 ghost use Rattle.std.specs.Prelude.{◌≡◌, ◌⊎◌, ◌≢◌, ◌∷◌, ◌++◌, ◌+◌, ◌<◌, All, IfSome, IfNone, List, ℕ, [], length, ◌==◌, false, take, drop, IfOk, OnOk, Option};
+ghost use Rattle.std.specs.Io.BufRead.{strip_last};
 ghost use Rattle.std.specs.Io.KnownBytes.{IsAtEnd, Keeps, prepend_known};
 ghost use Rattle.ghc_console.specs.inner.Device.{Counts};
 ghost use Rattle.ghc_console.specs.Reading.{AsksAtNeed, AsksForMore, CountsGiven, HasGathered, IsMadeOf, IsNextLine, TakesFront};
 
 use crate::devices::device::{Broken, Device};
 use crate::devices::line_buffer::{Gathered, LINE_LIMIT, State};
-use crate::devices::text_rows::without_return;
 use crate::words::first;
 use std::alloc::Global;
 use std::marker::Model;
@@ -52,6 +52,16 @@ impl Model for Ahead {
     ghost view = { λ a. take (a.end - a.start) (drop a.start a.buf) };
 
     ghost invariant = { λ a. (a.start ≤ a.end) × (a.end ≤ 4096) };
+}
+
+// The bytes without a carriage return at their end.
+fn without_return(bytes: &[u8]) -> &[u8]
+    ensures { result.now ≡ strip_last 13 bytes.now }
+{
+    if bytes.last() == Some(&b'\r') {
+        return &bytes[..bytes.len() - 1];
+    }
+    bytes
 }
 
 // What becomes of the bytes of a row; `ended` says whether a line feed ends it.
@@ -109,18 +119,11 @@ impl Ahead {
         ensures asked { (D.earlier device.new ≡ D.earlier device.old) ⊎ (D.earlier device.new ≡ D.earlier device.old + D.latest device.old) }
         ensures latest { OnOk result (D.latest device.new ≡ length self.new) }
     {
-        match device.flush() {
-            Ok(()) => (),
-            Err(Broken) => return Err(Broken),
-        }
-        match device.read(&mut self.buf) {
-            Ok(n) => {
-                self.start = 0;
-                self.end = n;
-                Ok(n > 0)
-            }
-            Err(Broken) => Err(Broken),
-        }
+        device.flush()?;
+        let n = device.read(&mut self.buf)?;
+        self.start = 0;
+        self.end = n;
+        Ok(n > 0)
     }
 
     // Gives the line what is there of it, and says whether it ends.
@@ -168,12 +171,8 @@ impl Ahead {
     {
         let mut line = Gathered::new(spare);
         for _ in rt.forever() {
-            if self.is_empty() {
-                match self.fill(device) {
-                    Ok(true) => {}
-                    Ok(false) => return Ok(finish(line, false)),
-                    Err(Broken) => return Err(Broken),
-                }
+            if self.is_empty() && !self.fill(device)? {
+                return Ok(finish(line, false));
             }
             if self.give(&mut line) {
                 return Ok(finish(line, true));

@@ -10,11 +10,11 @@ ghost use Rattle.ghc_trace.specs.GoalLines.{print_limit};
 ghost use Rattle.ghc_console.specs.VariableNamed.{IsVariableNamed};
 
 use crate::count_text::push_count;
-use crate::named_variable::variable_named;
+use crate::replies::found::value_named;
 use crate::replies::settled::settle;
 use crate::replies::{refused, shown};
 use ghc_core::Core;
-use ghc_term::{Fault, Term, VarName, print};
+use ghc_term::VarName;
 use ghc_trace::{holders, push_holders, push_steps, slice_of};
 use std::alloc::{AllocError, Global};
 
@@ -77,12 +77,8 @@ pub fn explain(
     ensures firings { core.new.meter.firings ≡ core.old.meter.firings }
 {
     settle(alloc, core)?;
-    let Some(x) = variable_named(core, word.as_bytes()) else {
-        return refused(&Fault::NoVariable, reply);
-    };
-    let variable = Term::variable(x);
-    match print(alloc, &variable, core.store()) {
-        Ok(term) => told(alloc, core, x, word, term.as_str(), reply),
+    match value_named(alloc, core, word) {
+        Ok((x, term)) => told(alloc, core, x, word, term.as_str(), reply),
         Err(fault) => refused(&fault, reply),
     }
 }

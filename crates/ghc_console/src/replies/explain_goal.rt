@@ -1,16 +1,16 @@
 // The reply that tells why a goal is there and stands as it does.
-ghost use Rattle.std.specs.Prelude.{◌≡◌, ◌++◌, [], List, ℕ, OnOk, Some, string_bytes};
-ghost use Rattle.std.specs.FinMap as finite;
+ghost use Rattle.std.specs.Prelude.{◌≡◌, ◌++◌, [], List, ℕ, OnOk, string_bytes};
 ghost use Rattle.ghc_core.specs.Settling.{AreKept};
 ghost use Rattle.ghc_trace.specs.Laws.{IsSettled};
 ghost use Rattle.ghc_console.specs.Explaining.{RepliesToExplainGoal, TellsOrigin};
 
 use crate::replies::explain::push_steps_line;
+use crate::replies::found::push_goal_named;
 use crate::replies::refused;
 use crate::replies::settled::settle;
 use ghc_core::Core;
-use ghc_term::{Fault, Goal, GoalName};
-use ghc_trace::{holders_for, push_goal, push_holders, push_steps, slice_of_goal};
+use ghc_term::{Goal, GoalName};
+use ghc_trace::{holders_for, push_holders, push_steps, slice_of_goal};
 use std::alloc::{AllocError, Global};
 
 // Writes who else holds a variable for which the goal waits, the steps of its slice, and how many these are.
@@ -32,42 +32,6 @@ fn push_origin(
     Ok(())
 }
 
-// Tells of the goal, which has this name.
-fn told_goal(
-    alloc: Global,
-    core: &Core,
-    name: GoalName,
-    goal: &Goal,
-    reply: &mut String,
-) -> Result<(), AllocError>
-    requires empty { string_bytes reply.old ≡ [] }
-    requires settled { IsSettled core.now.world core.now.notes }
-    requires there { finite.get core.now.world.state.goals name ≡ Some goal.now }
-    ensures { OnOk result (RepliesToExplainGoal core.now.world name (string_bytes reply.new)) }
-{
-    match push_goal(alloc, core, name, goal, reply) {
-        Ok(()) => push_origin(alloc, core, name, goal, reply),
-        Err(fault) => refused(&fault, reply),
-    }
-}
-
-// Tells of the goal of this name, if there is one.
-fn told_named(
-    alloc: Global,
-    core: &Core,
-    name: GoalName,
-    reply: &mut String,
-) -> Result<(), AllocError>
-    requires empty { string_bytes reply.old ≡ [] }
-    requires settled { IsSettled core.now.world core.now.notes }
-    ensures { OnOk result (RepliesToExplainGoal core.now.world name (string_bytes reply.new)) }
-{
-    match core.goals().get(name) {
-        Some(goal) => told_goal(alloc, core, name, goal, reply),
-        None => refused(&Fault::NoGoal, reply),
-    }
-}
-
 /// Tells the goal of this name as `goals` does; for each variable for which it waits the other goals that hold it, with their status;
 /// the kept steps that made the goal or bound what it looks at, with all on which these depend, in recorded order, each with the other
 /// clauses by which it could have been; and how many of the kept steps these are. Or the refusal. What is untried is tried first. It
@@ -86,5 +50,8 @@ pub fn explain_goal(
     ensures firings { core.new.meter.firings ≡ core.old.meter.firings }
 {
     settle(alloc, core)?;
-    told_named(alloc, core, name, reply)
+    match push_goal_named(alloc, core, name, reply) {
+        Ok(goal) => push_origin(alloc, core, name, goal, reply),
+        Err(fault) => refused(&fault, reply),
+    }
 }

@@ -1,19 +1,20 @@
 // The listing of the goals, which is written line by line.
 ghost use Rattle.std.specs.Prelude.{◌≡◌, ◌⊎◌, ◌↔◌, [], Some, List, ℕ, IsTrue, OnOk, string_bytes};
 ghost use Rattle.std.specs.FinMap as finite;
-ghost use Rattle.std.specs.Io.KnownBytes.{Keeps};
 ghost use Rattle.ghc_term.specs.declared.fault.Fault.{Fault};
 ghost use Rattle.ghc_term.specs.Lists.{In};
 ghost use Rattle.ghc_trace.specs.GoalLines.{IsGoalLineOf, IsTooLong, Named};
 ghost use Rattle.ghc_trace.specs.inner.GoalLinesCode.{lent};
 ghost use Rattle.ghc_trace.specs.Laws.{IsSettled};
-ghost use Rattle.ghc_console.specs.inner.Device.{Counts, WritesFront};
+ghost use Rattle.ghc_console.specs.inner.Device.{WritesFront};
 ghost use Rattle.ghc_console.specs.inner.WritesTold.{WritesGoal, WritesGoals};
 ghost use Rattle.ghc_console.specs.TextLines.{refusal};
 ghost use Rattle.ghc_console.specs.Replies.{RepliesToGoals};
+ghost use Rattle.ghc_console.specs.inner.OnlyWrites.{OnlyWrites};
 
-use crate::devices::device::{Broken, Device, write_all};
+use crate::devices::device::{Broken, Device};
 use crate::devices::made_line::write_made;
+use crate::devices::writing::write_all;
 use crate::replies::run_lines::UNTOLD;
 use crate::replies::settled::settle;
 use crate::replies::write_refusal;
@@ -87,10 +88,7 @@ fn write_goal<D: Device>(
     requires settled { IsSettled core.now.world core.now.notes }
     requires there { finite.get core.now.world.state.goals name ≡ Some goal.now }
     ensures told { WritesGoal core.now.world (name, goal.now) (D.written device.old) (D.written device.new) result }
-    ensures unread { Keeps (D.unread device.old) (D.unread device.new) }
-    ensures count { Counts (D.failures device.old) (D.failures device.new) result }
-    ensures earlier { D.earlier device.new ≡ D.earlier device.old }
-    ensures latest { D.latest device.new ≡ D.latest device.old }
+    ensures writes { OnlyWrites D.Device device.old device.new result }
 {
     line.clear();
     let made = tell_goal(alloc, core, name, goal, line);
@@ -108,16 +106,10 @@ fn write_each<D: Device>(
     requires settled { IsSettled core.now.world core.now.notes }
     requires there { (goal : Named) → In goal (lent goals.now.entries) → finite.get core.now.world.state.goals goal.0 ≡ Some goal.1 }
     ensures told { WritesGoals core.now.world (lent goals.now.entries) (D.written device.old) (D.written device.new) result }
-    ensures unread { Keeps (D.unread device.old) (D.unread device.new) }
-    ensures count { Counts (D.failures device.old) (D.failures device.new) result }
-    ensures earlier { D.earlier device.new ≡ D.earlier device.old }
-    ensures latest { D.latest device.new ≡ D.latest device.old }
+    ensures writes { OnlyWrites D.Device device.old device.new result }
 {
     for (name, goal) in goals {
-        match write_goal(alloc, device, core, *name, *goal, line) {
-            Ok(()) => (),
-            Err(Broken) => return Err(Broken),
-        }
+        write_goal(alloc, device, core, *name, *goal, line)?;
     }
     Ok(())
 }
@@ -133,10 +125,7 @@ fn write_ordered<D: Device>(
     requires settled { IsSettled core.now.world core.now.notes }
     requires ordered { lent goals.now.entries ≡ finite.entries core.now.world.state.goals }
     ensures told { (text : List ℕ) × (RepliesToGoals core.now.world text ⊎ (text ≡ refusal Fault.Memory)) × WritesFront (D.written device.old) (D.written device.new) result text }
-    ensures unread { Keeps (D.unread device.old) (D.unread device.new) }
-    ensures count { Counts (D.failures device.old) (D.failures device.new) result }
-    ensures earlier { D.earlier device.new ≡ D.earlier device.old }
-    ensures latest { D.latest device.new ≡ D.latest device.old }
+    ensures writes { OnlyWrites D.Device device.old device.new result }
 {
     if goals.len() == 0 {
         return write_all(device, b"none\n");
@@ -156,10 +145,7 @@ fn write_tried<D: Device>(
 ) -> Result<(), Broken>
     requires settled { IsSettled core.now.world core.now.notes }
     ensures told { (text : List ℕ) × (RepliesToGoals core.now.world text ⊎ (text ≡ refusal Fault.Memory)) × WritesFront (D.written device.old) (D.written device.new) result text }
-    ensures unread { Keeps (D.unread device.old) (D.unread device.new) }
-    ensures count { Counts (D.failures device.old) (D.failures device.new) result }
-    ensures earlier { D.earlier device.new ≡ D.earlier device.old }
-    ensures latest { D.latest device.new ≡ D.latest device.old }
+    ensures writes { OnlyWrites D.Device device.old device.new result }
 {
     match core.goals().by_name(alloc) {
         Ok(ordered) => write_ordered(alloc, device, core, &ordered, line),
@@ -180,10 +166,7 @@ pub(crate) fn write_goals<D: Device>(
     ensures told { (text : List ℕ) × (RepliesToGoals core.old.world text ⊎ (text ≡ refusal Fault.Memory)) × WritesFront (D.written device.old) (D.written device.new) result text }
     ensures world { core.new.world ≡ core.old.world }
     ensures firings { core.new.meter.firings ≡ core.old.meter.firings }
-    ensures unread { Keeps (D.unread device.old) (D.unread device.new) }
-    ensures count { Counts (D.failures device.old) (D.failures device.new) result }
-    ensures earlier { D.earlier device.new ≡ D.earlier device.old }
-    ensures latest { D.latest device.new ≡ D.latest device.old }
+    ensures writes { OnlyWrites D.Device device.old device.new result }
 {
     match settle(alloc, core) {
         Ok(()) => write_tried(alloc, device, core, line),

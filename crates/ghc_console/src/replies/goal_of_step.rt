@@ -1,48 +1,53 @@
 // The reply that tells which goal a step took.
 ghost use Rattle.std.specs.Prelude.{◌≡◌, ◌++◌, [], OnOk, string_bytes};
-ghost use Rattle.ghc_records.specs.Journal.{step_of};
-ghost use Rattle.ghc_records.specs.StepText.{step_text};
-ghost use Rattle.ghc_console.specs.Looks.{RepliesToGoalOf, goal_behind};
+ghost use Rattle.ghc_trace.specs.StepGoals.{step_with_goal};
+ghost use Rattle.ghc_console.specs.Looks.{RepliesToGoalOf, act_line_text};
 ghost use Rattle.ghc_console.specs.TextLines.{lined};
 
+use crate::replies::clause_lines::push_line;
 use crate::replies::refused;
 use ghc_core::Core;
-use ghc_records::{Record, push_step};
-use ghc_term::{Fault, push_goal_written};
+use ghc_fire::Act;
+use ghc_reader::ClauseLines;
+use ghc_records::Record;
+use ghc_term::Fault;
+use ghc_trace::push_step_with_goal;
 use std::alloc::AllocError;
 
-// The goal that the step took, as written, after a space, if it took one.
-fn push_goal_behind(step: &Record, reply: &mut String) -> Result<(), AllocError>
-    ensures { OnOk result (string_bytes reply.new ≡ string_bytes reply.old ++ goal_behind step.now.consumed) }
+// The line at which the clause begins by which the act reduced a goal, if it did.
+fn push_act_line(act: &Act, lines: &ClauseLines, reply: &mut String) -> Result<(), AllocError>
+    ensures { OnOk result (string_bytes reply.new ≡ string_bytes reply.old ++ act_line_text lines.now act.now) }
 {
-    match step.consumed() {
-        Some(goal) => {
-            reply.push_str(" ")?;
-            push_goal_written(goal, reply)
-        }
-        None => Ok(()),
+    match act {
+        Act::ByClause(clause) => push_line(*clause, lines, reply),
+        _ => Ok(()),
     }
 }
 
-// The step, and the goal that it took, on a line.
-fn step_with_goal(step: &Record, reply: &mut String) -> Result<(), AllocError>
+// The step, the goal that it took, and the line of the clause by which it was reduced, on a line.
+fn step_line(step: &Record, lines: &ClauseLines, reply: &mut String) -> Result<(), AllocError>
     requires { string_bytes reply.old ≡ [] }
-    ensures { OnOk result (string_bytes reply.new ≡ lined (step_text (step_of step.now) ++ goal_behind step.now.consumed)) }
+    ensures { OnOk result (string_bytes reply.new ≡ lined (step_with_goal step.now ++ act_line_text lines.now step.now.act)) }
 {
-    push_step(step, reply)?;
-    push_goal_behind(step, reply)?;
+    push_step_with_goal(step, reply)?;
+    push_act_line(step.act(), lines, reply)?;
     reply.push_str("\n")
 }
 
-/// Tells the kept step of this number, and the goal that it took, as it was written then; or the refusal. It costs a look-up, and
-/// the text.
+/// Tells the kept step of this number, the goal that it took, as it was written then, and the line at which its clause begins; or the
+/// refusal. It costs a look-up, and the text.
 #[inline(never)]
-pub fn goal_of(core: &Core, number: u32, reply: &mut String) -> Result<(), AllocError>
+pub fn goal_of(
+    core: &Core,
+    lines: &ClauseLines,
+    number: u32,
+    reply: &mut String,
+) -> Result<(), AllocError>
     requires { string_bytes reply.old ≡ [] }
-    ensures { OnOk result (RepliesToGoalOf core.now.world number (string_bytes reply.new)) }
+    ensures { OnOk result (RepliesToGoalOf lines.now core.now.world number (string_bytes reply.new)) }
 {
     match core.records().get(number) {
-        Some(step) => step_with_goal(step, reply),
+        Some(step) => step_line(step, lines, reply),
         None => refused(&Fault::NotKept, reply),
     }
 }

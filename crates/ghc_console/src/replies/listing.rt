@@ -1,11 +1,12 @@
 // What is listed of a session: its records, its goals, its shelf, or as a history all of it, or its kept steps.
 ghost use Rattle.std.specs.Prelude.{◌≡◌, List, ℕ};
-ghost use Rattle.std.specs.Io.KnownBytes.{Keeps};
-ghost use Rattle.ghc_console.specs.inner.Device.{Counts, WritesFront};
+ghost use Rattle.ghc_console.specs.inner.Device.{WritesFront};
 ghost use Rattle.ghc_console.specs.inner.Answered.{IsListing};
+ghost use Rattle.ghc_console.specs.inner.OnlyWrites.{OnlyWrites};
 
 use crate::answered::Listing;
-use crate::devices::device::{Broken, Device, write_all};
+use crate::devices::device::{Broken, Device};
+use crate::devices::writing::write_all;
 use crate::replies::goal_listing::write_goals;
 use crate::replies::kept_listing::write_kept;
 use crate::replies::record_listing::write_records;
@@ -31,10 +32,7 @@ pub(crate) fn write_listing<D: Device>(
     ensures told { (text : List ℕ) × IsListing core.old.world spies.now listing text × WritesFront (D.written device.old) (D.written device.new) result text }
     ensures world { core.new.world ≡ core.old.world }
     ensures firings { core.new.meter.firings ≡ core.old.meter.firings }
-    ensures unread { Keeps (D.unread device.old) (D.unread device.new) }
-    ensures count { Counts (D.failures device.old) (D.failures device.new) result }
-    ensures earlier { D.earlier device.new ≡ D.earlier device.old }
-    ensures latest { D.latest device.new ≡ D.latest device.old }
+    ensures writes { OnlyWrites D.Device device.old device.new result }
 {
     match listing {
         Listing::Records => write_records(device, core.records(), line),

@@ -90,7 +90,7 @@ fn push_change(
 }
 
 /// Tells the change, makes it, and tells what is stuck then. An error leaves the world as it was.
-pub(crate) fn carry_out(
+pub(crate) fn tell_and_make(
     alloc: Global,
     core: &mut Core,
     change: Change,
@@ -127,7 +127,7 @@ pub fn obey(
 {
     settle(alloc, core)?;
     match core.prepare_command(alloc, command) {
-        Ok(change) => carry_out(alloc, core, change, reply),
+        Ok(change) => tell_and_make(alloc, core, change, reply),
         Err(refusal) => refused(&refusal, reply),
     }
 }

@@ -1,13 +1,13 @@
 // The listing of the records, and of the steps of records, which is written line by line.
 ghost use Rattle.std.specs.Prelude.{◌≡◌, ◌∷◌, [], map, OnOk, string_bytes};
-ghost use Rattle.std.specs.Io.KnownBytes.{Keeps};
-ghost use Rattle.ghc_console.specs.inner.Device.{Counts};
 ghost use Rattle.ghc_console.specs.inner.WritesTold.{WritesSlot, WritesTold, form_text};
 ghost use Rattle.ghc_console.specs.TextLines.{lined};
 ghost use Rattle.ghc_console.specs.Listings.{records_listed};
+ghost use Rattle.ghc_console.specs.inner.OnlyWrites.{OnlyWrites};
 
-use crate::devices::device::{Broken, Device, write_all};
+use crate::devices::device::{Broken, Device};
 use crate::devices::made_line::write_made;
+use crate::devices::writing::write_all;
 use ghc_records::{Record, Records, push_record, push_step};
 use std::alloc::AllocError;
 
@@ -40,10 +40,7 @@ pub(crate) fn write_record<D: Device>(
     line: &mut String,
 ) -> Result<(), Broken>
     ensures told { WritesTold (lined (form_text form taken.now) ∷ []) (D.written device.old) (D.written device.new) result }
-    ensures unread { Keeps (D.unread device.old) (D.unread device.new) }
-    ensures count { Counts (D.failures device.old) (D.failures device.new) result }
-    ensures earlier { D.earlier device.new ≡ D.earlier device.old }
-    ensures latest { D.latest device.new ≡ D.latest device.old }
+    ensures writes { OnlyWrites D.Device device.old device.new result }
 {
     line.clear();
     let made = tell_record(taken, form, line);
@@ -59,10 +56,7 @@ fn write_record_at<D: Device>(
     line: &mut String,
 ) -> Result<(), Broken>
     ensures told { WritesSlot (form_text form) records.now.slots place (D.written device.old) (D.written device.new) result }
-    ensures unread { Keeps (D.unread device.old) (D.unread device.new) }
-    ensures count { Counts (D.failures device.old) (D.failures device.new) result }
-    ensures earlier { D.earlier device.new ≡ D.earlier device.old }
-    ensures latest { D.latest device.new ≡ D.latest device.old }
+    ensures writes { OnlyWrites D.Device device.old device.new result }
 {
     let Some(taken) = records.at(place) else {
         return Ok(());
@@ -78,18 +72,12 @@ pub(crate) fn write_each<D: Device>(
     line: &mut String,
 ) -> Result<(), Broken>
     ensures told { WritesTold (map lined (map (form_text form) records.now.held)) (D.written device.old) (D.written device.new) result }
-    ensures unread { Keeps (D.unread device.old) (D.unread device.new) }
-    ensures count { Counts (D.failures device.old) (D.failures device.new) result }
-    ensures earlier { D.earlier device.new ≡ D.earlier device.old }
-    ensures latest { D.latest device.new ≡ D.latest device.old }
+    ensures writes { OnlyWrites D.Device device.old device.new result }
 {
     // Called for its clause on the slots, which the proof cites.
     let _count = records.len();
     for place in 0..records.places() {
-        match write_record_at(device, records, place, form, line) {
-            Ok(()) => (),
-            Err(Broken) => return Err(Broken),
-        }
+        write_record_at(device, records, place, form, line)?;
     }
     Ok(())
 }
@@ -102,10 +90,7 @@ pub(crate) fn write_records<D: Device>(
     line: &mut String,
 ) -> Result<(), Broken>
     ensures told { WritesTold (map lined (records_listed records.now.held)) (D.written device.old) (D.written device.new) result }
-    ensures unread { Keeps (D.unread device.old) (D.unread device.new) }
-    ensures count { Counts (D.failures device.old) (D.failures device.new) result }
-    ensures earlier { D.earlier device.new ≡ D.earlier device.old }
-    ensures latest { D.latest device.new ≡ D.latest device.old }
+    ensures writes { OnlyWrites D.Device device.old device.new result }
 {
     if records.len() == 0 {
         return write_all(device, b"none\n");

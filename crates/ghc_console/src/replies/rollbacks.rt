@@ -67,10 +67,7 @@ fn roll_all(
     ensures firings { core.new.meter.firings ≡ core.old.meter.firings }
 {
     for number in ns {
-        match roll_back(alloc, core, *number, reply) {
-            Ok(()) => {}
-            Err(error) => return Err(error),
-        }
+        roll_back(alloc, core, *number, reply)?;
     }
     Ok(())
 }

@@ -1,11 +1,11 @@
 // The lines of runs, which are written one at a time.
 ghost use Rattle.std.specs.Prelude.{◌≡◌, ◌++◌, ◌∷◌, [], map, OnOk, string_bytes};
-ghost use Rattle.std.specs.Io.KnownBytes.{Keeps};
-ghost use Rattle.ghc_console.specs.inner.Device.{Counts};
 ghost use Rattle.ghc_console.specs.RunReplies.{IsAdded, last_of, run_lines, step_line, stop_line, stop_text};
 ghost use Rattle.ghc_console.specs.inner.WritesTold.{WritesTold};
+ghost use Rattle.ghc_console.specs.inner.OnlyWrites.{OnlyWrites};
 
-use crate::devices::device::{Broken, Device, write_all};
+use crate::devices::device::{Broken, Device};
+use crate::devices::writing::write_all;
 use ghc_core::Core;
 use ghc_pool::{Report, Stop};
 use ghc_records::{Record, push_goal_name, push_step};
@@ -57,10 +57,7 @@ fn tell_step(step: &Record, line: &mut String) -> Result<(), AllocError>
 // Writes the line of a step, or that memory was refused for it.
 fn write_step<D: Device>(device: &mut D, step: &Record, line: &mut String) -> Result<(), Broken>
     ensures told { WritesTold (step_line step.now ∷ []) (D.written device.old) (D.written device.new) result }
-    ensures unread { Keeps (D.unread device.old) (D.unread device.new) }
-    ensures count { Counts (D.failures device.old) (D.failures device.new) result }
-    ensures earlier { D.earlier device.new ≡ D.earlier device.old }
-    ensures latest { D.latest device.new ≡ D.latest device.old }
+    ensures writes { OnlyWrites D.Device device.old device.new result }
 {
     line.clear();
     match tell_step(step, line) {
@@ -72,10 +69,7 @@ fn write_step<D: Device>(device: &mut D, step: &Record, line: &mut String) -> Re
 // Writes the line that says why a run stopped, or that memory was refused for it.
 fn write_stop<D: Device>(device: &mut D, stop: Stop, line: &mut String) -> Result<(), Broken>
     ensures told { WritesTold (stop_line stop ∷ []) (D.written device.old) (D.written device.new) result }
-    ensures unread { Keeps (D.unread device.old) (D.unread device.new) }
-    ensures count { Counts (D.failures device.old) (D.failures device.new) result }
-    ensures earlier { D.earlier device.new ≡ D.earlier device.old }
-    ensures latest { D.latest device.new ≡ D.latest device.old }
+    ensures writes { OnlyWrites D.Device device.old device.new result }
 {
     line.clear();
     match tell_stop(stop, line) {
@@ -93,10 +87,7 @@ fn write_steps<D: Device>(
 ) -> Result<(), Broken>
     requires { IsAdded core.now.world count }
     ensures told { WritesTold (map step_line (last_of count core.now.world.kept)) (D.written device.old) (D.written device.new) result }
-    ensures unread { Keeps (D.unread device.old) (D.unread device.new) }
-    ensures count { Counts (D.failures device.old) (D.failures device.new) result }
-    ensures earlier { D.earlier device.new ≡ D.earlier device.old }
-    ensures latest { D.latest device.new ≡ D.latest device.old }
+    ensures writes { OnlyWrites D.Device device.old device.new result }
 {
     let records = core.records();
     // Called for its clause that no two records have one number, which the proof cites.
@@ -106,10 +97,7 @@ fn write_steps<D: Device>(
         let Some(step) = records.get(number) else {
             unreachable!();
         };
-        match write_step(device, step, line) {
-            Ok(()) => (),
-            Err(Broken) => return Err(Broken),
-        }
+        write_step(device, step, line)?;
     }
     Ok(())
 }
@@ -125,13 +113,8 @@ pub fn write_run<D: Device>(
 ) -> Result<(), Broken>
     requires { IsAdded core.now.world report.added }
     ensures told { WritesTold (run_lines (last_of report.added core.now.world.kept) report.stop) (D.written device.old) (D.written device.new) result }
-    ensures unread { Keeps (D.unread device.old) (D.unread device.new) }
-    ensures count { Counts (D.failures device.old) (D.failures device.new) result }
-    ensures earlier { D.earlier device.new ≡ D.earlier device.old }
-    ensures latest { D.latest device.new ≡ D.latest device.old }
+    ensures writes { OnlyWrites D.Device device.old device.new result }
 {
-    match write_steps(device, core, report.added, line) {
-        Ok(()) => write_stop(device, report.stop, line),
-        Err(Broken) => Err(Broken),
-    }
+    write_steps(device, core, report.added, line)?;
+    write_stop(device, report.stop, line)
 }

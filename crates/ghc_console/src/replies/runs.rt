@@ -42,6 +42,7 @@ pub fn leap<R: Threads + Wait + Sync, G: Gate + Sync>(
     ensures opening { result.0.core.world.opening ≡ debugger.core.world.opening }
     ensures spies { result.0.spies ≡ debugger.spies }
     ensures workers { result.0.workers ≡ debugger.workers }
+    ensures lines { result.0.clause_lines ≡ debugger.clause_lines }
 {
     // Called for its clause that the steps stand at the end of the record, which the proof cites.
     runs_add_at_the_end();
@@ -49,6 +50,7 @@ pub fn leap<R: Threads + Wait + Sync, G: Gate + Sync>(
         core,
         spies,
         workers,
+        clause_lines,
     } = debugger;
     let mode = mode_of(root, limit);
     let (core, report) = run_together(rt, alloc, core, mode, &spies, workers, gate);
@@ -56,6 +58,7 @@ pub fn leap<R: Threads + Wait + Sync, G: Gate + Sync>(
         core,
         spies,
         workers,
+        clause_lines,
     };
     (debugger, report)
 }

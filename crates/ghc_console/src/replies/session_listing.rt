@@ -1,7 +1,6 @@
 // The listing of a session, as a history of version 2, which is written line by line.
-ghost use Rattle.std.specs.Prelude.{◌≡◌, ◌++◌, ◌∷◌, [], List, codes, drop, length, map, OnOk, string_bytes};
+ghost use Rattle.std.specs.Prelude.{◌≡◌, ◌++◌, ◌∷◌, [], drop, length, map, OnOk, string_bytes};
 ghost use Rattle.std.specs.Fmt.{decimal};
-ghost use Rattle.std.specs.Io.KnownBytes.{Keeps};
 ghost use Rattle.ghc_records.specs.inner.EntryCode.{entry_of};
 ghost use Rattle.ghc_records.specs.StepText.{step_text};
 ghost use Rattle.ghc_records.specs.EntryText.{entry_text};
@@ -9,9 +8,9 @@ ghost use Rattle.ghc_records.specs.Predicates.{predicate_text};
 ghost use Rattle.ghc_records.specs.Chronicle.{chronicle_of};
 ghost use Rattle.ghc_records.specs.ChronicleText.{chronicle_heading, chronicle_lines, entries_line, opening_line, spies_line};
 ghost use Rattle.ghc_core.specs.Resume.{chronicle_of_world};
-ghost use Rattle.ghc_console.specs.inner.Device.{Counts};
 ghost use Rattle.ghc_console.specs.inner.WritesTold.{WritesTold};
 ghost use Rattle.ghc_console.specs.TextLines.{lined};
+ghost use Rattle.ghc_console.specs.inner.OnlyWrites.{OnlyWrites};
 
 use crate::count_text::push_count;
 use crate::devices::device::{Broken, Device};
@@ -83,10 +82,7 @@ fn tell_heading(line: &mut String) -> Result<(), AllocError>
 // Writes the heading.
 fn write_heading<D: Device>(device: &mut D, line: &mut String) -> Result<(), Broken>
     ensures told { WritesTold (lined chronicle_heading ∷ []) (D.written device.old) (D.written device.new) result }
-    ensures unread { Keeps (D.unread device.old) (D.unread device.new) }
-    ensures count { Counts (D.failures device.old) (D.failures device.new) result }
-    ensures earlier { D.earlier device.new ≡ D.earlier device.old }
-    ensures latest { D.latest device.new ≡ D.latest device.old }
+    ensures writes { OnlyWrites D.Device device.old device.new result }
 {
     line.clear();
     let made = tell_heading(line);
@@ -100,10 +96,7 @@ fn write_opening_line<D: Device>(
     line: &mut String,
 ) -> Result<(), Broken>
     ensures told { WritesTold (lined (opening_line opening.now.next (length opening.now.steps)) ∷ []) (D.written device.old) (D.written device.new) result }
-    ensures unread { Keeps (D.unread device.old) (D.unread device.new) }
-    ensures count { Counts (D.failures device.old) (D.failures device.new) result }
-    ensures earlier { D.earlier device.new ≡ D.earlier device.old }
-    ensures latest { D.latest device.new ≡ D.latest device.old }
+    ensures writes { OnlyWrites D.Device device.old device.new result }
 {
     line.clear();
     let made = tell_opening(opening.steps().len(), opening.next(), line);
@@ -118,10 +111,7 @@ pub(crate) fn write_count<D: Device>(
     line: &mut String,
 ) -> Result<(), Broken>
     ensures told { WritesTold (lined (word.now ++ decimal count) ∷ []) (D.written device.old) (D.written device.new) result }
-    ensures unread { Keeps (D.unread device.old) (D.unread device.new) }
-    ensures count { Counts (D.failures device.old) (D.failures device.new) result }
-    ensures earlier { D.earlier device.new ≡ D.earlier device.old }
-    ensures latest { D.latest device.new ≡ D.latest device.old }
+    ensures writes { OnlyWrites D.Device device.old device.new result }
 {
     line.clear();
     let made = tell_count(word, count, line);
@@ -131,18 +121,12 @@ pub(crate) fn write_count<D: Device>(
 // Writes the lines of steps.
 fn write_steps<D: Device>(device: &mut D, steps: &[Step], line: &mut String) -> Result<(), Broken>
     ensures told { WritesTold (map lined (map step_text steps.now)) (D.written device.old) (D.written device.new) result }
-    ensures unread { Keeps (D.unread device.old) (D.unread device.new) }
-    ensures count { Counts (D.failures device.old) (D.failures device.new) result }
-    ensures earlier { D.earlier device.new ≡ D.earlier device.old }
-    ensures latest { D.latest device.new ≡ D.latest device.old }
+    ensures writes { OnlyWrites D.Device device.old device.new result }
 {
     for step in steps {
         line.clear();
         let made = tell_step(step, line);
-        match write_made(device, made, line) {
-            Ok(()) => (),
-            Err(Broken) => return Err(Broken),
-        }
+        write_made(device, made, line)?;
     }
     Ok(())
 }
@@ -154,19 +138,11 @@ fn write_opening<D: Device>(
     line: &mut String,
 ) -> Result<(), Broken>
     ensures told { WritesTold (map lined (chronicle_heading ∷ opening_line opening.now.next (length opening.now.steps) ∷ map step_text opening.now.steps)) (D.written device.old) (D.written device.new) result }
-    ensures unread { Keeps (D.unread device.old) (D.unread device.new) }
-    ensures count { Counts (D.failures device.old) (D.failures device.new) result }
-    ensures earlier { D.earlier device.new ≡ D.earlier device.old }
-    ensures latest { D.latest device.new ≡ D.latest device.old }
+    ensures writes { OnlyWrites D.Device device.old device.new result }
 {
-    match write_heading(device, line) {
-        Ok(()) => (),
-        Err(Broken) => return Err(Broken),
-    }
-    match write_opening_line(device, opening, line) {
-        Ok(()) => write_steps(device, opening.steps(), line),
-        Err(Broken) => Err(Broken),
-    }
+    write_heading(device, line)?;
+    write_opening_line(device, opening, line)?;
+    write_steps(device, opening.steps(), line)
 }
 
 // Writes the line of an entry.
@@ -176,10 +152,7 @@ fn write_entry_line<D: Device>(
     line: &mut String,
 ) -> Result<(), Broken>
     ensures told { WritesTold (lined (entry_text (entry_of entry.now)) ∷ []) (D.written device.old) (D.written device.new) result }
-    ensures unread { Keeps (D.unread device.old) (D.unread device.new) }
-    ensures count { Counts (D.failures device.old) (D.failures device.new) result }
-    ensures earlier { D.earlier device.new ≡ D.earlier device.old }
-    ensures latest { D.latest device.new ≡ D.latest device.old }
+    ensures writes { OnlyWrites D.Device device.old device.new result }
 {
     line.clear();
     let made = tell_entry(entry, line);
@@ -194,19 +167,13 @@ fn write_each_entry<D: Device>(
     line: &mut String,
 ) -> Result<(), Broken>
     ensures told { WritesTold (map lined (map entry_text (drop first journal.now.held))) (D.written device.old) (D.written device.new) result }
-    ensures unread { Keeps (D.unread device.old) (D.unread device.new) }
-    ensures count { Counts (D.failures device.old) (D.failures device.new) result }
-    ensures earlier { D.earlier device.new ≡ D.earlier device.old }
-    ensures latest { D.latest device.new ≡ D.latest device.old }
+    ensures writes { OnlyWrites D.Device device.old device.new result }
 {
     for place in first..journal.len() {
         let Some(entry) = journal.at(place) else {
             unreachable!();
         };
-        match write_entry_line(device, entry, line) {
-            Ok(()) => (),
-            Err(Broken) => return Err(Broken),
-        }
+        write_entry_line(device, entry, line)?;
     }
     Ok(())
 }
@@ -219,16 +186,11 @@ fn write_entries<D: Device>(
     line: &mut String,
 ) -> Result<(), Broken>
     ensures told { WritesTold (map lined (entries_line (length (drop first journal.now.held)) ∷ map entry_text (drop first journal.now.held))) (D.written device.old) (D.written device.new) result }
-    ensures unread { Keeps (D.unread device.old) (D.unread device.new) }
-    ensures count { Counts (D.failures device.old) (D.failures device.new) result }
-    ensures earlier { D.earlier device.new ≡ D.earlier device.old }
-    ensures latest { D.latest device.new ≡ D.latest device.old }
+    ensures writes { OnlyWrites D.Device device.old device.new result }
 {
     let count = journal.len().saturating_sub(first);
-    match write_count(device, "entries ", count, line) {
-        Ok(()) => write_each_entry(device, journal, first, line),
-        Err(Broken) => Err(Broken),
-    }
+    write_count(device, "entries ", count, line)?;
+    write_each_entry(device, journal, first, line)
 }
 
 // Writes the lines of predicates.
@@ -238,18 +200,12 @@ fn write_each_spy<D: Device>(
     line: &mut String,
 ) -> Result<(), Broken>
     ensures told { WritesTold (map lined (map predicate_text spies.now)) (D.written device.old) (D.written device.new) result }
-    ensures unread { Keeps (D.unread device.old) (D.unread device.new) }
-    ensures count { Counts (D.failures device.old) (D.failures device.new) result }
-    ensures earlier { D.earlier device.new ≡ D.earlier device.old }
-    ensures latest { D.latest device.new ≡ D.latest device.old }
+    ensures writes { OnlyWrites D.Device device.old device.new result }
 {
     for predicate in spies {
         line.clear();
         let made = tell_predicate(predicate, line);
-        match write_made(device, made, line) {
-            Ok(()) => (),
-            Err(Broken) => return Err(Broken),
-        }
+        write_made(device, made, line)?;
     }
     Ok(())
 }
@@ -261,15 +217,10 @@ fn write_spies<D: Device>(
     line: &mut String,
 ) -> Result<(), Broken>
     ensures told { WritesTold (map lined (spies_line (length spies.now) ∷ map predicate_text spies.now)) (D.written device.old) (D.written device.new) result }
-    ensures unread { Keeps (D.unread device.old) (D.unread device.new) }
-    ensures count { Counts (D.failures device.old) (D.failures device.new) result }
-    ensures earlier { D.earlier device.new ≡ D.earlier device.old }
-    ensures latest { D.latest device.new ≡ D.latest device.old }
+    ensures writes { OnlyWrites D.Device device.old device.new result }
 {
-    match write_count(device, "spies ", spies.len(), line) {
-        Ok(()) => write_each_spy(device, spies, line),
-        Err(Broken) => Err(Broken),
-    }
+    write_count(device, "spies ", spies.len(), line)?;
+    write_each_spy(device, spies, line)
 }
 
 /// Writes the history of the whole session, of version 2, line by line, in place of what stands in the text: what it began with,
@@ -282,22 +233,11 @@ pub(crate) fn write_session<D: Device>(
     line: &mut String,
 ) -> Result<(), Broken>
     ensures told { WritesTold (map lined (chronicle_lines (chronicle_of_world core.now.world spies.now))) (D.written device.old) (D.written device.new) result }
-    ensures unread { Keeps (D.unread device.old) (D.unread device.new) }
-    ensures count { Counts (D.failures device.old) (D.failures device.new) result }
-    ensures earlier { D.earlier device.new ≡ D.earlier device.old }
-    ensures latest { D.latest device.new ≡ D.latest device.old }
+    ensures writes { OnlyWrites D.Device device.old device.new result }
 {
     let opening = core.opening();
-    match write_opening(device, opening, line) {
-        Ok(()) => (),
-        Err(Broken) => return Err(Broken),
-    }
-    match write_entries(device, core.journal(), opening.steps().len(), line) {
-        Ok(()) => (),
-        Err(Broken) => return Err(Broken),
-    }
-    match write_spies(device, spies, line) {
-        Ok(()) => write_count(device, "end ", core.next() as usize, line),
-        Err(Broken) => Err(Broken),
-    }
+    write_opening(device, opening, line)?;
+    write_entries(device, core.journal(), opening.steps().len(), line)?;
+    write_spies(device, spies, line)?;
+    write_count(device, "end ", core.next() as usize, line)
 }

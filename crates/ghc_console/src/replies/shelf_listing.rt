@@ -1,13 +1,14 @@
 // The listing of the steps that were taken back, which is written line by line.
 ghost use Rattle.std.specs.Prelude.{◌≡◌, ◌⊎◌, List, ℕ, map};
-ghost use Rattle.std.specs.Io.KnownBytes.{Keeps};
 ghost use Rattle.ghc_term.specs.declared.fault.Fault.{Fault};
-ghost use Rattle.ghc_console.specs.inner.Device.{Counts, WritesFront};
+ghost use Rattle.ghc_console.specs.inner.Device.{WritesFront};
 ghost use Rattle.ghc_console.specs.inner.WritesTold.{WritesTold};
 ghost use Rattle.ghc_console.specs.TextLines.{lined, refusal};
 ghost use Rattle.ghc_console.specs.Listings.{TellsListing, listed_or_none, shelf_listed, steps_told};
+ghost use Rattle.ghc_console.specs.inner.OnlyWrites.{OnlyWrites};
 
-use crate::devices::device::{Broken, Device, write_all};
+use crate::devices::device::{Broken, Device};
+use crate::devices::writing::write_all;
 use crate::replies::record_listing::{RecordForm, write_record};
 use crate::replies::run_lines::UNTOLD;
 use ghc_records::{Record, Shelf};
@@ -21,16 +22,10 @@ fn write_steps<D: Device>(
     line: &mut String,
 ) -> Result<(), Broken>
     ensures told { WritesTold (map lined (steps_told (map (λ e. (e.0, e.1.now)) ordered.now.entries))) (D.written device.old) (D.written device.new) result }
-    ensures unread { Keeps (D.unread device.old) (D.unread device.new) }
-    ensures count { Counts (D.failures device.old) (D.failures device.new) result }
-    ensures earlier { D.earlier device.new ≡ D.earlier device.old }
-    ensures latest { D.latest device.new ≡ D.latest device.old }
+    ensures writes { OnlyWrites D.Device device.old device.new result }
 {
     for (_, taken) in ordered {
-        match write_record(device, *taken, RecordForm::Step, line) {
-            Ok(()) => (),
-            Err(Broken) => return Err(Broken),
-        }
+        write_record(device, *taken, RecordForm::Step, line)?;
     }
     Ok(())
 }
@@ -42,10 +37,7 @@ fn write_ordered<D: Device>(
     line: &mut String,
 ) -> Result<(), Broken>
     ensures told { WritesTold (map lined (listed_or_none (steps_told (map (λ e. (e.0, e.1.now)) ordered.now.entries)))) (D.written device.old) (D.written device.new) result }
-    ensures unread { Keeps (D.unread device.old) (D.unread device.new) }
-    ensures count { Counts (D.failures device.old) (D.failures device.new) result }
-    ensures earlier { D.earlier device.new ≡ D.earlier device.old }
-    ensures latest { D.latest device.new ≡ D.latest device.old }
+    ensures writes { OnlyWrites D.Device device.old device.new result }
 {
     if ordered.len() == 0 {
         return write_all(device, b"none\n");
@@ -63,10 +55,7 @@ pub(crate) fn write_shelf<D: Device>(
     line: &mut String,
 ) -> Result<(), Broken>
     ensures told { (text : List ℕ) × (TellsListing (shelf_listed shelf.now.held) text ⊎ (text ≡ refusal Fault.Memory)) × WritesFront (D.written device.old) (D.written device.new) result text }
-    ensures unread { Keeps (D.unread device.old) (D.unread device.new) }
-    ensures count { Counts (D.failures device.old) (D.failures device.new) result }
-    ensures earlier { D.earlier device.new ≡ D.earlier device.old }
-    ensures latest { D.latest device.new ≡ D.latest device.old }
+    ensures writes { OnlyWrites D.Device device.old device.new result }
 {
     match shelf.by_number(alloc) {
         Ok(ordered) => write_ordered(device, &ordered, line),

@@ -4,11 +4,12 @@ ghost use Rattle.std.specs.Fmt.{decimal};
 ghost use Rattle.ghc_core.specs.EventCode.{reply_of};
 ghost use Rattle.ghc_records.specs.StepText.{goal_name_text};
 ghost use Rattle.ghc_console.specs.TextLines.{lined, refusal};
-ghost use Rattle.ghc_console.specs.ScheduleReplies.{Hears, IsAskedOf, IsDoneAsConsole, IsGiven, PlaysCommand, reply_text};
+ghost use Rattle.ghc_console.specs.ScheduleLines.{schedule_line_of};
+ghost use Rattle.ghc_console.specs.ScheduleReplies.{HearsLine, IsAskedOf, IsDoneAsConsole, IsDoneBy, IsGiven, PlaysCommand, reply_text};
 
 use crate::asked_for::asked_for;
 use crate::command::{LineCommand, parse};
-use crate::devices::line_buffer::LINE_LIMIT;
+use crate::devices::reading::Line;
 use crate::replies::obey_reply::undone;
 use crate::schedules::line::{ScheduleLine, read_schedule_line};
 use ghc_core::{Command, Event, Reply, World};
@@ -37,8 +38,8 @@ fn ask(alloc: Global, world: &mut World, text: &[u8]) -> Reply
     }
 }
 
-// Carries a command of the console out, where the core obeys it.
-fn carry_out(alloc: Global, world: &mut World, command: LineCommand) -> Option<Reply>
+// Plays a command of the console, where the core obeys it.
+fn play_command(alloc: Global, world: &mut World, command: LineCommand) -> Option<Reply>
     ensures { PlaysCommand command world.old (option_map reply_of result) world.new }
 {
     match command {
@@ -58,6 +59,8 @@ fn carry_out(alloc: Global, world: &mut World, command: LineCommand) -> Option<R
         | LineCommand::Who(_)
         | LineCommand::Explain(_)
         | LineCommand::ExplainGoal(_)
+        | LineCommand::WhyNot(_)
+        | LineCommand::WhyNotGoal(_)
         | LineCommand::Part(_)
         | LineCommand::Blame(_, _)
         | LineCommand::BlamePlace(_, _, _)
@@ -81,24 +84,32 @@ fn reply_as_console(alloc: Global, world: &mut World, line: &[u8]) -> Option<Rep
     ensures { IsDoneAsConsole line.now world.old (option_map reply_of result) world.new }
 {
     match parse(alloc, line) {
-        Ok(command) => carry_out(alloc, world, command),
+        Ok(command) => play_command(alloc, world, command),
         Err(_) => Some(Reply::Refused(Fault::Memory)),
     }
 }
 
-/// The reply to a line of a schedule, or none where it has no words: its event is met by the core with its hands. It costs what
-/// reading the line and meeting the event cost. What is refused has its refusal for a reply, F1 too.
-pub fn hear(alloc: Global, world: &mut World, line: &[u8]) -> Option<Reply>
-    ensures { Hears line.now world.old (option_map reply_of result) world.new }
+// The reply to a line of these bytes, or none where it has no words: its event is met by the core with its hands.
+fn hear_whole(alloc: Global, world: &mut World, line: &[u8]) -> Option<Reply>
+    ensures { IsDoneBy line.now (schedule_line_of line.now) world.old (option_map reply_of result) world.new }
 {
-    if line.len() > LINE_LIMIT {
-        return Some(Reply::Refused(Fault::Limit(Limit::Line)));
-    }
     match read_schedule_line(line) {
         ScheduleLine::Nothing => None,
         ScheduleLine::Event(event) => Some(world.answer(alloc, &event)),
         ScheduleLine::AsConsole => reply_as_console(alloc, world, line),
         ScheduleLine::Unknown => Some(Reply::Refused(Fault::Command)),
+    }
+}
+
+/// The reply to a line of a schedule, or none where it has no words: its event is met by the core with its hands. It costs what
+/// reading the line and meeting the event cost. What is refused has its refusal for a reply, F1 too.
+pub fn hear(alloc: Global, world: &mut World, line: &Line) -> Option<Reply>
+    ensures { HearsLine line.now world.old (option_map reply_of result) world.new }
+{
+    match line {
+        Line::Whole(bytes) => hear_whole(alloc, world, bytes.as_slice()),
+        Line::TooLong => Some(Reply::Refused(Fault::Limit(Limit::Line))),
+        Line::NoMemory => Some(Reply::Refused(Fault::Memory)),
     }
 }
 

@@ -2,16 +2,16 @@ use Rattle.ghc_console.proofs.CitedWords.{sym, subst, string_bytes, World, CanCh
 use Rattle.ghc_console.proofs.StepReplies.{if_ok, on_ok, step_refused, step_taken}
 use Rattle.ghc_console.proofs.replies.step.Goals as goal
 
-pub carry_out-requires-clause-found : goal.carry_out-requires-clause-found
-carry_out-requires-clause-found c =
+pub tell_and_make-requires-clause-found : goal.tell_and_make-requires-clause-found
+tell_and_make-requires-clause-found c =
     rw c.in_ok-addition-in-Ok.ensures (subst (λ (w : World). CanChange w (comes Coming.Next c.in-Ok.step)) (sym c.in-Ok.ensures.stays.world) c.in-Ok.ensures.answer.0.3.1)
 
 pub returns-in_ok-addition-in-Ok-clause-text : goal.returns-in_ok-addition-in-Ok-clause-text
-returns-in_ok-addition-in-Ok-clause-text c = on_ok c.carry_out.result c.carry_out.ensures.told (λ told.
+returns-in_ok-addition-in-Ok-clause-text c = on_ok c.tell_and_make.result c.tell_and_make.ensures.told (λ told.
     let s = c.in-Ok.ensures.answer.0 in
     let r = c.in-Ok.step in
-    let text = string_bytes c.carry_out.new.reply in
-    let v = c.carry_out.new.core.world in
+    let text = string_bytes c.tell_and_make.new.reply in
+    let v = c.tell_and_make.new.core.world in
     let of_step = subst (λ q. TellsChange c.prepare_step.new.self.world (comes Coming.Next q) text v) c.in_ok-addition-in-Ok.ensures told in
     subst (λ w. RepliesToStep w c.args.goal c.args.choice text v) c.in_ok-settle.ensures.world
     (steps s.0 s.1 s.2 (step_taken c.settle.new.core.world v s.0 r text s.3 (subst (λ w. TellsChange w (comes Coming.Next r) text v) c.in-Ok.ensures.stays.world of_step))))

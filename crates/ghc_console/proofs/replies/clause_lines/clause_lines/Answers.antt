@@ -4,8 +4,8 @@ use Rattle.std.proofs.lemmas.Grind.{common_steps}
 use Rattle.std.proofs.lemmas.Option.{MatchOption-at_some}
 use Rattle.ghc_fire.proofs.Calling.{numbered_for, some_there}
 use Rattle.ghc_flat.specs.Clause.{IsClause}
-use Rattle.ghc_match.specs.inner.Told.{outcome_of}
-use Rattle.ghc_console.specs.Looks.{outcome_text}
+use Rattle.ghc_reader.specs.ClauseLines.{line_of}
+use Rattle.ghc_console.specs.Looks.{line_text}
 use Rattle.ghc_console.proofs.LookReplies.{one_clause_told}
 use Rattle.ghc_console.proofs.replies.clause_lines.clause_lines.Goals as goal
 
@@ -24,12 +24,12 @@ loop-number-preserved c =
     let i = c.loop-number.number-index in
     let k = get_or ks i 0 in
     let before = string_bytes c.loop-number.reply in
-    let outcome = outcome_of c.in_ok-tried.tried in
-    let line = decimal k ++ (codes " " ++ outcome_text outcome) in
+    let (says, told, written) = c.in_ok-push_outcome.ensures in
+    let line = decimal k ++ (codes " " ++ (says ++ line_text (line_of c.args.lines.now k))) in
     let is = MatchOption-at_some _ _ c.unwrap-clause.result c.unwrap-clause.ensures c.clause.ensures.found in
     let added : string_bytes c.push_str-in-loop-number.new.self ≡ before ++ (line ++ codes "\n") = grind (arith, common_steps) in
-    one_clause_told c.args.program.now c.args.arguments.now (value_at c.args.store.now.held) ks i before (string_bytes c.push_str-in-loop-number.new.self) line c.loop-number-test.true c.loop-number.invariant
-    (record { clause = c.unwrap-clause.result.now; is = is; outcome = outcome; has = c.in_ok-tried.ensures.outcome; written = refl }) added
+    one_clause_told c.args.lines.now c.args.program.now c.args.arguments.now (value_at c.args.store.now.held) ks i before (string_bytes c.push_str-in-loop-number.new.self) line c.loop-number-test.true c.loop-number.invariant
+    (record { clause = c.unwrap-clause.result.now; is = is; says = says; told = told; written = refl }) added
 
 pub returns : goal.returns
 returns c =

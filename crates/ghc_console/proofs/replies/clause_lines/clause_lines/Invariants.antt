@@ -3,4 +3,4 @@ use Rattle.ghc_console.proofs.LookReplies.{TellsFirst}
 use Rattle.ghc_console.proofs.replies.clause_lines.clause_lines.Given as goal
 
 abbrev pub invariant-loop-number : goal.invariant-loop-number
-invariant-loop-number l = TellsFirst l.program l.arguments (value_at l.store.held) l.number-items l.number-index (string_bytes l.reply)
+invariant-loop-number l = TellsFirst l.lines l.program l.arguments (value_at l.store.held) l.number-items l.number-index (string_bytes l.reply)

@@ -1,5 +1,4 @@
 use Rattle.ghc_console.proofs.CitedWords.{◌≡◌, ◌++◌, List, ℕ, codes, sym, subst, ap, ◌∙◌, string_bytes, lined}
-use Rattle.std.proofs.Common.{append_assoc}
 use Rattle.ghc_term.specs.Lists.{In}
 use Rattle.ghc_trace.specs.declared.holding.Holder.{Holder}
 use Rattle.ghc_trace.specs.Explaining.{AreHolderLines, AreStepLines}

@@ -1,4 +1,4 @@
-use Rattle.ghc_console.proofs.CitedWords.{◌≡◌, ◌++◌, List, ℕ, sym, subst, ap, ◌∙◌, string_bytes}
+use Rattle.ghc_console.proofs.CitedWords.{◌++◌, List, ℕ, subst, ap, ◌∙◌, string_bytes}
 use Rattle.ghc_term.specs.Lists.{In}
 use Rattle.ghc_trace.specs.declared.holding.Holder.{Holder}
 use Rattle.ghc_trace.specs.Explaining.{AreHolderLines, AreStepLines}

@@ -1,5 +1,6 @@
-use Rattle.ghc_console.proofs.CitedWords.{◌≡◌, ◌∙◌, ap, refl, sym, subst, Keeps-refl, Keeps-trans, lent, next_in}
+use Rattle.ghc_console.proofs.CitedWords.{err_from_is_err_and, ◌≡◌, ◌∙◌, ap, refl, sym, subst, lent, next_in}
 use Rattle.ghc_console.proofs.ListedGoals.{Telling, telling_broken, telling_end, telling_on, telling_start}
+use Rattle.ghc_console.proofs.WriteLoop.{reads_on, reads_start}
 use Rattle.ghc_console.proofs.replies.goal_listing.write_each.Goals as goal
 
 pub loop-name-init : goal.loop-name-init
@@ -7,7 +8,7 @@ loop-name-init g c =
     let d = g.D.Device in
     let gives : c.into_iter-name-iterator.result ≡ c.args.goals.now.entries = c.into_iter-name-iterator.ensures.into_iter_gives.0 in
     let all = lent c.args.goals.now.entries in
-    (subst (λ es. Telling c.args.core.now.world all (lent es) (d.written c.args.device.now) (d.written c.args.device.now)) (sym gives) (telling_start c.args.core.now.world all _), Keeps-refl _, refl, refl, refl)
+    (subst (λ es. Telling c.args.core.now.world all (lent es) (d.written c.args.device.now) (d.written c.args.device.now)) (sym gives) (telling_start c.args.core.now.world all _), reads_start _, refl)
 
 pub write_goal-requires-clause-there : goal.write_goal-requires-clause-there
 write_goal-requires-clause-there g c = c.requires.there (c.in-Some.name.now, c.in-Some.goal.now.now) (next_in _ c.loop-name.invariant.0.done _ _ _ c.loop-name.invariant.0.whole c.in-Some.ensures.steps)
@@ -18,22 +19,20 @@ loop-name-preserved g c =
     let w = c.args.core.now.world in
     let all = lent c.args.goals.now.entries in
     let here = subst (λ es. Telling w all (lent es) (d.written c.args.device.now) (d.written c.loop-name.device)) c.in-Some.ensures.steps c.loop-name.invariant.0 in
-    let told = c.in-Ok.ensures.told in (
+    let told = c.in_ok-write_goal.ensures.told in (
       telling_on w all _ _ _ _ _ told.0 here told.1 told.2,
-      Keeps-trans _ _ _ c.loop-name.invariant.1 c.in-Ok.ensures.unread,
-      c.in-Ok.ensures.count ∙ c.loop-name.invariant.2,
-      c.in-Ok.ensures.earlier ∙ c.loop-name.invariant.3,
-      c.in-Ok.ensures.latest ∙ c.loop-name.invariant.4,
+      reads_on _ _ _ c.loop-name.invariant.1 c.in_ok-write_goal.ensures.writes.reads,
+      c.in_ok-write_goal.ensures.writes.count ∙ c.loop-name.invariant.2,
     )
 
-pub returns-in-Err-clause-told : goal.returns-in-Err-clause-told
-returns-in-Err-clause-told g c =
+pub returns-in_err-write_goal-clause-told : goal.returns-in_err-write_goal-clause-told
+returns-in_err-write_goal-clause-told g c =
     let d = g.D.Device in
     let w = c.args.core.now.world in
     let all = lent c.args.goals.now.entries in
     let here = subst (λ es. Telling w all (lent es) (d.written c.args.device.now) (d.written c.loop-name.device)) c.in-Some.ensures.steps c.loop-name.invariant.0 in
-    let told = c.in-Err.ensures.told in
-    telling_broken w all _ _ _ _ _ told.0 here told.1 told.2.0 told.2.1
+    let told = c.in_err-write_goal.ensures.told in
+    rw (err_from_is_err_and c.from_residual.result c.from_residual.ensures.1).1 (telling_broken w all _ _ _ _ _ told.0 here told.1 told.2.0 told.2.1)
 
 pub returns-clause-told : goal.returns-clause-told
 returns-clause-told g c = telling_end c.args.core.now.world _ _ _ _ (ap lent c.in-None.ensures.steps.0) c.loop-name.invariant.0

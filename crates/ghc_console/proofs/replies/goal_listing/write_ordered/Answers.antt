@@ -1,5 +1,4 @@
 use Rattle.ghc_console.proofs.CitedWords.{◌≡◌, arith, length, length-map, subst, In, lent, one_long}
-use Rattle.std.specs.FinMap as finite
 use Rattle.ghc_console.proofs.ListedGoals.{goals_wrote, no_goal_wrote, too_long_wrote}
 use Rattle.ghc_trace.proofs.Lines.{listed}
 use Rattle.ghc_console.proofs.replies.goal_listing.write_ordered.Goals as goal

@@ -1,4 +1,4 @@
-use Rattle.ghc_console.proofs.CitedWords.{◌≡◌, List, ℕ, sym, subst, ◌∙◌, In, numbers, string_bytes}
+use Rattle.ghc_console.proofs.CitedWords.{List, ℕ, sym, subst, ◌∙◌, In, string_bytes}
 use Rattle.ghc_records.specs.Orders.{Picks}
 use Rattle.ghc_console.specs.Keeping.{TellsKept}
 use Rattle.ghc_console.proofs.StepReplies.{on_ok}

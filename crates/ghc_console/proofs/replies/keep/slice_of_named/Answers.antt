@@ -1,4 +1,4 @@
-use Rattle.ghc_console.proofs.CitedWords.{◌≡◌, Some, None, sym, ap, ◌∙◌}
+use Rattle.ghc_console.proofs.CitedWords.{sym, ap, ◌∙◌}
 use Rattle.std.specs.FinMap as finite
 use Rattle.ghc_fire.specs.Goals.{Goals}
 use Rattle.ghc_console.proofs.replies.keep.slice_of_named.Goals as goal

@@ -1,4 +1,4 @@
-use Rattle.ghc_console.proofs.CitedWords.{◌≡◌, ◌+◌, [], ◌∷◌, ◌++◌, true, false, get_or, take, drop, refl, sym, subst, ◌∙◌, arith, In, drop_more, slice_get_within}
+use Rattle.ghc_console.proofs.CitedWords.{◌≡◌, ◌+◌, [], ◌∷◌, ◌++◌, true, false, get_or, take, drop, sym, subst, ◌∙◌, arith, In, drop_more}
 use Rattle.std.proofs.lemmas.List.{take_all, take_more}
 use Rattle.ghc_records.specs.Orders.{Picks, nothing}
 use Rattle.ghc_console.proofs.Parting.{IsParting, passes_inside, passes_outside}

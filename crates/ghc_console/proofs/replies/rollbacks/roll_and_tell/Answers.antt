@@ -1,4 +1,4 @@
-use Rattle.ghc_console.proofs.CitedWords.{◌≡◌, [], sym, subst, arith, string_bytes}
+use Rattle.ghc_console.proofs.CitedWords.{[], sym, subst, arith, string_bytes}
 use Rattle.ghc_console.specs.inner.KeepingCode.{AddsSomeRollbacks}
 use Rattle.ghc_console.proofs.StepReplies.{on_ok}
 use Rattle.ghc_console.proofs.Keeping.{always_err, on_err, rolls_whole, told_all}

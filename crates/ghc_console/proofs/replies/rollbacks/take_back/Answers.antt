@@ -1,4 +1,4 @@
-use Rattle.ghc_console.proofs.CitedWords.{◌≡◌, sym, ◌∙◌, arith, string_bytes, refusal}
+use Rattle.ghc_console.proofs.CitedWords.{sym, ◌∙◌, arith, string_bytes, refusal}
 use Rattle.ghc_term.specs.declared.fault.Fault.TheVariants as fault
 use Rattle.ghc_console.proofs.Settling.{put, where_refused}
 use Rattle.ghc_console.proofs.Keeping.{where_ok, told_some}

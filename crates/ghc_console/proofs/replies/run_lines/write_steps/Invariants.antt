@@ -1,4 +1,4 @@
-use Rattle.ghc_console.proofs.CitedWords.{◌≡◌, ◌≤◌, ◌-◌, drop, map, Keeps, last_of, step_line}
+use Rattle.ghc_console.proofs.CitedWords.{◌≡◌, ◌≤◌, ◌-◌, drop, map, last_of, step_line, ReadsNothing}
 use Rattle.ghc_console.proofs.RunLines.{Going}
 use Rattle.ghc_console.proofs.replies.run_lines.write_steps.Given as goal
 
@@ -9,5 +9,4 @@ invariant-loop-number g l =
     let first = w.next - l.count in
     let steps = last_of l.count w.kept in
     (first ≤ l.number) × Going (map step_line steps) (map step_line (drop (l.number - first) steps)) (d.written l.initial.device) (d.written l.device)
-    × Keeps (d.unread l.initial.device) (d.unread l.device) × (d.failures l.device ≡ d.failures l.initial.device)
-    × (d.earlier l.device ≡ d.earlier l.initial.device) × (d.latest l.device ≡ d.latest l.initial.device)
+    × ReadsNothing d l.initial.device l.device × (d.failures l.device ≡ d.failures l.initial.device)

@@ -8,7 +8,7 @@ returns-then-is_none c =
     let d = c.args.debugger.now in
     let refused = skip_refused d.workers d.spies d.core.world c.args.goal c.get.result _ (c.is_none.ensures ∙ ap not c.if-is_none.true)
     (c.get.ensures ∙ ap (λ goals. finite.get goals c.args.goal) c.goals.ensures) c.in_ok-refused.ensures.text in
-    (record { told = refused; spies = refl; workers = refl }, refl)
+    (record { told = refused; spies = refl; workers = refl; lines = refl }, refl)
 
 pub returns : goal.returns
 returns c =

@@ -1,6 +1,6 @@
 use Rattle.std.proofs.Common.{◌≡◌, length}
 use Rattle.ghc_console.proofs.WriteLoop.{Progress}
-use Rattle.ghc_console.proofs.devices.device.write_all.Given as goal
+use Rattle.ghc_console.proofs.devices.writing.write_all.Given as goal
 
 abbrev pub invariant-loop-rest : goal.invariant-loop-rest
 invariant-loop-rest g l =

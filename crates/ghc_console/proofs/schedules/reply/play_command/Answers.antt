@@ -1,5 +1,5 @@
 use Rattle.ghc_console.proofs.CitedWords.{◌∙◌, ap, sym, subst, Some, reply_of, Input as input, Ask as ask, PlaysCommand}
-use Rattle.ghc_console.proofs.schedules.reply.carry_out.Goals as goal
+use Rattle.ghc_console.proofs.schedules.reply.play_command.Goals as goal
 
 pub returns-in-Input : goal.returns-in-Input
 returns-in-Input c =

@@ -1,6 +1,6 @@
 use Rattle.ghc_console.proofs.CitedWords.{subst, string_bytes, NotesByGoal, IsBoundBy, AreDisturbed, Brings}
 use Rattle.ghc_console.proofs.StepReplies.{if_ok}
-use Rattle.ghc_console.proofs.replies.obey_reply.carry_out.Goals as goal
+use Rattle.ghc_console.proofs.replies.obey_reply.tell_and_make.Goals as goal
 
 pub push_change-requires-clause-disturbed : goal.push_change-requires-clause-disturbed
 push_change-requires-clause-disturbed c = subst (λ (n : NotesByGoal). AreDisturbed n (IsBoundBy c.args.change) (Brings c.args.change) c.in_ok-disturbed.disturbed) c.tries.ensures.notes c.in_ok-disturbed.ensures

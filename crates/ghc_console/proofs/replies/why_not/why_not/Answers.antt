@@ -1,0 +1,10 @@
+use Rattle.ghc_console.proofs.CitedWords.{subst, string_bytes, World}
+use Rattle.ghc_console.specs.WhyNot.{RepliesToWhyNot}
+use Rattle.ghc_console.proofs.FoundReplies.{asked_refused}
+use Rattle.ghc_console.proofs.StepReplies.{if_ok}
+use Rattle.ghc_console.proofs.replies.why_not.why_not.Goals as goal
+
+pub returns-in-Err-clause-text : goal.returns-in-Err-clause-text
+returns-in-Err-clause-text c = if_ok c.refused.result c.refused.ensures.text c.refused.ensures.memory (λ _ told kept.
+    subst (λ (u : World). RepliesToWhyNot u c.args.word.now (string_bytes c.refused.new.reply)) c.in_ok-settle.ensures.world
+    (asked_refused c.settle.new.core.world c.args.word.now c.in-Err.fault (string_bytes c.refused.new.reply) c.in-Err.ensures.refused told kept))
