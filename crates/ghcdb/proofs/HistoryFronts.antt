@@ -1,5 +1,5 @@
 -- Of a history that does not begin with the first line of one, no more need be read than such a line has.
-use Rattle.ghcdb.proofs.CitedWords.{◌≡◌, ◌≤◌, ◌↔◌, ◌⊎◌, ◌++◌, ◌∷◌, ◌∙◌, ℕ, List, inl, inr, refl, ap, sym, subst, codes, length, take, arith, take_all, length-take, Fault, IsLine, heading, chronicle_heading, History, Chronicle, TellsHistory, TellsChronicle, Started, IsHistoryFault, of_text, of_step, of_chronicle, of_entry, join_with_byte, join_with_byte-slice_split, IsFirstWrongLine, no_heading, heading_bytes, IsHeadingLine, IsReadOf, WhatIsReadTells}
+use Rattle.ghcdb.proofs.CitedWords.{◌≡◌, ◌↔◌, ◌⊎◌, ◌++◌, ◌∷◌, ◌∙◌, ℕ, List, inl, inr, refl, ap, sym, subst, take, arith, take_all, length-take, Fault, IsLine, heading, chronicle_heading, History, Chronicle, TellsHistory, TellsChronicle, Started, IsHistoryFault, of_text, of_step, of_chronicle, of_entry, join_with_byte, join_with_byte-slice_split, IsFirstWrongLine, no_heading, heading_bytes, IsHeadingLine, WhatIsReadTells}
 
 -- the text is cut together from its lines
 joined : (text line : List ℕ) → IsLine text 0 line → (rest : List ℕ) × (text ≡ line ++ 10 ∷ rest)

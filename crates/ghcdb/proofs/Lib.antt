@@ -28,5 +28,5 @@ mod Tells
 mod TextFront
 mod Played
 mod RunsOrPlays
-mod Ends
+mod SchedulesGiven
 mod CitedWords

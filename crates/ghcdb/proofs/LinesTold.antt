@@ -1,6 +1,6 @@
 -- What lines leave a text can tell.
 use Rattle.ghcdb.proofs.CitedWords.{◌≡◌, ◌<◌, ◌≤◌, ℕ, List, length, inl, inr, refl, sym, ap, ◌∙◌, subst, arith, Option, Some, None, In, Program, Opening, World, Spies, predicate, predicate_total, Session, Began, at_end, ends, goes_on, nothing_yet, broken, went_on, SessionState}
-use Rattle.std.specs.Prelude.{◌⊎◌, ◌||◌, Bool}
+use Rattle.std.specs.Prelude.{◌⊎◌, Bool}
 use Rattle.std.specs.FinSet as set
 use Rattle.ghc_term.specs.declared.goal_name.GoalName.{GoalName}
 use Rattle.ghc_term.specs.InputTerm.{IsInputTerm, IsNameText}
@@ -188,16 +188,16 @@ module _ (w : World) (told : IsTold w) where
   keep_goal_tells g text v (RepliesToKeepGoal.keeps_goal b slice rest there is tells) = kept_tells _ text v tells
   keep_goal_tells g text v (RepliesToKeepGoal.keeps_no_goal none) = told
 
-  reply_tells : (workers : ℕ) (spies : Spies) (c : LineCommand) (text : List ℕ) (v : World) → IsSaidByLine c → Replies workers spies w c text v → IsTold v
-  reply_tells workers spies (step g choice) text v said is = step_tells g choice text v is
-  reply_tells workers spies (Obey c) text v said is = given_tells c text v said is
-  reply_tells workers spies (Keep word) text v said is = keep_tells word text v is
-  reply_tells workers spies (KeepGoal g) text v said is = keep_goal_tells g text v is
-  reply_tells workers spies (Input k bytes) text v said is = input_tells k bytes text v is
-  reply_tells workers spies (Ask bytes) text v said is = ask_tells bytes text v is
-  reply_tells workers spies (Leap limit) text v said is = ran_tells workers spies None limit text v is
-  reply_tells workers spies (Skip g) text v said is = skip_tells workers spies g text v is
-  reply_tells workers spies c text v said is = stays w v told is.1
+  reply_tells : (lines : List ℕ) (workers : ℕ) (spies : Spies) (c : LineCommand) (text : List ℕ) (v : World) → IsSaidByLine c → Replies lines workers spies w c text v → IsTold v
+  reply_tells lines workers spies (step g choice) text v said is = step_tells g choice text v is
+  reply_tells lines workers spies (Obey c) text v said is = given_tells c text v said is
+  reply_tells lines workers spies (Keep word) text v said is = keep_tells word text v is
+  reply_tells lines workers spies (KeepGoal g) text v said is = keep_goal_tells g text v is
+  reply_tells lines workers spies (Input k bytes) text v said is = input_tells k bytes text v is
+  reply_tells lines workers spies (Ask bytes) text v said is = ask_tells bytes text v is
+  reply_tells lines workers spies (Leap limit) text v said is = ran_tells workers spies None limit text v is
+  reply_tells lines workers spies (Skip g) text v said is = skip_tells workers spies g text v is
+  reply_tells lines workers spies c text v said is = stays w v told is.1
 
 -- ---- the predicates that are spied
 
@@ -216,11 +216,11 @@ spied_named : (P : Program) (spies : Spies) (f : List ℕ) (n : ℕ) (text : Lis
 spied_named P spies f n text left named fits (RepliesToSpy.is_spied has) leaves = subst HaveNames (sym (leaves.defined has)) (added_named spies f n named fits)
 spied_named P spies f n text left named fits (RepliesToSpy.is_undefined none) leaves = subst HaveNames (sym (leaves.undefined none)) named
 
-leaves_named : (workers : ℕ) (spies : Spies) (w : World) (c : LineCommand) (text : List ℕ) (v : World) (left : Spies) → HaveNames spies → IsSaidByLine c → Replies workers spies w c text v
+leaves_named : (lines : List ℕ) (workers : ℕ) (spies : Spies) (w : World) (c : LineCommand) (text : List ℕ) (v : World) (left : Spies) → HaveNames spies → IsSaidByLine c → Replies lines workers spies w c text v
     → LeavesSpies w.opening.program spies c left → HaveNames left
-leaves_named workers spies w (Spy f n) text v left named said told leaves = spied_named w.opening.program spies f n text left named said told.0 leaves
-leaves_named workers spies w (Unspy f n) text v left named said told leaves = subst HaveNames (sym leaves) (removed_named spies f n named)
-leaves_named workers spies w c text v left named said told leaves = subst HaveNames (sym leaves) named
+leaves_named lines workers spies w (Spy f n) text v left named said told leaves = spied_named w.opening.program spies f n text left named said told.0 leaves
+leaves_named lines workers spies w (Unspy f n) text v left named said told leaves = subst HaveNames (sym leaves) (removed_named spies f n named)
+leaves_named lines workers spies w c text v left named said told leaves = subst HaveNames (sym leaves) named
 
 -- ---- lines
 
@@ -233,8 +233,8 @@ line_tells : (t u : SessionState) (bytes text : List ℕ) (ended : Bool) → IsT
 line_tells t u bytes text ended is (IsReply.replies few a) =
     let said = said_by_line bytes in
     record {
-      world = reply_tells t.world is.world t.workers t.spies _ text u.world said a.told;
-      named = leaves_named t.workers t.spies t.world _ text u.world u.spies is.named said a.told a.spies;
+      world = reply_tells t.world is.world _ t.workers t.spies _ text u.world said a.told;
+      named = leaves_named _ t.workers t.spies t.world _ text u.world u.spies is.named said a.told a.spies;
     }
 line_tells t u bytes text ended is (IsReply.too_long long) = is
 line_tells t u bytes text ended is IsReply.no_memory = is

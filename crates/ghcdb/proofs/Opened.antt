@@ -1,30 +1,34 @@
 -- What is answered for the texts of a program and a query, and then of a history, is answered for all of them.
-use Rattle.ghcdb.proofs.CitedWords.{◌≡◌, ◌⊎◌, List, ℕ, inl, inr, refl, sym, subst, ◌∙◌, Option, Some, None, option_map, Result, Ok, Err, AnsweredUnless, Fault, Memory, Debugger, Refusal, Started, IsStarted, IsStartRefusal, IsNoMemoryFor, IsOutOfMemory, for_program, OpensOn, IsHistoryFault, IsHistoryRefused, IsDebuggerOf, IsOpenRefusal, of_start, of_history, IsWithoutMemory, at_start, for_history}
-use Rattle.std.proofs.Common.{Bor}
+use Rattle.ghcdb.proofs.CitedWords.{◌≡◌, ◌⊎◌, List, ℕ, inl, inr, refl, sym, subst, ◌∙◌, Option, Some, None, option_map, Result, Ok, Err, AnsweredUnless, Fault, Memory, Debugger, Refusal, Started, IsStarted, IsStartRefusal, IsNoMemoryFor, IsOutOfMemory, for_program, of_program, OpensOn, IsHistoryFault, IsHistoryRefused, IsDebuggerOf, IsOpenRefusal, of_start, of_history, IsWithoutMemory, at_start, for_history}
+use Rattle.std.proofs.Common.{Bor, IfOk}
+use Rattle.ghc_reader.specs.ClauseLines.{AreClauseLines}
+use Rattle.ghc_reader.specs.Tests.{a_program, IsRefusal}
 use Rattle.ghcdb.specs.declared.refused_part.RefusedPart.TheVariants as part
-
--- an answer, in other words
-answers_as : {A E : Type 0} {M N : E → Type 0} {G H : A → Type 0} {R S : E → Type 0} (result : Result A E) → ((a : A) → G a → H a) → ((e : E) → M e ⊎ R e → N e ⊎ S e)
-    → AnsweredUnless M G R result → AnsweredUnless N H S result
-answers_as (Ok a) gives refuses h = (gives a h.0, tt)
-answers_as (Err e) gives refuses h = (tt, refuses e h.1)
 
 -- A refusal of program or query is one of the whole.
 pub refused_at_start : (p q : List ℕ) (history : Option (List ℕ)) (r : Refusal) → IsOutOfMemory p r ⊎ IsStartRefusal p q r → IsWithoutMemory p q history r ⊎ IsOpenRefusal p q history r
 refused_at_start p q history r (inl m) = inl (at_start m)
 refused_at_start p q history r (inr f) = inr (of_start f)
 
--- Program and query are started, and no history is given.
-pub opened_fresh : (p q : List ℕ) (s : Started) (result : Result Debugger Refusal) → IsStarted p q s
-    → AnsweredUnless (IsNoMemoryFor part.Program) (λ debugger. OpensOn s None debugger.core.world debugger.spies) (λ _. ⊥) result → AnsweredUnless (IsWithoutMemory p q None) (IsDebuggerOf p q None) (IsOpenRefusal p q None) result
-opened_fresh p q s result starts = answers_as result (λ debugger opens. record { started = s; starts = starts; opens = opens }) (λ r f. elim f [ inl m ↦ inl (at_start (for_program m)) | inr none ↦ absurd none ])
+-- A refusal of the program's text is one of the whole.
+pub refused_for_lines : (p q : List ℕ) (history : Option (List ℕ)) (f : Fault) → (f ≡ Memory) ⊎ IsRefusal a_program p f
+    → IsWithoutMemory p q history (record { part = part.Program; fault = f }) ⊎ IsOpenRefusal p q history (record { part = part.Program; fault = f })
+refused_for_lines p q history f (inl m) = inl (at_start (for_program (record { fault = m; part_is = refl })))
+refused_for_lines p q history f (inr r) = inr (of_start (of_program refl r))
 
--- Program and query are started, and a history is given.
-pub opened_loaded : (p q text : List ℕ) (s : Started) (result : Result Debugger Refusal) → IsStarted p q s
-    → AnsweredUnless (IsNoMemoryFor part.History) (λ debugger. OpensOn s (Some text) debugger.core.world debugger.spies) (IsHistoryRefused s (Some text)) result
-    → AnsweredUnless (IsWithoutMemory p q (Some text)) (IsDebuggerOf p q (Some text)) (IsOpenRefusal p q (Some text)) result
-opened_loaded p q text s result starts =
-    answers_as result (λ debugger opens. record { started = s; starts = starts; opens = opens }) (λ r f. elim f [ inl m ↦ inl (for_history s text starts refl m) | inr refused ↦ inr (of_history s starts refused) ])
+-- Program and query are started, the lines of the clauses are known,
+module _ (p q : List ℕ) (s : Started) (lines : List ℕ) (starts : IsStarted p q s) (begins : AreClauseLines p lines) where
+  -- and no history is given;
+  pub opened_fresh : (result : Result Debugger Refusal) → AnsweredUnless (IsNoMemoryFor part.Program) (λ debugger. OpensOn s None debugger.core.world debugger.spies) (λ _. ⊥) result → IfOk result (λ debugger. debugger.clause_lines ≡ lines)
+      → AnsweredUnless (IsWithoutMemory p q None) (IsDebuggerOf p q None) (IsOpenRefusal p q None) result
+  opened_fresh (Ok debugger) h same = (record { started = s; starts = starts; opens = h.0; lines = subst (AreClauseLines p) (sym same) begins }, tt)
+  opened_fresh (Err r) h same = (tt, elim h.1 [ inl m ↦ inl (at_start (for_program m)) | inr none ↦ absurd none ])
+
+  -- or one is given.
+  pub opened_loaded : (text : List ℕ) (result : Result Debugger Refusal) → AnsweredUnless (IsNoMemoryFor part.History) (λ debugger. OpensOn s (Some text) debugger.core.world debugger.spies) (IsHistoryRefused s (Some text)) result
+      → IfOk result (λ debugger. debugger.clause_lines ≡ lines) → AnsweredUnless (IsWithoutMemory p q (Some text)) (IsDebuggerOf p q (Some text)) (IsOpenRefusal p q (Some text)) result
+  opened_loaded text (Ok debugger) h same = (record { started = s; starts = starts; opens = h.0; lines = subst (AreClauseLines p) (sym same) begins }, tt)
+  opened_loaded text (Err r) h same = (tt, elim h.1 [ inl m ↦ inl (for_history s text starts refl m) | inr refused ↦ inr (of_history s starts refused) ])
 
 -- What is answered for a history is answered for one that is the same.
 pub answer_for : (p q : List ℕ) (given history : Option (Bor (List ℕ))) (result : Result Debugger Refusal) → given ≡ history

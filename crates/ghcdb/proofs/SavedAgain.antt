@@ -1,5 +1,5 @@
 -- What is saved of a session opens again as that session.
-use Rattle.ghcdb.proofs.CitedWords.{◌≡◌, ℕ, List, [], ◌∷◌, map, get_or, sym, ap, ◌∙◌, subst, arith, list_any-from_Contains, eq_by_cmp_equiv, Result, Ok, Err, Option, Some, None, Fault, In, in_contains, in_map, Program, Query, IsLine, heading, Chronicle, TellsChronicle, chronicle_heading, TextsTellOneChronicle, HasClauseFor, World, no_hands, EventsLeadWhereChangesLead, ArePredicatesOf, Resumes, chronicle_of_world, WhatIsToldIsCarriedOut, Spies, HasPredicate, spied_of, spies_in_order, ListedSpiesComeBack, predicate_total, saved_text, Refusal, Started, WrittenChroniclesAreReadAgain, GivesBack, loads, resumes, IsHistoryFault, of_text, of_step, of_chronicle, of_entry, IsHistoryRefused, OpensAs, SavedSessionsOpenAgain}
+use Rattle.ghcdb.proofs.CitedWords.{◌≡◌, ℕ, List, [], ◌∷◌, map, get_or, sym, ap, ◌∙◌, subst, arith, list_any-from_Contains, eq_by_cmp_equiv, Result, Ok, Err, Some, Fault, In, in_contains, in_map, Program, Query, IsLine, heading, Chronicle, TellsChronicle, chronicle_heading, TextsTellOneChronicle, HasClauseFor, World, no_hands, EventsLeadWhereChangesLead, ArePredicatesOf, Resumes, chronicle_of_world, WhatIsToldIsCarriedOut, Spies, HasPredicate, spied_of, spies_in_order, ListedSpiesComeBack, predicate_total, saved_text, Refusal, Started, WrittenChroniclesAreReadAgain, GivesBack, loads, resumes, IsHistoryFault, of_text, of_step, of_chronicle, of_entry, IsHistoryRefused, OpensAs, SavedSessionsOpenAgain}
 use Rattle.std.specs.FinSet as set
 use Rattle.ghc_records.specs.declared.predicate.Predicate as written
 use Rattle.ghcdb.proofs.SessionsOpened.{told}

@@ -1,5 +1,5 @@
 -- What opens on program and query that are started is a session on them.
-use Rattle.ghcdb.proofs.CitedWords.{◌≡◌, ℕ, true, false, List, [], ◌∷◌, map, inl, inr, refl, sym, ap, ◌∙◌, subst, Option, Some, None, list_any, eq_by_cmp, Equal-is, Contains-from_any, In, contains_in, Program, Opening, History, loaded_opening, Chronicle, World, Opens, IsSound, from_opening, EventsLeadWhereChangesLead, LegalIsReachable, HasClauseFor, IsStanding, ArePredicatesOf, IsCarriedOut, Resumes, CarriedOutIsLegal, Predicate, Spies, HasPredicate, predicate, predicate_cmp, spied_of, predicate_total, predicate_antisymmetric, Started, IsStarted, OpensOn, loads, resumes, IsSessionOf, WhatOpensIsASession}
+use Rattle.ghcdb.proofs.CitedWords.{◌≡◌, ℕ, true, false, List, [], ◌∷◌, map, inl, inr, refl, sym, ap, ◌∙◌, subst, Option, Some, None, list_any, eq_by_cmp, Equal-is, Contains-from_any, In, contains_in, Program, Opening, History, loaded_opening, Chronicle, World, Opens, IsSound, from_opening, EventsLeadWhereChangesLead, LegalIsReachable, HasClauseFor, IsStanding, ArePredicatesOf, IsCarriedOut, CarriedOutIsLegal, Predicate, Spies, HasPredicate, predicate, predicate_cmp, spied_of, predicate_total, predicate_antisymmetric, Started, IsStarted, OpensOn, loads, resumes, IsSessionOf, WhatOpensIsASession}
 use Rattle.std.specs.FinSet as set
 use Rattle.ghc_records.specs.declared.predicate.Predicate as written
 use Rattle.ghc_core.specs.Load as load

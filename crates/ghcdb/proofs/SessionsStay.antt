@@ -93,16 +93,16 @@ module _ (w : World) (at : Reaches w) where
   keep_goal_goes g text v (RepliesToKeepGoal.keeps_goal b slice rest there is told) = kept_goes _ text v told
   keep_goal_goes g text v (RepliesToKeepGoal.keeps_no_goal none) = (at, refl)
 
-  reply_goes : (workers : ℕ) (spies : Spies) (c : LineCommand) (text : List ℕ) (v : World) → Replies workers spies w c text v → Goes w v
-  reply_goes workers spies (Step g choice) text v is = step_goes g choice text v is
-  reply_goes workers spies (Obey c) text v is = obeyed_goes _ text v is
-  reply_goes workers spies (Keep word) text v is = keep_goes word text v is
-  reply_goes workers spies (KeepGoal g) text v is = keep_goal_goes g text v is
-  reply_goes workers spies (Input k given) text v is = input_goes k given text v is
-  reply_goes workers spies (Ask given) text v is = ask_goes given text v is
-  reply_goes workers spies (Leap limit) text v is = tells_goes workers spies None limit text v is
-  reply_goes workers spies (Skip g) text v is = skip_goes workers spies g text v is
-  reply_goes workers spies c text v is = stays w v at is.1
+  reply_goes : (lines : List ℕ) (workers : ℕ) (spies : Spies) (c : LineCommand) (text : List ℕ) (v : World) → Replies lines workers spies w c text v → Goes w v
+  reply_goes lines workers spies (Step g choice) text v is = step_goes g choice text v is
+  reply_goes lines workers spies (Obey c) text v is = obeyed_goes _ text v is
+  reply_goes lines workers spies (Keep word) text v is = keep_goes word text v is
+  reply_goes lines workers spies (KeepGoal g) text v is = keep_goal_goes g text v is
+  reply_goes lines workers spies (Input k given) text v is = input_goes k given text v is
+  reply_goes lines workers spies (Ask given) text v is = ask_goes given text v is
+  reply_goes lines workers spies (Leap limit) text v is = tells_goes workers spies None limit text v is
+  reply_goes lines workers spies (Skip g) text v is = skip_goes workers spies g text v is
+  reply_goes lines workers spies c text v is = stays w v at is.1
 
 -- ---- the predicates that are spied
 
@@ -134,18 +134,18 @@ spied_known : (P : Program) (spies : Spies) (f : List ℕ) (n : ℕ) (text : Lis
 spied_known P spies f n text left known (RepliesToSpy.is_spied has) leaves = subst (Known P) (sym (leaves.defined has)) (added_known P spies f n known has)
 spied_known P spies f n text left known (RepliesToSpy.is_undefined none) leaves = subst (Known P) (sym (leaves.undefined none)) known
 
-leaves_known : (workers : ℕ) (spies : Spies) (w : World) (c : LineCommand) (text : List ℕ) (v : World) (left : Spies) → Known w.opening.program spies → Replies workers spies w c text v → LeavesSpies w.opening.program spies c left → Known w.opening.program left
-leaves_known workers spies w (Spy f n) text v left known told leaves = spied_known w.opening.program spies f n text left known told.0 leaves
-leaves_known workers spies w (Unspy f n) text v left known told leaves = subst (Known w.opening.program) (sym leaves) (removed_known w.opening.program spies f n known)
-leaves_known workers spies w c text v left known told leaves = subst (Known w.opening.program) (sym leaves) known
+leaves_known : (lines : List ℕ) (workers : ℕ) (spies : Spies) (w : World) (c : LineCommand) (text : List ℕ) (v : World) (left : Spies) → Known w.opening.program spies → Replies lines workers spies w c text v → LeavesSpies w.opening.program spies c left → Known w.opening.program left
+leaves_known lines workers spies w (Spy f n) text v left known told leaves = spied_known w.opening.program spies f n text left known told.0 leaves
+leaves_known lines workers spies w (Unspy f n) text v left known told leaves = subst (Known w.opening.program) (sym leaves) (removed_known w.opening.program spies f n known)
+leaves_known lines workers spies w c text v left known told leaves = subst (Known w.opening.program) (sym leaves) known
 
 -- ---- lines
 
 module _ (s : Started) where
   line_keeps : (t u : SessionState) (bytes text : List ℕ) (ended : Bool) → IsStateOf s t → IsReply t bytes text u ended → IsStateOf s u
   line_keeps t u bytes text ended is (IsReply.replies few a) =
-      let went = reply_goes t.world is.standing t.workers t.spies _ text u.world a.told in
-      let known = leaves_known t.workers t.spies t.world _ text u.world u.spies (subst (λ P. Known P t.spies) (sym is.program) is.spied) a.told a.spies in record {
+      let went = reply_goes t.world is.standing _ t.workers t.spies _ text u.world a.told in
+      let known = leaves_known _ t.workers t.spies t.world _ text u.world u.spies (subst (λ P. Known P t.spies) (sym is.program) is.spied) a.told a.spies in record {
         standing = went.0;
         program = ap (λ (o : Opening). o.program) went.1 ∙ is.program;
         query = ap (λ (o : Opening). o.query) went.1 ∙ is.query;

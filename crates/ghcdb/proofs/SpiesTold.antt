@@ -1,5 +1,5 @@
 -- A text can tell the spies of a session: each has a name, and they are no more than the program has clauses.
-use Rattle.ghcdb.proofs.CitedWords.{◌≡◌, ◌≤◌, ℕ, true, List, [], ◌∷◌, length, map, inl, inr, refl, sym, ap, subst, arith, In, in_map, Program, HasClauseFor, Predicate, Spies, HasPredicate, predicate, predicate_cmp, predicate_total, spied_of, spies_in_order}
+use Rattle.ghcdb.proofs.CitedWords.{◌≡◌, ◌≤◌, ℕ, true, List, [], ◌∷◌, length, map, inl, inr, sym, ap, subst, arith, In, in_map, Program, HasClauseFor, Predicate, Spies, HasPredicate, predicate, predicate_cmp, predicate_total, spied_of, spies_in_order}
 use Rattle.std.proofs.Common.{T}
 use Rattle.std.proofs.lemmas.List.{length-map}
 use Rattle.std.specs.Cmp.{eq_by_cmp_equiv}

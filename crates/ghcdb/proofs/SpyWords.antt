@@ -15,7 +15,7 @@ use Rattle.ghc_console.specs.Commands as commands
 use Rattle.ghc_console.specs.PredicateWords.{is_name, predicate_named, predicate_of, predicate_of_parts}
 use Rattle.ghc_console.specs.Words.{behind, goal_name_of, is_number, is_printable, is_variable, number_of, numbers_of, words_of}
 use Rattle.ghc_console.specs.declared.command.LineCommand.{LineCommand}
-use Rattle.ghc_console.specs.declared.command.LineCommand.TheVariants.{Obey, SaveSteps, Spy, Input, Ask, Leap, Unknown}
+use Rattle.ghc_console.specs.declared.command.LineCommand.TheVariants.{Obey, SaveSteps, Spy, Leap, Unknown}
 
 -- what a line says: a spied predicate has a name and an arity that fit, and what is obeyed is no input and no ask
 abbrev pub IsSaidByLine : LineCommand → Type 0
@@ -131,11 +131,12 @@ with_variable : (name word : List ℕ) → IsSaidByLine (commands.command_with_v
 with_variable name word =
     choose (bytes_eq name (codes "show")) _ _ tt
     (choose (bytes_eq name (codes "who")) _ _ tt
-    (choose (bytes_eq name (codes "explain")) _ _ tt (choose (bytes_eq name (codes "keep")) _ _ tt tt)))
+    (choose (bytes_eq name (codes "explain")) _ _ tt (choose (bytes_eq name (codes "whynot")) _ _ tt (choose (bytes_eq name (codes "keep")) _ _ tt tt))))
 
 with_goal : (name : List ℕ) (goal : GoalName) → IsSaidByLine (commands.command_with_goal name goal)
 with_goal name goal =
-    choose (bytes_eq name (codes "explain")) _ _ tt (choose (bytes_eq name (codes "part")) _ _ tt (choose (bytes_eq name (codes "keep")) _ _ tt tt))
+    choose (bytes_eq name (codes "explain")) _ _ tt
+    (choose (bytes_eq name (codes "whynot")) _ _ tt (choose (bytes_eq name (codes "part")) _ _ tt (choose (bytes_eq name (codes "keep")) _ _ tt tt)))
 
 with_goal_or_number : (name : List ℕ) (o : Option GoalName) (number : Option ℕ) → IsSaidByLine (commands.named name o number)
 with_goal_or_number name (Some goal) number = with_goal name goal

@@ -1,5 +1,5 @@
 -- The front of a text that was taken from a reader.
-use Rattle.ghcdb.proofs.CitedWords.{Option, ◌≡◌, ◌++◌, ◌≤◌, ℕ, List, None, Some, IfSome, sym, ap, ◌∙◌, length, take, take_all, take-append-le, Consumes, IsAtEnd, Consumes-whole}
+use Rattle.ghcdb.proofs.CitedWords.{Option, ◌≡◌, ◌≤◌, ℕ, List, None, Some, IfSome, sym, ap, ◌∙◌, length, take, take_all, take-append-le, Consumes, IsAtEnd, Consumes-whole}
 
 -- bytes that were taken up to the end are a front of any length that they do not pass
 pub front_at_end : (a b : Option (List ℕ)) (bytes : List ℕ) (n : ℕ) → Consumes a b bytes → IsAtEnd b → length bytes ≤ n → IfSome a (λ whole. bytes ≡ take n whole)

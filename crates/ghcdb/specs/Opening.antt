@@ -2,6 +2,7 @@
 use Rattle.std.specs.Prelude.{◌≡◌, ℕ, List, Option, None, Some, Ok, Err}
 use Rattle.std.specs.FinSet as set
 use Rattle.ghc_term.specs.declared.fault.Fault.{Fault}
+use Rattle.ghc_reader.specs.ClauseLines.{AreClauseLines}
 use Rattle.ghc_records.specs.Journal.{fresh_opening}
 use Rattle.ghc_records.specs.History.{History}
 use Rattle.ghc_records.specs.HistoryText.{IsLine, TellsHistory, IsHistoryRefusal}
@@ -45,11 +46,12 @@ pub record IsHistoryRefused (s : Started) (history : Option (List ℕ)) (refusal
   pub part_is : refusal.part ≡ part.History
   pub fault : IsHistoryFault s text refusal.fault
 
--- The texts start what the session begins with: program and query are accepted, and the history is loaded where there is one.
+-- The texts start what the session begins with: program and query are accepted, the history is loaded where there is one, and the lines are those at which the program's clauses begin.
 pub record IsDebuggerOf (program_text : List ℕ) (query_text : List ℕ) (history : Option (List ℕ)) (debugger : Debugger) : Type 0 where
   pub started : Started
   pub starts : IsStarted program_text query_text started
   pub opens : OpensOn started history debugger.core.world debugger.spies
+  pub lines : AreClauseLines program_text debugger.clause_lines
 
 -- The refusal is that of the program or the query, or else of the history.
 pub data IsOpenRefusal (program_text : List ℕ) (query_text : List ℕ) (history : Option (List ℕ)) (refusal : Refusal) : Type 0 where

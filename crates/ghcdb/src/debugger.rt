@@ -6,6 +6,7 @@ ghost use Rattle.clap.specs.declared.error.kind.ErrorKind.{ErrorKind};
 ghost use Rattle.ghc_term.specs.Answered.{AnsweredUnless};
 ghost use Rattle.ghc_term.specs.Fault.{fault_text};
 ghost use Rattle.ghcdb.specs.Opening.{IsDebuggerOf, IsOpenRefusal, IsWithoutMemory};
+ghost use Rattle.ghcdb.specs.inner.Outputs.{lines_to_come, task_of};
 ghost use Rattle.ghcdb.specs.inner.Running.{CarriesOut, Debugs, DebugsTexts, DoesAsAsked, IsAnswer, status_at_end};
 ghost use Rattle.ghcdb.specs.inner.Texts.{history_in};
 ghost use Rattle.ghcdb.specs.inner.Status.{spare_fault, status_of, status_of_print};
@@ -119,25 +120,28 @@ fn open_for_workers(
     }
 }
 
-// Starts what the texts and the options say, and plays the schedule, where there is a text of one, or else runs the session.
-fn carry_out<R: Threads + Wait + Sync + AllocGlobal, I: Read + Drop, O: Write + Drop>(
+// Starts what the texts and the options say, and plays the schedule, where there is one, or else runs the session.
+fn carry_out<
+    R: Threads + Wait + Sync + AllocGlobal,
+    S: Read + Drop,
+    I: Read + Drop,
+    O: Write + Drop,
+>(
     rt: &R,
     texts: &Texts,
+    schedule: Option<S>,
     options: Options<'_>,
     workers: WorkersOption,
     processors: usize,
     reader: I,
     writer: O,
 ) -> (Option<O>, Result<(), Refusal>)
-    ensures { CarriesOut texts.now options.entry workers processors (I.remaining reader) (O.contents writer) (option_map O.contents result.0) result.1 }
+    ensures { CarriesOut texts.now options.entry workers processors (task_of schedule) (lines_to_come (option_map S.remaining schedule) (I.remaining reader))
+        (O.contents writer) (option_map O.contents result.0) result.1 }
 {
-    let debugger = match open_for_workers(rt.alloc(), texts, options, workers, processors) {
-        Ok(debugger) => debugger,
-        Err(refusal) => return (Some(writer), Err(refusal)),
-    };
-    match &texts.schedule {
-        Some(schedule) => run_or_play(rt, debugger, Some(schedule.as_slice()), reader, writer),
-        None => run_or_play(rt, debugger, None, reader, writer),
+    match open_for_workers(rt.alloc(), texts, options, workers, processors) {
+        Ok(debugger) => run_or_play(rt, debugger, schedule, reader, writer),
+        Err(refusal) => (Some(writer), Err(refusal)),
     }
 }
 
@@ -152,18 +156,27 @@ fn tell_end<R: Eprint + AllocGlobal>(rt: &R, ended: &Result<(), Refusal>) -> Sta
 }
 
 // Carries out what the texts and the options say, tells of a refusal, and says how it ends.
-fn debug_texts<R: Threads + Wait + Sync + Eprint + AllocGlobal, I: Read + Drop, O: Write + Drop>(
+fn debug_texts<
+    R: Threads + Wait + Sync + Eprint + AllocGlobal,
+    S: Read + Drop,
+    I: Read + Drop,
+    O: Write + Drop,
+>(
     rt: &R,
     texts: &Texts,
+    schedule: Option<S>,
     options: Options<'_>,
     workers: WorkersOption,
     processors: usize,
     reader: I,
     writer: O,
 ) -> (Option<O>, Status)
-    ensures { DebugsTexts texts.now options.entry workers processors (I.remaining reader) (O.contents writer) (option_map O.contents result.0) result.1 }
+    ensures { DebugsTexts texts.now options.entry workers processors (task_of schedule) (lines_to_come (option_map S.remaining schedule) (I.remaining reader))
+        (O.contents writer) (option_map O.contents result.0) result.1 }
 {
-    let (writer, ended) = carry_out(rt, texts, options, workers, processors, reader, writer);
+    let (writer, ended) = carry_out(
+        rt, texts, schedule, options, workers, processors, reader, writer,
+    );
     let status = tell_end(rt, &ended);
     (writer, status)
 }
@@ -180,7 +193,9 @@ fn debug<R: Threads + Wait + Sync + Files + Eprint + AllocGlobal, I: Read + Drop
     ensures { Debugs options.entry workers processors (I.remaining reader) (O.contents writer) (option_map O.contents result.0) result.1 }
 {
     match read_texts(rt, options) {
-        Ok(texts) => debug_texts(rt, &texts, options, workers, processors, reader, writer),
+        Ok((texts, schedule)) => debug_texts(
+            rt, &texts, schedule, options, workers, processors, reader, writer,
+        ),
         Err(refusal) => (Some(writer), tell(rt, &refusal)),
     }
 }

@@ -14,6 +14,7 @@ pub const AFTER_HELP: &str = "Commands of the session, a line each:
   causes            tell so of all kept steps
   who X             tell which steps bound variable X
   explain X or G    tell on which steps the value of X, or goal G, rests
+  whynot X or G     tell why X is not bound, or why goal G waits
   part G            tell what call G was given, and what it gave
   blame X or G ..   ask which call is wrong: answer with +G right, -G wrong
   undo N            take back step N, on which no other depends

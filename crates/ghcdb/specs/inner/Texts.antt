@@ -11,13 +11,9 @@ use Rattle.ghcdb.specs.declared.settings.Options.{Options}
 abbrev pub history_in : Texts → Option (List ℕ)
 history_in texts = option_map (λ text. text.items) texts.history
 
--- the bytes of the schedule that was read, if one was
-abbrev pub schedule_in : Texts → Option (List ℕ)
-schedule_in texts = option_map (λ text. text.items) texts.schedule
-
--- There is the text of a history where the options name one, and that of a schedule where they name one.
-abbrev pub HaveTexts : Options → Texts → Type 0
-HaveTexts options texts = (is_some texts.history ≡ is_some options.load) × (is_some texts.schedule ≡ is_some options.schedule)
+-- There is the text of a history where the options name one, and a schedule to be read where they name one.
+abbrev pub HaveTexts : Options → Texts → Bool → Type 0
+HaveTexts options texts scheduled = (is_some texts.history ≡ is_some options.load) × (scheduled ≡ is_some options.schedule)
 
 -- The file of this part is named, and could not be read, or no memory was left for it.
 pub record IsNotRead (named : Bool) (part : RefusedPart) (refusal : Refusal) : Type 0 where

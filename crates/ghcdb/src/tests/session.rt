@@ -4,7 +4,7 @@ ghost use Rattle.std.specs.Prelude.{◌≡◌, ◌<◌};
 use crate::no_gate::NoGate;
 use crate::tests::cores::core_of;
 use ghc_console::{Debugger, Script, session};
-use ghc_core::Core;
+use ghc_reader::read_clause_lines;
 use ghc_trace::SpySet;
 use std::alloc::Global;
 use std::marker::Brand;
@@ -24,10 +24,9 @@ type Served = (Option<usize>, usize, bool);
 fn serve<L: Ledger, R: Threads + Wait + Sync>(
     rt: &R,
     alloc: Global,
-    core: Core,
+    debugger: Debugger,
     script: &mut Script<L>,
 ) -> (usize, bool) {
-    let debugger = Debugger::new(core, SpySet::new(alloc));
     let (debugger, ended) = session(rt, alloc, debugger, &NoGate, script);
     (debugger.core.records().len(), ended.is_err())
 }
@@ -45,7 +44,7 @@ fn written<L: Ledger>(script: &Script<L>) -> Option<usize> {
 fn serve_script<L: Ledger, R: Threads + Wait + Sync>(
     rt: &R,
     alloc: Global,
-    core: Core,
+    debugger: Debugger,
     input: Vec<u8>,
     fails_after: u64,
     blank: Blank,
@@ -53,25 +52,27 @@ fn serve_script<L: Ledger, R: Threads + Wait + Sync>(
     requires blank { (blank.name ≡ L.name) × (blank.parts ≡ L.parts) × (1 < L.parts) }
 {
     let mut script: Script<L> = Script::new(alloc, input, Some(fails_after), blank);
-    let (steps, broken) = serve(rt, alloc, core, &mut script);
+    let (steps, broken) = serve(rt, alloc, debugger, &mut script);
     (written(&script), steps, broken)
 }
 
 fn serve_failing<R: Threads + Wait + Sync>(
     rt: &R,
     alloc: Global,
-    core: Core,
+    debugger: Debugger,
     input: Vec<u8>,
     fails_after: u64,
 ) -> Served {
-    serve_script::<Brand, R>(rt, alloc, core, input, fails_after, Blank::new(2))
+    serve_script::<Brand, R>(rt, alloc, debugger, input, fails_after, Blank::new(2))
 }
 
 // A session of which the call after so many fails.
 fn served<R: Threads + Wait + Sync>(rt: &R, alloc: Global, fails_after: u64) -> Option<Served> {
     let input = Vec::from_slice(alloc, INPUT.as_bytes()).ok()?;
     let core = core_of(alloc, "", "X = 1")?;
-    Some(serve_failing(rt, alloc, core, input, fails_after))
+    let lines = read_clause_lines(alloc, b"").ok()?;
+    let debugger = Debugger::new(core, SpySet::new(alloc), lines);
+    Some(serve_failing(rt, alloc, debugger, input, fails_after))
 }
 
 // How many bytes are written, and how many steps taken, where the call after so many fails. Five reads give the lines and

@@ -1,4 +1,4 @@
-use Rattle.ghcdb.proofs.CitedWords.{rules, ◌≡◌, ◌++◌, ◌<◌, ◌≤◌, ℕ, List, length, subst, sym, places, Consumes, Consumes-trans, TakesAtMost}
+use Rattle.ghcdb.proofs.CitedWords.{rules, ◌++◌, ℕ, List, subst, sym, places, Consumes, Consumes-trans}
 use Rattle.ghcdb.proofs.TextFront.{front_at_end, front_in_full}
 use Rattle.ghcdb.proofs.text_front.read_front.Goals as goal
 
