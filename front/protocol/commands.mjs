@@ -1,9 +1,7 @@
 // What a line typed at a terminal means, and what helps with it. Pure.
 import CommandsTable from "./commands_table.mjs";
 import Refusals from "./refusals.mjs";
-import Nearest from "../text/nearest.mjs";
-
-const { nearest } = Nearest;
+import { nearest } from "../text/nearest.mjs";
 
 // The console's commands and the terminal's own, each with what a terminal adds.
 const COMMANDS = CommandsTable.map(({ tells, more, ...command }) => ({

@@ -1,6 +1,6 @@
 // Values that somebody expects of a run, as `X = TERM`, beside those that the console tells. Pure.
-import Print from "../text/print.mjs";
-import Reader from "../text/reader.mjs";
+import * as Print from "../text/print.mjs";
+import * as Reader from "../text/reader.mjs";
 
 /**
  * A variable's name and its value, of a text as `X = TERM`, the value as the console prints it; undefined where it is

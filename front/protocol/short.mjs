@@ -1,83 +1,79 @@
 // Shortens terms that are too long to be shown, before the worker hands them over: `…` stands for what is left out. Pure.
-import Replies from "./replies.mjs";
+import * as Replies from "./replies.mjs";
 
-const Short = (() => {
-  const MOST = 20000; // letters of a term, a goal or a binding
-  const LINE_END = 10;
-  const PLACES = "([,|", CLOSING = { "(": ")", "[": "]" };
+const MOST = 20000; // letters of a term, a goal or a binding
+const LINE_END = 10;
+const PLACES = "([,|", CLOSING = { "(": ")", "[": "]" };
 
-  /** The brackets that are open at the end of a text, the outermost first. */
-  function openAt(text) {
-    const open = [];
-    for (const letter of text) {
-      if (letter === "(" || letter === "[") open.push(letter);
-      else if (letter === ")" || letter === "]") open.pop();
-    }
-    return open;
+/** The brackets that are open at the end of a text, the outermost first. */
+function openAt(text) {
+  const open = [];
+  for (const letter of text) {
+    if (letter === "(" || letter === "[") open.push(letter);
+    else if (letter === ")" || letter === "]") open.pop();
   }
+  return open;
+}
 
-  /** A term or a goal in at most some letters and its closing brackets: one part of it is `…`, and nothing stands after that. */
-  function term(text, most = MOST) {
-    if (text.length <= most) return text;
-    let end = most;
-    while (end > 0 && !PLACES.includes(text[end - 1])) end -= 1;
-    if (end === 0) return `${text.slice(0, most)}…`;
-    const open = openAt(text.slice(0, end)), isRest = open[open.length - 1] === "[" && text[end - 1] === ",";
-    return `${isRest ? `${text.slice(0, end - 1)}|` : text.slice(0, end)}…${open.reverse().map((bracket) => CLOSING[bracket]).join("")}`;
+/** A term or a goal in at most some letters and its closing brackets: one part of it is `…`, and nothing stands after that. */
+function term(text, most = MOST) {
+  if (text.length <= most) return text;
+  let end = most;
+  while (end > 0 && !PLACES.includes(text[end - 1])) end -= 1;
+  if (end === 0) return `${text.slice(0, most)}…`;
+  const open = openAt(text.slice(0, end)), isRest = open[open.length - 1] === "[" && text[end - 1] === ",";
+  return `${isRest ? `${text.slice(0, end - 1)}|` : text.slice(0, end)}…${open.reverse().map((bracket) => CLOSING[bracket]).join("")}`;
+}
+
+/** A line of `records`, with the terms that its step bound shortened. */
+const record = (line, most = MOST) => (line.length <= most ? line : Replies.withTerms(line, (bound) => term(bound, most)));
+
+/** A line of `goals`, or one that tells a goal, with its goal shortened. */
+function goal(line, most = MOST) {
+  if (line.length <= most) return line;
+  const before = Replies.beforeGoal(line);
+  return before + term(line.slice(before.length), most);
+}
+
+/** A line of any reply, with its terms shortened; the same where it is short, or tells none. */
+function line(text, most = MOST) {
+  if (text.length <= most) return text;
+  const changed = record(text, most), before = Replies.beforeTerm(text), after = Replies.afterTerm(text);
+  return changed !== text || before === "" ? changed : before + term(text.slice(before.length, text.length - after.length), most) + after;
+}
+
+/** Where the lines stand that have more bytes than some: where they begin, and their line ends. */
+function longLines(bytes, most) {
+  const found = [];
+  for (let at = 0, end = 0; at < bytes.length; at = end + 1) {
+    end = bytes.indexOf(LINE_END, at);
+    if (end < 0) end = bytes.length;
+    if (end - at > most) found.push([at, end]);
   }
+  return found;
+}
 
-  /** A line of `records`, with the terms that its step bound shortened. */
-  const record = (line, most = MOST) => (line.length <= most ? line : Replies.withTerms(line, (bound) => term(bound, most)));
-
-  /** A line of `goals`, or one that tells a goal, with its goal shortened. */
-  function goal(line, most = MOST) {
-    if (line.length <= most) return line;
-    const before = Replies.beforeGoal(line);
-    return before + term(line.slice(before.length), most);
+function joined(parts) {
+  const all = new Uint8Array(parts.reduce((sum, part) => sum + part.length, 0));
+  let at = 0;
+  for (const part of parts) {
+    all.set(part, at);
+    at += part.length;
   }
+  return all;
+}
 
-  /** A line of any reply, with its terms shortened; the same where it is short, or tells none. */
-  function line(text, most = MOST) {
-    if (text.length <= most) return text;
-    const changed = record(text, most), before = Replies.beforeTerm(text);
-    return changed !== text || before === "" ? changed : before + term(text.slice(before.length), most);
+/** The bytes of lines, each long one shortened by `record` or `goal`; the same bytes where none is long. */
+function lines(bytes, shorten, most = MOST) {
+  const long = longLines(bytes, most), parts = [];
+  if (long.length === 0) return bytes;
+  let at = 0;
+  for (const [from, to] of long) {
+    const line = new TextDecoder().decode(bytes.subarray(from, to));
+    parts.push(bytes.subarray(at, from), new TextEncoder().encode(shorten(line, most)));
+    at = to;
   }
+  return joined([...parts, bytes.subarray(at)]);
+}
 
-  /** Where the lines stand that have more bytes than some: where they begin, and their line ends. */
-  function longLines(bytes, most) {
-    const found = [];
-    for (let at = 0, end = 0; at < bytes.length; at = end + 1) {
-      end = bytes.indexOf(LINE_END, at);
-      if (end < 0) end = bytes.length;
-      if (end - at > most) found.push([at, end]);
-    }
-    return found;
-  }
-
-  function joined(parts) {
-    const all = new Uint8Array(parts.reduce((sum, part) => sum + part.length, 0));
-    let at = 0;
-    for (const part of parts) {
-      all.set(part, at);
-      at += part.length;
-    }
-    return all;
-  }
-
-  /** The bytes of lines, each long one shortened by `record` or `goal`; the same bytes where none is long. */
-  function lines(bytes, shorten, most = MOST) {
-    const long = longLines(bytes, most), parts = [];
-    if (long.length === 0) return bytes;
-    let at = 0;
-    for (const [from, to] of long) {
-      const line = new TextDecoder().decode(bytes.subarray(from, to));
-      parts.push(bytes.subarray(at, from), new TextEncoder().encode(shorten(line, most)));
-      at = to;
-    }
-    return joined([...parts, bytes.subarray(at)]);
-  }
-
-  return { term, record, goal, line, lines, MOST };
-})();
-
-export default Short;
+export { term, record, goal, line, lines, MOST };

@@ -1,7 +1,11 @@
 // The words of ghcdb's command line, as far as those must know them who stand before the program. Pure.
 const WITH_VALUE = ["--query", "--load", "--schedule", "--workers"];
 
-/** What the words name: the program's file and its place among them, and the value of each option. */
+/**
+ * What the words name.
+ * @param {readonly string[]} words
+ * @returns {import("../types").WordsRead}
+ */
 function readWords(words) {
   const given = { file: undefined, asksOnly: false };
   for (let at = 0; at < words.length; at += 1) {

@@ -1,42 +1,14 @@
 // What a question or a verdict of `blame` means, in words for those who know the program and not yet the console.
-import BlameLines from "../protocol/blame_lines.mjs";
-import Asking from "../protocol/asking.mjs";
-import Print from "../text/print.mjs";
-import Printed from "../text/printed.mjs";
-import Reader from "../text/reader.mjs";
+import * as BlameLines from "../protocol/blame_lines.mjs";
+import * as Asking from "../protocol/asking.mjs";
+import * as Print from "../text/print.mjs";
+import * as Printed from "../text/printed.mjs";
+import { WIDEST, cut, namesIn, termOf } from "./named.mjs";
 import { plural, some, whyFailed, whyWaits, hasConsequences } from "./reasons.mjs";
 
-const LONGEST = 20_000; // letters of a text that is read
-const WIDEST = 200, WIDEST_VALUE = 80, WIDEST_CLAUSE = 120; // letters of a call, of a value and of a clause that are shown
+const WIDEST_VALUE = 80, WIDEST_CLAUSE = 120; // letters of a value and of a clause that are shown
 
 const WHY_FAILED = { F10: "no clause takes it (F10)", F11: "its two sides are different things (F11)", F12: "a value would hold itself (F12)", F13: "it has no value (F13)" };
-const CUT = Print.CUT;
-
-const cut = (text, most) => (text.length > most ? `${text.slice(0, most - 1)}${CUT}` : text);
-
-/** The names of variables in texts: those of the program's text, where no other variable there has the same; as a store, to print by. */
-function namesIn(run, texts) {
-  const names = new Map(), users = new Map();
-  for (const variable of texts.flatMap((text) => Printed.variablesIn(text))) {
-    const name = run.nameOf(variable);
-    if (name === undefined) continue;
-    names.set(variable, name);
-    users.set(name, (users.get(name) ?? new Set()).add(variable));
-  }
-  const nameOf = ({ variable }) => (users.get(names.get(variable))?.size === 1 ? names.get(variable) : undefined);
-  return { endOf: (term) => (nameOf(term) === undefined ? term : { variable: nameOf(term) }) };
-}
-
-/** The term that a text is; undefined where it is too long or too deep to be read. */
-function termOf(text) {
-  if (text.length > LONGEST) return undefined;
-  try {
-    return Reader.readTerm(text);
-  } catch (error) {
-    if (error instanceof RangeError || error instanceof SyntaxError) return undefined;
-    throw error;
-  }
-}
 
 /** For each variable of a call that got a value the variable and the value, by the call's text before and after. */
 function gains(before, after) {

@@ -1,7 +1,7 @@
 // The talk about who is to blame: which question is open, what an answer to it says, and which predicates are trusted.
-import BlameLines from "../protocol/blame_lines.mjs";
-import Printed from "../text/printed.mjs";
-import Replies from "../protocol/replies.mjs";
+import * as BlameLines from "../protocol/blame_lines.mjs";
+import * as Printed from "../text/printed.mjs";
+import * as Replies from "../protocol/replies.mjs";
 
 const ANSWERS = new Map(Object.entries({ y: true, yes: true, right: true, n: false, no: false, wrong: false }));
 const BACK = "u";

@@ -1,10 +1,9 @@
 // Whether a goal waits for what only heads would have to build: a head reads and does not build. Pure.
-import Builders from "../text/builders.mjs";
-import Printed from "../text/printed.mjs";
-import Reader from "../text/reader.mjs";
-import Stuck from "./stuck.mjs";
+import * as Builders from "../text/builders.mjs";
+import * as Printed from "../text/printed.mjs";
+import { termOf } from "./named.mjs";
+import { isHelpless } from "./waits.mjs";
 
-const LONGEST = 2000; // letters of a goal that is looked at
 const MOST = 6; // lines that are told
 
 /** The goals of the text beside which a variable was made: of the query or a step's clause; undefined of other steps. */
@@ -22,20 +21,13 @@ function isNobodys(session, variable, places) {
 }
 
 /**
- * The call that a goal's text is; undefined where it is none, or too long.
- * @returns {any}
- */
-function callOf({ text }) {
-  if (text.length > LONGEST || Printed.sortOfText(text) !== "call") return undefined;
-  return Reader.readTerm(text);
-}
-
-/**
  * What of a goal's heads may be the cause that it waits for a variable: the first head that wants something there,
  * where no goal ever makes that, or where another clause of the predicate does. Is it sure that the body has to?
  */
 function causeOf(session, { goal, variable }, places) {
-  const call = callOf(goal), place = call?.arguments?.findIndex((argument) => argument.variable === variable) ?? -1;
+  /** @type {any} */
+  const call = goal.sort === "call" ? termOf(goal.text) : undefined;
+  const place = call?.arguments?.findIndex((argument) => argument.variable === variable) ?? -1;
   if (place < 0) return undefined;
   const predicate = Builders.predicateOf(call), [clause] = Builders.readersOf(session.clauses, predicate, place);
   if (clause === undefined) return undefined;
@@ -50,13 +42,12 @@ function wordsOf(session, { variable, clause, place, isSure }) {
   return `a head reads and does not build: ${Builders.words(session.clauses, clause, place, { isSure, isOfQuery })}`;
 }
 
-/** Lines on goals, or on one of them, that wait for what heads want. Of a variable those that are sure go first. */
-function buildingLines(session, goals, name) {
+/** Lines on waits for what heads want. Of a variable those that are sure go first. */
+function buildingLines(session, waits) {
   const places = Builders.placesBound(session.clauses);
-  const causes = Stuck.helplessOf(goals).map((wait) => ({ name: wait.goal.name, ...causeOf(session, wait, places) }));
+  const causes = waits.filter(isHelpless).map((wait) => causeOf(session, wait, places)).filter(Boolean);
   const sure = new Set(causes.filter(({ isSure }) => isSure).map(({ variable }) => variable));
-  const isTold = ({ clause, variable, isSure }) => clause !== undefined && (isSure || !sure.has(variable));
-  const told = causes.filter((cause) => isTold(cause) && (name === undefined || cause.name === name));
+  const told = causes.filter(({ variable, isSure }) => isSure || !sure.has(variable));
   return [...new Set(told.map((cause) => wordsOf(session, cause)))].slice(0, MOST);
 }
 

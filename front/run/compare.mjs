@@ -1,58 +1,54 @@
 // Pairs the steps of two runs of one program and query: two steps are the same where their goals are, and both did the same with them. Pure.
 
-const Compare = (() => {
-  /** Numbers for texts, the same number for the same text. */
-  class Numbering {
-    constructor() {
-      this.numbers = new Map();
-    }
-
-    of(text) {
-      if (!this.numbers.has(text)) this.numbers.set(text, this.numbers.size + 1);
-      return this.numbers.get(text);
-    }
+/** Numbers for texts, the same number for the same text. */
+class Numbering {
+  constructor() {
+    this.numbers = new Map();
   }
 
-  /**
-   * What each step of a run is known by in other runs: `goals` has for each step what its goal is known by, `steps` the step itself. A goal is
-   * known by its place among the goals of the step that made it; a step by its goal and its act. Asks are told apart by their texts and order.
-   */
-  function namesOf(graph, numbering) {
-    const goals = [], steps = [], asks = new Map();
-    for (let index = 0; index < graph.count; index++) {
-      const step = graph.stepAt(index), maker = graph.makers.at(index), made = maker > 0 ? steps[graph.indexOf(maker)] : "query";
-      const act = step.act.replace(/_\d+_\d+/g, "_"), count = step.goal === null ? (asks.get(act) || 0) + 1 : 0;
-      if (step.goal === null) asks.set(act, count);
-      const goal = numbering.of(step.goal === null ? `ask ${count}` : `${made}.${graph.places.at(index)}`);
-      goals.push(goal);
-      steps.push(numbering.of(`${goal} ${act}`));
-    }
-    return { goals, steps };
+  of(text) {
+    if (!this.numbers.has(text)) this.numbers.set(text, this.numbers.size + 1);
+    return this.numbers.get(text);
   }
+}
 
-  /** By the number of each step of the one graph, the number of the step of the other that is the same. */
-  function pairsOf(oneNames, otherNames, one, other) {
-    const places = new Map(otherNames.steps.map((name, index) => [name, index])), pairs = new Map();
-    oneNames.steps.forEach((name, index) => {
-      if (places.has(name)) pairs.set(one.numbers.at(index), other.numbers.at(places.get(name)));
-    });
-    return pairs;
+/**
+ * What each step of a run is known by in other runs: `goals` has for each step what its goal is known by, `steps` the step itself. A goal is
+ * known by its place among the goals of the step that made it; a step by its goal and its act. Asks are told apart by their texts and order.
+ */
+function namesOf(graph, numbering) {
+  const goals = [], steps = [], asks = new Map();
+  for (let index = 0; index < graph.count; index++) {
+    const step = graph.stepAt(index), maker = graph.makers.at(index), made = maker > 0 ? steps[graph.indexOf(maker)] : "query";
+    const act = step.act.replace(/_\d+_\d+/g, "_"), count = step.goal === null ? (asks.get(act) || 0) + 1 : 0;
+    if (step.goal === null) asks.set(act, count);
+    const goal = numbering.of(step.goal === null ? `ask ${count}` : `${made}.${graph.places.at(index)}`);
+    goals.push(goal);
+    steps.push(numbering.of(`${goal} ${act}`));
   }
+  return { goals, steps };
+}
 
-  /**
-   * Two runs: `pairs` by the numbers of the one, how many steps each has alone, and the first step of the one that the other has not
-   * (`first`), with the step that took the same goal there (`instead`); null where there is none.
-   */
-  function compare(one, other) {
-    const numbering = new Numbering(), oneNames = namesOf(one, numbering), otherNames = namesOf(other, numbering), pairs = pairsOf(oneNames, otherNames, one, other);
-    const goals = new Map(otherNames.goals.map((goal, index) => [goal, index]));
-    const alone = oneNames.goals.map((goal, index) => index).filter((index) => !pairs.has(one.numbers.at(index)));
-    const choice = alone.find((index) => goals.has(oneNames.goals[index])), first = choice === undefined ? alone[0] : choice;
-    const numberIn = (graph, index) => (index === undefined ? null : graph.numbers.at(index));
-    return { pairs, alone: alone.length, otherAlone: other.count - pairs.size, first: numberIn(one, first), instead: first === undefined ? null : numberIn(other, goals.get(oneNames.goals[first])) };
-  }
+/** By the number of each step of the one graph, the number of the step of the other that is the same. */
+function pairsOf(oneNames, otherNames, one, other) {
+  const places = new Map(otherNames.steps.map((name, index) => [name, index])), pairs = new Map();
+  oneNames.steps.forEach((name, index) => {
+    if (places.has(name)) pairs.set(one.numbers.at(index), other.numbers.at(places.get(name)));
+  });
+  return pairs;
+}
 
-  return { compare };
-})();
+/**
+ * Two runs: `pairs` by the numbers of the one, how many steps each has alone, and the first step of the one that the other has not
+ * (`first`), with the step that took the same goal there (`instead`); null where there is none.
+ */
+function compare(one, other) {
+  const numbering = new Numbering(), oneNames = namesOf(one, numbering), otherNames = namesOf(other, numbering), pairs = pairsOf(oneNames, otherNames, one, other);
+  const goals = new Map(otherNames.goals.map((goal, index) => [goal, index]));
+  const alone = oneNames.goals.map((goal, index) => index).filter((index) => !pairs.has(one.numbers.at(index)));
+  const choice = alone.find((index) => goals.has(oneNames.goals[index])), first = choice === undefined ? alone[0] : choice;
+  const numberIn = (graph, index) => (index === undefined ? null : graph.numbers.at(index));
+  return { pairs, alone: alone.length, otherAlone: other.count - pairs.size, first: numberIn(one, first), instead: first === undefined ? null : numberIn(other, goals.get(oneNames.goals[first])) };
+}
 
-export default Compare;
+export { compare };

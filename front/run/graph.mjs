@@ -1,570 +1,540 @@
 // The graph of a run's steps, as the console's records tell them: who made, read, woke and named what. Pure functions.
-import Replies from "../protocol/replies.mjs";
-import Printed from "../text/printed.mjs";
+import * as Replies from "../protocol/replies.mjs";
+import * as Printed from "../text/printed.mjs";
 
-const Graph = (() => {
-  const { numbersOf, nameParts, predicateOf } = Printed, { readRecord } = Replies;
+const { numbersOf, nameParts } = Printed, { readRecord } = Replies;
 
-  /** The clauses of a program text, with their first and last lines: a full stop ends a clause, and stands nowhere else but in comments. */
-  function readClauses(program) {
-    const clauses = [], lineEnds = (text) => text.split("\n").length - 1;
-    let line = 1;
-    for (const part of program.replace(/%[^\n]*/g, " ").split(".")) {
-      const text = part.trim().replace(/\s+/g, " "), from = line + lineEnds(part.slice(0, part.length - part.trimStart().length)), to = line + lineEnds(part.trimEnd());
-      if (text !== "") clauses.push({ text: `${text}.`, predicate: predicateOf(text.split(":-")[0].trim()), from, to });
-      line += lineEnds(part);
-    }
-    return clauses;
+const KINDS = ["reduce", "unify", "assign", "input", "close", "ask"];
+const MOST_WITH_IMPLIED = 3000; // steps; of a longer run it is not looked for which edges others imply
+const MOST_KEPT = 20000; // steps and lists of causes that are kept after they were read
+const NONE = -1, MOVED = 4096; // no index; steps that are moved up without a pause
+const MADE = 0, READ = 1, NAMED = 2, WAYS = 3, WOKE = 4; // how a step depends on another one
+const WORDS = ["made", "read", "named"];
+
+/** A list of numbers that grows at its end. */
+class Numbers {
+  constructor(Kind) {
+    this.all = new Kind(1024);
+    this.length = 0;
   }
 
-  const KINDS = ["reduce", "unify", "assign", "input", "close", "ask"];
-  const MOST_WITH_IMPLIED = 3000; // steps; of a longer run it is not looked for which edges others imply
-  const MOST_KEPT = 20000; // steps and lists of causes that are kept after they were read
-  const NONE = -1, MOVED = 4096; // no index; steps that are moved up without a pause
-  const MADE = 0, READ = 1, NAMED = 2, WAYS = 3, WOKE = 4; // how a step depends on another one
-  const WORDS = ["made", "read", "named"];
-
-  /** A list of numbers that grows at its end. */
-  class Numbers {
-    constructor(Kind) {
-      this.all = new Kind(1024);
-      this.length = 0;
+  push(value) {
+    if (this.length === this.all.length) {
+      const larger = new this.all.constructor(this.length * 2);
+      larger.set(this.all);
+      this.all = larger;
     }
-
-    push(value) {
-      if (this.length === this.all.length) {
-        const larger = new this.all.constructor(this.length * 2);
-        larger.set(this.all);
-        this.all = larger;
-      }
-      this.all[this.length] = value;
-      this.length += 1;
-    }
-
-    at(index) {
-      return this.all[index];
-    }
+    this.all[this.length] = value;
+    this.length += 1;
   }
 
-  const PARTS = 251; // a prime number, so that all parts grow alike
-  const EMPTY = new Map(); // the parts in which nothing was put yet
+  at(index) {
+    return this.all[index];
+  }
+}
 
-  /** A map by numbers (and a few other keys) in many parts: a large one grows at once by a small part alone, and so never stands still for long. */
-  class PartedMap {
-    constructor() {
-      this.parts = Array(PARTS).fill(EMPTY);
-      this.size = 0;
-    }
+const PARTS = 251; // a prime number, so that all parts grow alike
+const EMPTY = new Map(); // the parts in which nothing was put yet
 
-    placeOf(key) {
-      return typeof key === "number" ? key % PARTS : 0;
-    }
-
-    get(key) {
-      return this.parts[this.placeOf(key)].get(key);
-    }
-
-    has(key) {
-      return this.parts[this.placeOf(key)].has(key);
-    }
-
-    set(key, value) {
-      const place = this.placeOf(key);
-      if (this.parts[place] === EMPTY) this.parts[place] = new Map();
-      const part = this.parts[place], before = part.size;
-      part.set(key, value);
-      this.size += part.size - before;
-    }
-
-    delete(key) {
-      if (this.parts[this.placeOf(key)].delete(key)) this.size -= 1;
-    }
+/** A map by numbers (and a few other keys) in many parts: a large one grows at once by a small part alone, and so never stands still for long. */
+class PartedMap {
+  constructor() {
+    this.parts = Array(PARTS).fill(EMPTY);
+    this.size = 0;
   }
 
-  const MOST_DENSE = 0x400000; // numbers that have a place of their own
-
-  /** The indexes of steps by their numbers: a list of places, and a map for the numbers beyond it. */
-  class Indexes {
-    constructor() {
-      this.places = new Int32Array(1024).fill(NONE);
-      this.beyond = new PartedMap();
-    }
-
-    get(number) {
-      if (number >= MOST_DENSE) return this.beyond.get(number);
-      const index = number < this.places.length ? this.places[number] : NONE;
-      return index === NONE ? undefined : index;
-    }
-
-    has(number) {
-      return this.get(number) !== undefined;
-    }
-
-    set(number, index) {
-      if (number >= MOST_DENSE) {
-        this.beyond.set(number, index);
-        return;
-      }
-      if (number >= this.places.length) {
-        const larger = new Int32Array(Math.max(number + 1, this.places.length * 2)).fill(NONE);
-        larger.set(this.places);
-        this.places = larger;
-      }
-      this.places[number] = index;
-    }
-
-    delete(number) {
-      if (number >= MOST_DENSE) this.beyond.delete(number);
-      else if (number < this.places.length) this.places[number] = NONE;
-    }
+  placeOf(key) {
+    return typeof key === "number" ? key % PARTS : 0;
   }
 
-  /** A few things by their indexes, which are forgotten when they are too many. */
-  class Known {
-    constructor() {
-      this.map = new Map();
-    }
-
-    get(index, make) {
-      if (!this.map.has(index)) {
-        if (this.map.size >= MOST_KEPT) this.map.clear();
-        this.map.set(index, make());
-      }
-      return this.map.get(index);
-    }
+  get(key) {
+    return this.parts[this.placeOf(key)].get(key);
   }
 
-  const PLACES = 0x100000; // places that a key which is a number can tell
-
-  /** A goal's name as a key: a number where its place allows that. */
-  const keyOfGoal = (maker, place) => (place < PLACES ? maker * PLACES + place : `${maker}.${place}`);
-
-  /** A variable as a key: a number where its place allows that. Another term is its own key. */
-  function keyOfVariable(variable) {
-    if (!variable.startsWith("_")) return variable;
-    const bar = variable.indexOf("_", 1), place = Number(variable.slice(bar + 1));
-    return place < PLACES ? Number(variable.slice(1, bar)) * PLACES + place : variable;
+  has(key) {
+    return this.parts[this.placeOf(key)].has(key);
   }
 
-  /**
-   * The graph of a run of any length. A step comes at the end (`push`) or goes from there (`pop`), and both cost what that step alone
-   * costs. Steps go by their index in the record, or by their number. A step is kept as its line, and read where it is asked for. On what
-   * it depends is found in the record: of a long one that takes half the time in which the console tells `causes` and they are read.
-   */
-  class RunGraph {
-    constructor() {
-      this.told = []; // for each step its line, or the step as it was given
-      this.indexes = new Indexes(); // by number
-      this.binders = new PartedMap(); // by variable
-      this.queryConsumers = new Map(); // by place in the query
-      this.kinds = new Numbers(Uint8Array);
-      this.numbers = new Numbers(Float64Array); // of the step
-      this.makers = new Numbers(Float64Array); // of what made its goal
-      this.clauses = new Numbers(Int32Array);
-      this.places = new Numbers(Int32Array);
-      this.depths = new Numbers(Int32Array);
-      this.deepest = new Numbers(Int32Array);
-      this.firstMade = new Numbers(Int32Array);
-      this.firstCause = new Numbers(Int32Array);
-      this.lastEffect = new Numbers(Int32Array);
-      this.consumers = new Numbers(Int32Array); // for each goal that was made: the index of the step that consumed it
-      this.from = new Numbers(Int32Array); // for each edge, as the next three
-      this.to = new Numbers(Int32Array);
-      this.effectBefore = new Numbers(Int32Array);
-      this.hows = new Numbers(Uint8Array); // made, read or named, and whether it woke
-      this.forget();
-      const accessor = (of) => ({ get: (number) => (this.indexes.has(number) ? of(this.indexes.get(number)) : undefined), has: (number) => this.indexes.has(number) });
-      this.byNumber = accessor((index) => this.stepAt(index));
-      this.causes = accessor((index) => this.causesAt(index));
-      this.effects = accessor((index) => this.effectsAt(index));
-      this.depth = accessor((index) => this.depths.at(index));
-      this.store = { has: (variable) => this.binderOf(variable) !== undefined, get: (variable) => this.termOf(variable) };
-    }
+  set(key, value) {
+    const place = this.placeOf(key);
+    if (this.parts[place] === EMPTY) this.parts[place] = new Map();
+    const part = this.parts[place], before = part.size;
+    part.set(key, value);
+    this.size += part.size - before;
+  }
 
-    forget() {
-      this.knownSteps = new Known();
-      this.knownCauses = new Known();
-      this.listed = null;
-    }
+  delete(key) {
+    if (this.parts[this.placeOf(key)].delete(key)) this.size -= 1;
+  }
+}
 
-    get count() {
-      return this.told.length;
-    }
+const MOST_DENSE = 0x400000; // numbers that have a place of their own
 
-    /** The longest chain of causes, in steps. */
-    get deepestChain() {
-      return this.count === 0 ? 0 : this.deepest.at(this.count - 1) + 1;
-    }
+/** The indexes of steps by their numbers: a list of places, and a map for the numbers beyond it. */
+class Indexes {
+  constructor() {
+    this.places = new Int32Array(1024).fill(NONE);
+    this.beyond = new PartedMap();
+  }
 
-    indexOf(number) {
-      return this.indexes.has(number) ? this.indexes.get(number) : NONE;
-    }
+  get(number) {
+    if (number >= MOST_DENSE) return this.beyond.get(number);
+    const index = number < this.places.length ? this.places[number] : NONE;
+    return index === NONE ? undefined : index;
+  }
 
-    stepAt(index) {
-      const told = this.told[index];
-      return typeof told === "string" ? this.knownSteps.get(index, () => readRecord(told)) : told;
-    }
+  has(number) {
+    return this.get(number) !== undefined;
+  }
 
-    slice(from, to) {
-      const steps = [];
-      for (let index = from; index < Math.min(to, this.count); index++) steps.push(this.stepAt(index));
-      return steps;
+  set(number, index) {
+    if (number >= MOST_DENSE) {
+      this.beyond.set(number, index);
+      return;
     }
-
-    /** All steps. It reads each of them: for a run that is not long. */
-    get steps() {
-      this.listed = this.listed || this.slice(0, this.count);
-      return this.listed;
+    if (number >= this.places.length) {
+      const larger = new Int32Array(Math.max(number + 1, this.places.length * 2)).fill(NONE);
+      larger.set(this.places);
+      this.places = larger;
     }
+    this.places[number] = index;
+  }
 
-    /** All direct dependences, each an edge from the cause to the step that depends on it. For a run that is not long. */
-    get edges() {
-      if (!this.areImplied && this.count <= MOST_WITH_IMPLIED) markImplied(this);
-      this.areImplied = true;
-      return this.steps.flatMap((step, index) => this.causesAt(index));
+  delete(number) {
+    if (number >= MOST_DENSE) this.beyond.delete(number);
+    else if (number < this.places.length) this.places[number] = NONE;
+  }
+}
+
+/** A few things by their indexes, which are forgotten when they are too many. */
+class Known {
+  constructor() {
+    this.map = new Map();
+  }
+
+  get(index, make) {
+    if (!this.map.has(index)) {
+      if (this.map.size >= MOST_KEPT) this.map.clear();
+      this.map.set(index, make());
     }
+    return this.map.get(index);
+  }
+}
 
-    /** The number of the step that bound a variable. */
-    binderOf(variable) {
-      return this.binders.get(keyOfVariable(variable));
-    }
+const PLACES = 0x100000; // places that a key which is a number can tell
 
-    /** What a variable was bound to. */
-    termOf(variable) {
-      const number = this.binderOf(variable);
-      return number === undefined ? undefined : this.byNumber.get(number).binds.find((binding) => binding.variable === variable).term;
-    }
+/** A goal's name as a key: a number where its place allows that. */
+const keyOfGoal = (maker, place) => (place < PLACES ? maker * PLACES + place : `${maker}.${place}`);
 
-    /** The place of the step that consumed a goal: NONE if none did; undefined if the goal was not made by a kept step or the query. */
-    consumerOf(goal) {
-      const [maker, place] = nameParts(goal);
-      return this.consumerAt(maker, place);
-    }
+/** A variable as a key: a number where its place allows that. Another term is its own key. */
+function keyOfVariable(variable) {
+  if (!variable.startsWith("_")) return variable;
+  const bar = variable.indexOf("_", 1), place = Number(variable.slice(bar + 1));
+  return place < PLACES ? Number(variable.slice(1, bar)) * PLACES + place : variable;
+}
 
-    consumerAt(maker, place) {
-      if (maker === 0) return this.queryConsumers.has(place) ? this.queryConsumers.get(place) : NONE;
+/**
+ * The graph of a run of any length. A step comes at the end (`push`) or goes from there (`pop`), and both cost what that step alone
+ * costs. Steps go by their index in the record, or by their number. A step is kept as its line, and read where it is asked for. On what
+ * it depends is found in the record: of a long one that takes half the time in which the console tells `causes` and they are read.
+ */
+class RunGraph {
+  constructor() {
+    this.told = []; // for each step its line, or the step as it was given
+    this.indexes = new Indexes(); // by number
+    this.binders = new PartedMap(); // by variable
+    this.queryConsumers = new Map(); // by place in the query
+    this.kinds = new Numbers(Uint8Array);
+    this.numbers = new Numbers(Float64Array); // of the step
+    this.makers = new Numbers(Float64Array); // of what made its goal
+    this.clauses = new Numbers(Int32Array);
+    this.places = new Numbers(Int32Array);
+    this.depths = new Numbers(Int32Array);
+    this.deepest = new Numbers(Int32Array);
+    this.firstMade = new Numbers(Int32Array);
+    this.firstCause = new Numbers(Int32Array);
+    this.lastEffect = new Numbers(Int32Array);
+    this.consumers = new Numbers(Int32Array); // for each goal that was made: the index of the step that consumed it
+    this.from = new Numbers(Int32Array); // for each edge, as the next three
+    this.to = new Numbers(Int32Array);
+    this.effectBefore = new Numbers(Int32Array);
+    this.hows = new Numbers(Uint8Array); // made, read or named, and whether it woke
+    this.forget();
+    const accessor = (of) => ({ get: (number) => (this.indexes.has(number) ? of(this.indexes.get(number)) : undefined), has: (number) => this.indexes.has(number) });
+    this.byNumber = accessor((index) => this.stepAt(index));
+    this.causes = accessor((index) => this.causesAt(index));
+    this.effects = accessor((index) => this.effectsAt(index));
+    this.depth = accessor((index) => this.depths.at(index));
+    this.store = { has: (variable) => this.binderOf(variable) !== undefined, get: (variable) => this.termOf(variable) };
+  }
+
+  forget() {
+    this.knownSteps = new Known();
+    this.knownCauses = new Known();
+    this.listed = null;
+  }
+
+  get count() {
+    return this.told.length;
+  }
+
+  /** The longest chain of causes, in steps. */
+  get deepestChain() {
+    return this.count === 0 ? 0 : this.deepest.at(this.count - 1) + 1;
+  }
+
+  indexOf(number) {
+    return this.indexes.has(number) ? this.indexes.get(number) : NONE;
+  }
+
+  stepAt(index) {
+    const told = this.told[index];
+    return typeof told === "string" ? this.knownSteps.get(index, () => readRecord(told)) : told;
+  }
+
+  slice(from, to) {
+    const steps = [];
+    for (let index = from; index < Math.min(to, this.count); index++) steps.push(this.stepAt(index));
+    return steps;
+  }
+
+  /** All steps. It reads each of them: for a run that is not long. */
+  get steps() {
+    this.listed = this.listed || this.slice(0, this.count);
+    return this.listed;
+  }
+
+  /** All direct dependences, each an edge from the cause to the step that depends on it. For a run that is not long. */
+  get edges() {
+    if (!this.areImplied && this.count <= MOST_WITH_IMPLIED) markImplied(this);
+    this.areImplied = true;
+    return this.steps.flatMap((step, index) => this.causesAt(index));
+  }
+
+  /** The number of the step that bound a variable. */
+  binderOf(variable) {
+    return this.binders.get(keyOfVariable(variable));
+  }
+
+  /** What a variable was bound to. */
+  termOf(variable) {
+    const number = this.binderOf(variable);
+    return number === undefined ? undefined : this.byNumber.get(number).binds.find((binding) => binding.variable === variable).term;
+  }
+
+  /** The place of the step that consumed a goal: NONE if none did; undefined if the goal was not made by a kept step or the query. */
+  consumerOf(goal) {
+    const [maker, place] = nameParts(goal);
+    return this.consumerAt(maker, place);
+  }
+
+  consumerAt(maker, place) {
+    if (maker === 0) return this.queryConsumers.has(place) ? this.queryConsumers.get(place) : NONE;
+    const at = this.madeAt(maker, place);
+    return at === NONE ? undefined : this.consumers.at(at);
+  }
+
+  /** Where a goal stands among all that were made. */
+  madeAt(maker, place) {
+    const index = this.indexOf(maker);
+    if (index === NONE) return NONE;
+    const at = this.firstMade.at(index) + place - 1;
+    return at < this.madeEnd(index) ? at : NONE;
+  }
+
+  madeEnd(index) {
+    return index + 1 < this.count ? this.firstMade.at(index + 1) : this.consumers.length;
+  }
+
+  causeEnd(index) {
+    return index + 1 < this.count ? this.firstCause.at(index + 1) : this.from.length;
+  }
+
+  setConsumer(step, index) {
+    if (step.goal === null) return;
+    const [maker, place] = nameParts(step.goal);
+    if (maker === 0) {
+      if (index === NONE) this.queryConsumers.delete(place);
+      else this.queryConsumers.set(place, index);
+    } else {
       const at = this.madeAt(maker, place);
-      return at === NONE ? undefined : this.consumers.at(at);
-    }
-
-    /** Where a goal stands among all that were made. */
-    madeAt(maker, place) {
-      const index = this.indexOf(maker);
-      if (index === NONE) return NONE;
-      const at = this.firstMade.at(index) + place - 1;
-      return at < this.madeEnd(index) ? at : NONE;
-    }
-
-    madeEnd(index) {
-      return index + 1 < this.count ? this.firstMade.at(index + 1) : this.consumers.length;
-    }
-
-    causeEnd(index) {
-      return index + 1 < this.count ? this.firstCause.at(index + 1) : this.from.length;
-    }
-
-    setConsumer(step, index) {
-      if (step.goal === null) return;
-      const [maker, place] = nameParts(step.goal);
-      if (maker === 0) {
-        if (index === NONE) this.queryConsumers.delete(place);
-        else this.queryConsumers.set(place, index);
-      } else {
-        const at = this.madeAt(maker, place);
-        if (at !== NONE) this.consumers.all[at] = index;
-      }
-    }
-
-    /** On what a step depends, found in the record: who made its goal, who bound what it read, who made what it names, in recorded order. */
-    findCauses(step) {
-      const causes = [];
-      if (step.goal !== null) this.addCause(causes, nameParts(step.goal)[0], MADE);
-      for (const variable of step.reads) this.addCause(causes, this.binderOf(variable), READ);
-      for (const variable of step.names) this.addCause(causes, numbersOf(variable)[0], NAMED);
-      return markWoke(step, inOrder(causes));
-    }
-
-    /** Adds that a step depends on another one; of several ways the first counts: made, then read, then named. */
-    addCause(causes, from, how) {
-      if (from === undefined || !this.indexes.has(from)) return;
-      const index = this.indexes.get(from), cause = causes.find((one) => one.index === index);
-      if (cause === undefined) causes.push({ index, how });
-      else cause.how = Math.min(cause.how & WAYS, how & WAYS) | ((cause.how | how) & WOKE);
-    }
-
-    /** On what a step depends, as another graph knows it: the numbers of causes, and how. */
-    toldCauses({ from, hows }) {
-      const causes = [];
-      from.forEach((number, at) => this.addCause(causes, number, hows[at]));
-      return inOrder(causes);
-    }
-
-    /** The variables by which a step depends on another one: those that it read and that one bound, and those that it names and that one made. */
-    variablesBetween(step, from) {
-      return [...step.reads.filter((variable) => this.binderOf(variable) === from), ...step.names.filter((variable) => numbersOf(variable)[0] === from)];
-    }
-
-    causesAt(index) {
-      return this.knownCauses.get(index, () => {
-        const step = this.stepAt(index), causes = [];
-        for (let edge = this.firstCause.at(index); edge < this.causeEnd(index); edge++) {
-          const from = this.numbers.at(this.from.at(edge)), how = this.hows.at(edge);
-          causes.push({ from, to: step.number, kind: WORDS[how & WAYS], variables: this.variablesBetween(step, from), woke: (how & WOKE) !== 0, implied: false });
-        }
-        return causes;
-      });
-    }
-
-    effectsAt(index) {
-      const effects = [], number = this.numbers.at(index);
-      for (let edge = this.lastEffect.at(index); edge !== NONE; edge = this.effectBefore.at(edge)) {
-        effects.push(this.causesAt(this.to.at(edge)).find((cause) => cause.from === number));
-      }
-      return effects.reverse();
-    }
-
-    /** Puts a step, or the line that tells it, at the end. `causes` has the numbers and ways of its causes, where another graph knows them. */
-    push(told, causes = null) {
-      const step = typeof told === "string" ? readRecord(told) : told;
-      if (step === null) return;
-      const index = this.count, edges = causes === null ? this.findCauses(step) : this.toldCauses(causes), [maker, place] = step.goal === null ? [NONE, NONE] : nameParts(step.goal);
-      let depth = 0;
-      for (const edge of edges) depth = Math.max(depth, this.depths.at(edge.index) + 1);
-      this.numbers.push(step.number);
-      this.kinds.push(KINDS.indexOf(step.kind));
-      this.clauses.push(step.clause || 0);
-      this.makers.push(maker);
-      this.places.push(place);
-      this.depths.push(depth);
-      this.deepest.push(Math.max(depth, index > 0 ? this.deepest.at(index - 1) : 0));
-      this.firstMade.push(this.consumers.length);
-      this.firstCause.push(this.from.length);
-      this.lastEffect.push(NONE);
-      for (const edge of edges) this.addEdge(edge.index, index, edge.how);
-      this.told.push(told);
-      this.indexes.set(step.number, index);
-      this.setConsumer(step, index);
-      for (let made = 0; made < step.makes.length; made++) this.consumers.push(NONE);
-      for (const binding of step.binds) this.binders.set(keyOfVariable(binding.variable), step.number);
-      this.changed();
-    }
-
-    addEdge(from, to, how) {
-      this.effectBefore.push(this.lastEffect.at(from));
-      this.lastEffect.all[from] = this.from.length;
-      this.from.push(from);
-      this.to.push(to);
-      this.hows.push(how);
-    }
-
-    /** The numbers of a step's causes, and how it depends on each. */
-    waysAt(index) {
-      const first = this.firstCause.at(index), end = this.causeEnd(index), from = [];
-      for (let edge = first; edge < end; edge++) from.push(this.numbers.at(this.from.at(edge)));
-      return { from, hows: this.hows.all.slice(first, end) };
-    }
-
-    /**
-     * Takes steps away from anywhere: `to` tells for each index where its step stands then, or NONE; `first` is the first that goes. No step
-     * that stays depends on one that goes. All that comes later moves up; yields now and then.
-     */
-    *remove(to, first) {
-      for (let index = first; index < this.count; index++) {
-        if (index % MOVED === 0) yield index;
-        if (to[index] === NONE) this.forgetStep(index);
-      }
-      this.forget();
-      const end = this.count, perStep = [this.numbers, this.kinds, this.clauses, this.makers, this.places, this.depths];
-      let step = first, made = this.firstMade.at(first), edge = this.firstCause.at(first);
-      for (let index = first; index < end; index++) {
-        if (index % MOVED === MOVED - 1) yield index;
-        if (to[index] === NONE) continue;
-        const madeFrom = this.firstMade.at(index), madeTo = this.madeEnd(index), edgeFrom = this.firstCause.at(index), edgeTo = this.causeEnd(index);
-        for (const list of perStep) list.all[step] = list.at(index);
-        this.told[step] = this.told[index];
-        this.indexes.set(this.numbers.at(step), step);
-        this.firstMade.all[step] = made;
-        for (let at = madeFrom; at < madeTo; at++) this.consumers.all[made++] = this.consumers.at(at);
-        this.firstCause.all[step] = edge;
-        for (let at = edgeFrom; at < edgeTo; at++) this.moveEdge(at, edge++, to[this.from.at(at)], step);
-        this.deepest.all[step] = Math.max(this.depths.at(step), step > 0 ? this.deepest.at(step - 1) : 0);
-        step += 1;
-      }
-      this.shorten(step, made, edge);
-      yield* this.moveConsumers(to, first);
-      yield* this.chainEffects();
-    }
-
-    /** Moves up the steps that consumed goals, from the first on that goes. */
-    *moveConsumers(to, first) {
-      const { all, length } = this.consumers;
-      for (let at = 0; at < length; at++) {
-        if (at % MOVED === 0) yield at;
-        if (all[at] >= first) all[at] = to[all[at]];
-      }
-      for (const [place, index] of this.queryConsumers) this.queryConsumers.set(place, to[index]);
-    }
-
-    /** Forgets what a step bound and consumed, and its number. */
-    forgetStep(index) {
-      const step = this.stepAt(index);
-      for (const binding of step.binds) this.binders.delete(keyOfVariable(binding.variable));
-      this.setConsumer(step, NONE);
-      this.indexes.delete(step.number);
-    }
-
-    moveEdge(at, edge, from, to) {
-      this.from.all[edge] = from;
-      this.to.all[edge] = to;
-      this.hows.all[edge] = this.hows.at(at);
-    }
-
-    shorten(steps, made, edges) {
-      this.told.length = steps;
-      for (const list of [this.numbers, this.kinds, this.clauses, this.makers, this.places, this.depths, this.deepest, this.firstMade, this.firstCause, this.lastEffect]) list.length = steps;
-      for (const list of [this.from, this.to, this.effectBefore, this.hows]) list.length = edges;
-      this.consumers.length = made;
-      this.changed();
-    }
-
-    /** Chains the edges of each step's consequences anew. */
-    *chainEffects() {
-      this.lastEffect.all.fill(NONE, 0, this.count);
-      for (let edge = 0; edge < this.from.length; edge++) {
-        if (edge % MOVED === 0) yield edge;
-        this.effectBefore.all[edge] = this.lastEffect.at(this.from.at(edge));
-        this.lastEffect.all[this.from.at(edge)] = edge;
-      }
-    }
-
-    /** Takes the last step away. No step that stays depends on it. */
-    pop() {
-      const index = this.count - 1, first = this.firstCause.at(index);
-      for (let edge = this.from.length - 1; edge >= first; edge--) this.lastEffect.all[this.from.at(edge)] = this.effectBefore.at(edge);
-      this.forgetStep(index);
-      this.knownSteps.map.delete(index);
-      this.knownCauses.map.delete(index);
-      this.shorten(index, this.firstMade.at(index), first);
-    }
-
-    changed() {
-      this.listed = null;
-      this.areImplied = false;
+      if (at !== NONE) this.consumers.all[at] = index;
     }
   }
 
-  const inOrder = (causes) => (causes.length > 1 ? causes.sort((one, other) => one.index - other.index) : causes);
-
-  /**
-   * Marks the cause that a waiting goal waited for last, as docs/LANGUAGE.md says under `woke`: the last one, where the step read it, and
-   * its goal was made before that. The causes stand in recorded order.
-   */
-  function markWoke(step, causes) {
-    const last = causes[causes.length - 1];
-    if ((step.kind === "reduce" || step.kind === "assign") && last !== undefined && last.how === READ) last.how |= WOKE;
-    return causes;
+  /** On what a step depends, found in the record: who made its goal, who bound what it read, who made what it names, in recorded order. */
+  findCauses(step) {
+    const causes = [];
+    if (step.goal !== null) this.addCause(causes, nameParts(step.goal)[0], MADE);
+    for (const variable of step.reads) this.addCause(causes, this.binderOf(variable), READ);
+    for (const variable of step.names) this.addCause(causes, numbersOf(variable)[0], NAMED);
+    return markWoke(step, inOrder(causes));
   }
 
-  /** Marks each edge that a longer chain of causes implies: the picture draws these faintly. */
-  function markImplied(graph) {
-    const words = (graph.count >> 5) + 1, before = [];
-    for (let index = 0; index < graph.count; index++) {
-      const all = new Uint32Array(words), edges = graph.causesAt(index), at = (edge) => graph.indexes.get(edge.from);
-      for (const edge of edges) before[at(edge)].forEach((word, part) => { all[part] |= word; });
-      for (const edge of edges) edge.implied = ((all[at(edge) >> 5] >>> (at(edge) & 31)) & 1) === 1;
-      for (const edge of edges) all[at(edge) >> 5] |= 1 << (at(edge) & 31);
-      before.push(all);
+  /** Adds that a step depends on another one; of several ways the first counts: made, then read, then named. */
+  addCause(causes, from, how) {
+    if (from === undefined || !this.indexes.has(from)) return;
+    const index = this.indexes.get(from), cause = causes.find((one) => one.index === index);
+    if (cause === undefined) causes.push({ index, how });
+    else cause.how = Math.min(cause.how & WAYS, how & WAYS) | ((cause.how | how) & WOKE);
+  }
+
+  /** On what a step depends, as another graph knows it: the numbers of causes, and how. */
+  toldCauses({ from, hows }) {
+    const causes = [];
+    from.forEach((number, at) => this.addCause(causes, number, hows[at]));
+    return inOrder(causes);
+  }
+
+  /** The variables by which a step depends on another one: those that it read and that one bound, and those that it names and that one made. */
+  variablesBetween(step, from) {
+    return [...step.reads.filter((variable) => this.binderOf(variable) === from), ...step.names.filter((variable) => numbersOf(variable)[0] === from)];
+  }
+
+  causesAt(index) {
+    return this.knownCauses.get(index, () => {
+      const step = this.stepAt(index), causes = [];
+      for (let edge = this.firstCause.at(index); edge < this.causeEnd(index); edge++) {
+        const from = this.numbers.at(this.from.at(edge)), how = this.hows.at(edge);
+        causes.push({ from, to: step.number, kind: WORDS[how & WAYS], variables: this.variablesBetween(step, from), woke: (how & WOKE) !== 0, implied: false });
+      }
+      return causes;
+    });
+  }
+
+  effectsAt(index) {
+    const effects = [], number = this.numbers.at(index);
+    for (let edge = this.lastEffect.at(index); edge !== NONE; edge = this.effectBefore.at(edge)) {
+      effects.push(this.causesAt(this.to.at(edge)).find((cause) => cause.from === number));
     }
+    return effects.reverse();
   }
 
-  /** The graph of steps in recorded order, or of the lines that tell them. */
-  function graphOf(steps) {
-    const graph = new RunGraph();
-    for (const step of steps) graph.push(step);
-    return graph;
+  /** Puts a step, or the line that tells it, at the end. `causes` has the numbers and ways of its causes, where another graph knows them. */
+  push(told, causes = null) {
+    const step = typeof told === "string" ? readRecord(told) : told;
+    if (step === null) return;
+    const index = this.count, edges = causes === null ? this.findCauses(step) : this.toldCauses(causes), [maker, place] = step.goal === null ? [NONE, NONE] : nameParts(step.goal);
+    let depth = 0;
+    for (const edge of edges) depth = Math.max(depth, this.depths.at(edge.index) + 1);
+    this.numbers.push(step.number);
+    this.kinds.push(KINDS.indexOf(step.kind));
+    this.clauses.push(step.clause || 0);
+    this.makers.push(maker);
+    this.places.push(place);
+    this.depths.push(depth);
+    this.deepest.push(Math.max(depth, index > 0 ? this.deepest.at(index - 1) : 0));
+    this.firstMade.push(this.consumers.length);
+    this.firstCause.push(this.from.length);
+    this.lastEffect.push(NONE);
+    for (const edge of edges) this.addEdge(edge.index, index, edge.how);
+    this.told.push(told);
+    this.indexes.set(step.number, index);
+    this.setConsumer(step, index);
+    for (let made = 0; made < step.makes.length; made++) this.consumers.push(NONE);
+    for (const binding of step.binds) this.binders.set(keyOfVariable(binding.variable), step.number);
+    this.changed();
   }
 
-  /** The graph of some steps of another graph alone, from one index up to another. */
-  function partOf(whole, from, to) {
-    const graph = new RunGraph();
-    for (let index = from; index < Math.min(to, whole.count); index++) graph.push(whole.stepAt(index), whole.waysAt(index));
-    return graph;
+  addEdge(from, to, how) {
+    this.effectBefore.push(this.lastEffect.at(from));
+    this.lastEffect.all[from] = this.from.length;
+    this.from.push(from);
+    this.to.push(to);
+    this.hows.push(how);
+  }
+
+  /** The numbers of a step's causes, and how it depends on each. */
+  waysAt(index) {
+    const first = this.firstCause.at(index), end = this.causeEnd(index), from = [];
+    for (let edge = first; edge < end; edge++) from.push(this.numbers.at(this.from.at(edge)));
+    return { from, hows: this.hows.all.slice(first, end) };
   }
 
   /**
-   * For each step by its index, 1 where it is a step, or that step depends on it by however many edges; and how many there are. Each edge
-   * leads to a later step, so that one look at each step is enough, from that step on to the first.
+   * Takes steps away from anywhere: `to` tells for each index where its step stands then, or NONE; `first` is the first that goes. No step
+   * that stays depends on one that goes. All that comes later moves up; yields now and then.
    */
-  function causesReached(graph, index) {
-    const isIn = new Uint8Array(graph.count), from = graph.from.all, first = graph.firstCause.all;
-    let count = 0;
-    isIn[index] = 1;
-    for (let at = index, end = graph.causeEnd(index); at >= 0; at--) {
-      if (isIn[at] === 1) {
-        count += 1;
-        for (let edge = first[at]; edge < end; edge++) isIn[from[edge]] = 1;
-      }
-      end = first[at];
+  *remove(to, first) {
+    for (let index = first; index < this.count; index++) {
+      if (index % MOVED === 0) yield index;
+      if (to[index] === NONE) this.forgetStep(index);
     }
-    return { isIn, count };
-  }
-
-  /** The same of a step and all that depends on it, from that step on. */
-  function effectsReached(graph, index) {
-    const isIn = new Uint8Array(graph.count), from = graph.from.all;
-    let count = 1;
-    isIn[index] = 1;
-    for (let at = index + 1, edge = graph.causeEnd(index); at < graph.count; at++) {
-      const end = graph.causeEnd(at);
-      while (edge < end && isIn[from[edge]] === 0) edge += 1;
-      if (edge < end) {
-        isIn[at] = 1;
-        count += 1;
-      }
-      edge = end;
+    this.forget();
+    const end = this.count, perStep = [this.numbers, this.kinds, this.clauses, this.makers, this.places, this.depths];
+    let step = first, made = this.firstMade.at(first), edge = this.firstCause.at(first);
+    for (let index = first; index < end; index++) {
+      if (index % MOVED === MOVED - 1) yield index;
+      if (to[index] === NONE) continue;
+      const madeFrom = this.firstMade.at(index), madeTo = this.madeEnd(index), edgeFrom = this.firstCause.at(index), edgeTo = this.causeEnd(index);
+      for (const list of perStep) list.all[step] = list.at(index);
+      this.told[step] = this.told[index];
+      this.indexes.set(this.numbers.at(step), step);
+      this.firstMade.all[step] = made;
+      for (let at = madeFrom; at < madeTo; at++) this.consumers.all[made++] = this.consumers.at(at);
+      this.firstCause.all[step] = edge;
+      for (let at = edgeFrom; at < edgeTo; at++) this.moveEdge(at, edge++, to[this.from.at(at)], step);
+      this.deepest.all[step] = Math.max(this.depths.at(step), step > 0 ? this.deepest.at(step - 1) : 0);
+      step += 1;
     }
-    return { isIn, count };
+    this.shorten(step, made, edge);
+    yield* this.moveConsumers(to, first);
+    yield* this.chainEffects();
   }
 
-  function numbersIn(graph, { isIn }) {
-    const numbers = new Set();
-    isIn.forEach((is, index) => { if (is === 1) numbers.add(graph.numbers.at(index)); });
-    return numbers;
-  }
-
-  /** The numbers of a step and of all that it depends on, or that depends on it. */
-  const allCauses = (graph, number) => numbersIn(graph, causesReached(graph, graph.indexOf(number)));
-  const allEffects = (graph, number) => numbersIn(graph, effectsReached(graph, graph.indexOf(number)));
-
-  /** The reply to `why N` that this graph stands for. */
-  function whyLines(graph, number) {
-    const lines = graph.causes.get(number).map((edge) =>
-      (edge.kind === "made" ? `${edge.from} made` : `${edge.from} ${edge.kind} ${edge.variables[0]}${edge.woke ? " woke" : ""}`));
-    return lines.length > 0 ? lines : ["none"];
-  }
-
-  /** Another lawful order: each process goes on as far as it can. `laneOf` gives the lane of a step's number. */
-  function tidyOrder(graph, laneOf) {
-    const missing = graph.steps.map((step, index) => graph.causeEnd(index) - graph.firstCause.at(index)), order = [];
-    const free = missing.flatMap((count, index) => (count === 0 ? [index] : [])); // by their places in the record
-    let lane = null;
-    const add = (index) => {
-      missing[index] -= 1;
-      if (missing[index] === 0) free.splice(free.findIndex((other) => other > index) >>> 0, 0, index);
-    };
-    while (free.length > 0) {
-      const same = free.findIndex((index) => laneOf(graph.numbers.at(index)) === lane), [index] = free.splice(Math.max(0, same), 1);
-      order.push(graph.numbers.at(index));
-      lane = laneOf(graph.numbers.at(index));
-      for (let edge = graph.lastEffect.at(index); edge !== NONE; edge = graph.effectBefore.at(edge)) add(graph.to.at(edge));
+  /** Moves up the steps that consumed goals, from the first on that goes. */
+  *moveConsumers(to, first) {
+    const { all, length } = this.consumers;
+    for (let at = 0; at < length; at++) {
+      if (at % MOVED === 0) yield at;
+      if (all[at] >= first) all[at] = to[all[at]];
     }
-    return order;
+    for (const [place, index] of this.queryConsumers) this.queryConsumers.set(place, to[index]);
   }
 
-  return {
-    readClauses, graphOf, partOf, MADE, READ, NAMED, WOKE, allCauses, allEffects, whyLines, tidyOrder, RunGraph, causesReached, effectsReached, keyOfGoal, PartedMap,
-    NONE,
+  /** Forgets what a step bound and consumed, and its number. */
+  forgetStep(index) {
+    const step = this.stepAt(index);
+    for (const binding of step.binds) this.binders.delete(keyOfVariable(binding.variable));
+    this.setConsumer(step, NONE);
+    this.indexes.delete(step.number);
+  }
+
+  moveEdge(at, edge, from, to) {
+    this.from.all[edge] = from;
+    this.to.all[edge] = to;
+    this.hows.all[edge] = this.hows.at(at);
+  }
+
+  shorten(steps, made, edges) {
+    this.told.length = steps;
+    for (const list of [this.numbers, this.kinds, this.clauses, this.makers, this.places, this.depths, this.deepest, this.firstMade, this.firstCause, this.lastEffect]) list.length = steps;
+    for (const list of [this.from, this.to, this.effectBefore, this.hows]) list.length = edges;
+    this.consumers.length = made;
+    this.changed();
+  }
+
+  /** Chains the edges of each step's consequences anew. */
+  *chainEffects() {
+    this.lastEffect.all.fill(NONE, 0, this.count);
+    for (let edge = 0; edge < this.from.length; edge++) {
+      if (edge % MOVED === 0) yield edge;
+      this.effectBefore.all[edge] = this.lastEffect.at(this.from.at(edge));
+      this.lastEffect.all[this.from.at(edge)] = edge;
+    }
+  }
+
+  /** Takes the last step away. No step that stays depends on it. */
+  pop() {
+    const index = this.count - 1, first = this.firstCause.at(index);
+    for (let edge = this.from.length - 1; edge >= first; edge--) this.lastEffect.all[this.from.at(edge)] = this.effectBefore.at(edge);
+    this.forgetStep(index);
+    this.knownSteps.map.delete(index);
+    this.knownCauses.map.delete(index);
+    this.shorten(index, this.firstMade.at(index), first);
+  }
+
+  changed() {
+    this.listed = null;
+    this.areImplied = false;
+  }
+}
+
+const inOrder = (causes) => (causes.length > 1 ? causes.sort((one, other) => one.index - other.index) : causes);
+
+/**
+ * Marks the cause that a waiting goal waited for last, as docs/LANGUAGE.md says under `woke`: the last one, where the step read it, and
+ * its goal was made before that. The causes stand in recorded order.
+ */
+function markWoke(step, causes) {
+  const last = causes[causes.length - 1];
+  if ((step.kind === "reduce" || step.kind === "assign") && last !== undefined && last.how === READ) last.how |= WOKE;
+  return causes;
+}
+
+/** Marks each edge that a longer chain of causes implies: the picture draws these faintly. */
+function markImplied(graph) {
+  const words = (graph.count >> 5) + 1, before = [];
+  for (let index = 0; index < graph.count; index++) {
+    const all = new Uint32Array(words), edges = graph.causesAt(index), at = (edge) => graph.indexes.get(edge.from);
+    for (const edge of edges) before[at(edge)].forEach((word, part) => { all[part] |= word; });
+    for (const edge of edges) edge.implied = ((all[at(edge) >> 5] >>> (at(edge) & 31)) & 1) === 1;
+    for (const edge of edges) all[at(edge) >> 5] |= 1 << (at(edge) & 31);
+    before.push(all);
+  }
+}
+
+/** The graph of steps in recorded order, or of the lines that tell them. */
+function graphOf(steps) {
+  const graph = new RunGraph();
+  for (const step of steps) graph.push(step);
+  return graph;
+}
+
+/** The graph of some steps of another graph alone, from one index up to another. */
+function partOf(whole, from, to) {
+  const graph = new RunGraph();
+  for (let index = from; index < Math.min(to, whole.count); index++) graph.push(whole.stepAt(index), whole.waysAt(index));
+  return graph;
+}
+
+/**
+ * For each step by its index, 1 where it is a step, or that step depends on it by however many edges; and how many there are. Each edge
+ * leads to a later step, so that one look at each step is enough, from that step on to the first.
+ */
+function causesReached(graph, index) {
+  const isIn = new Uint8Array(graph.count), from = graph.from.all, first = graph.firstCause.all;
+  let count = 0;
+  isIn[index] = 1;
+  for (let at = index, end = graph.causeEnd(index); at >= 0; at--) {
+    if (isIn[at] === 1) {
+      count += 1;
+      for (let edge = first[at]; edge < end; edge++) isIn[from[edge]] = 1;
+    }
+    end = first[at];
+  }
+  return { isIn, count };
+}
+
+/** The same of some steps and all that depend on them: `isFirst` tells of an index from `first` on whether it is one of them. */
+function dependents(graph, isFirst, first = 0) {
+  const isIn = new Uint8Array(graph.count), from = graph.from.all;
+  let count = 0;
+  for (let at = first, edge = graph.firstCause.at(first); at < graph.count; at++) {
+    const end = graph.causeEnd(at);
+    let is = isFirst(at);
+    for (; edge < end && !is; edge++) is = isIn[from[edge]] === 1;
+    if (is) {
+      isIn[at] = 1;
+      count += 1;
+    }
+    edge = end;
+  }
+  return { isIn, count };
+}
+
+/** The same of a step and all that depends on it, from that step on. */
+const effectsReached = (graph, index) => dependents(graph, (at) => at === index, index);
+
+/** Another lawful order: each process goes on as far as it can. `laneOf` gives the lane of a step's number. */
+function tidyOrder(graph, laneOf) {
+  const missing = graph.steps.map((step, index) => graph.causeEnd(index) - graph.firstCause.at(index)), order = [];
+  const free = missing.flatMap((count, index) => (count === 0 ? [index] : [])); // by their places in the record
+  let lane = null;
+  const add = (index) => {
+    missing[index] -= 1;
+    if (missing[index] === 0) free.splice(free.findIndex((other) => other > index) >>> 0, 0, index);
   };
-})();
+  while (free.length > 0) {
+    const same = free.findIndex((index) => laneOf(graph.numbers.at(index)) === lane), [index] = free.splice(Math.max(0, same), 1);
+    order.push(graph.numbers.at(index));
+    lane = laneOf(graph.numbers.at(index));
+    for (let edge = graph.lastEffect.at(index); edge !== NONE; edge = graph.effectBefore.at(edge)) add(graph.to.at(edge));
+  }
+  return order;
+}
 
-export default Graph;
+export {
+  graphOf, partOf, MADE, NAMED, tidyOrder, RunGraph, causesReached, dependents, effectsReached, keyOfGoal, PartedMap,
+  NONE,
+};

@@ -1,90 +1,88 @@
 // Keeps account of the kept steps of a session from the replies to its lines, so that `records` need not be asked for. Pure.
-import Effects from "../protocol/effects.mjs";
-import Replies from "../protocol/replies.mjs";
+import * as Effects from "../protocol/effects.mjs";
+import * as Replies from "../protocol/replies.mjs";
 
-const Kept = (() => {
-  /** May a line change which steps are kept? */
-  const mayChange = (line) => Effects.effectOf(line) !== "looks";
+/** May a line change which steps are kept? */
+const mayChange = (line) => Effects.effectOf(line) !== "looks";
 
-  /** A step without what it read, bound and made. */
-  const withoutTerms = ({ number, goal, act, kind, clause }) => ({ number, goal, act, kind, clause });
+/** A step without what it read, bound and made. */
+const withoutTerms = ({ number, goal, act, kind, clause }) => ({ number, goal, act, kind, clause });
 
-  class Kept {
-    constructor() {
-      this.steps = new Map(); // by number, in recorded order
-      this.takers = new Map(); // the step that consumed a goal
-      this.texts = new Map(); // goals as written, as far as CALL lines told them
-      this.changes = 0; // how many lines have changed the session
-      this.removed = new Set(); // steps that went since somebody looked; some may be there again
-    }
+class Kept {
+  constructor() {
+    this.steps = new Map(); // by number, in recorded order
+    this.takers = new Map(); // the step that consumed a goal
+    this.texts = new Map(); // goals as written, as far as CALL lines told them
+    this.changes = 0; // how many lines have changed the session
+    this.removed = new Set(); // steps that went since somebody looked; some may be there again
+  }
 
-    add(step) {
-      this.steps.set(step.number, step);
-      if (step.goal !== null) this.takers.set(step.goal, step.number);
-    }
+  add(step) {
+    this.steps.set(step.number, step);
+    if (step.goal !== null) this.takers.set(step.goal, step.number);
+  }
 
-    remove(number) {
-      const step = this.steps.get(number);
-      if (step === undefined) return;
-      this.steps.delete(number);
-      this.removed.add(number);
-      if (step.goal !== null) this.takers.delete(step.goal);
-    }
+  remove(number) {
+    const step = this.steps.get(number);
+    if (step === undefined) return;
+    this.steps.delete(number);
+    this.removed.add(number);
+    if (step.goal !== null) this.takers.delete(step.goal);
+  }
 
-    /** Takes the steps of the reply to `records` for those that are kept. */
-    begin(records) {
-      this.steps.clear();
-      this.takers.clear();
-      for (const line of records) {
-        const step = Replies.readRecord(line);
-        if (step !== null) this.add(withoutTerms(step));
-      }
-    }
-
-    /** Learns what the reply to a line tells. */
-    learn(line, reply) {
-      if (!mayChange(line) || Replies.isRefused(reply)) return;
-      this.changes += 1;
-      if (reply[0] === "arranged") this.arrange(line.trim().split(/ +/).slice(1).map(Number));
-      for (const told of reply) this.learnLine(told);
-    }
-
-    learnLine(told) {
-      const taken = Replies.readTaken(told);
-      if (taken !== null) return this.add(taken);
-      const undone = Replies.readUndone(told), call = Replies.readCall(told);
-      if (undone !== null) for (const number of undone) this.remove(number);
-      if (call !== null) this.texts.set(call.name, call.text);
-      return undefined;
-    }
-
-    /** The steps that went since this was asked last. */
-    takeRemoved() {
-      const { removed } = this;
-      this.removed = new Set();
-      return removed;
-    }
-
-    /** The first step in recorded order that is not among those known; undefined where all are. */
-    firstBeside(known) {
-      for (const number of this.steps.keys()) if (!known.has(number)) return number;
-      return undefined;
-    }
-
-    arrange(numbers) {
-      const steps = this.steps;
-      this.steps = new Map(numbers.map((number) => [number, steps.get(number)]));
-    }
-
-    /** The number of the last step in recorded order; undefined where none is kept. */
-    get last() {
-      let last;
-      for (const number of this.steps.keys()) last = number;
-      return last;
+  /** Takes the steps of the reply to `records` for those that are kept. */
+  begin(records) {
+    this.steps.clear();
+    this.takers.clear();
+    for (const line of records) {
+      const step = Replies.readRecord(line);
+      if (step !== null) this.add(withoutTerms(step));
     }
   }
 
-  return Object.assign(Kept, { mayChange });
-})();
+  /** Learns what the reply to a line tells. */
+  learn(line, reply) {
+    if (!mayChange(line) || Replies.isRefused(reply)) return;
+    this.changes += 1;
+    if (reply[0] === "arranged") this.arrange(line.trim().split(/ +/).slice(1).map(Number));
+    for (const told of reply) this.learnLine(told);
+  }
+
+  learnLine(told) {
+    const taken = Replies.readTaken(told);
+    if (taken !== null) return this.add(taken);
+    const undone = Replies.readUndone(told), call = Replies.readCall(told);
+    if (undone !== null) for (const number of undone) this.remove(number);
+    if (call !== null) this.texts.set(call.name, call.text);
+    return undefined;
+  }
+
+  /** The steps that went since this was asked last. */
+  takeRemoved() {
+    const { removed } = this;
+    this.removed = new Set();
+    return removed;
+  }
+
+  /** The first step in recorded order that is not among those known; undefined where all are. */
+  firstBeside(known) {
+    for (const number of this.steps.keys()) if (!known.has(number)) return number;
+    return undefined;
+  }
+
+  arrange(numbers) {
+    const steps = this.steps;
+    this.steps = new Map(numbers.map((number) => [number, steps.get(number)]));
+  }
+
+  /** The number of the last step in recorded order; undefined where none is kept. */
+  get last() {
+    let last;
+    for (const number of this.steps.keys()) last = number;
+    return last;
+  }
+}
+
+Kept.mayChange = mayChange;
 
 export default Kept;

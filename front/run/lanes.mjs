@@ -1,600 +1,615 @@
 // Puts a run into lanes, one for each process and each ask, and gives every step and goal its place. Pure functions.
-import Graph from "./graph.mjs";
-import Terms from "./terms.mjs";
-import Stuck from "./stuck.mjs";
-import Printed from "../text/printed.mjs";
+import * as Graph from "./graph.mjs";
+import * as Terms from "./terms.mjs";
+import * as Printed from "../text/printed.mjs";
+import { NO_WAITS } from "./arcs.mjs";
 
-const Lanes = (() => {
-  const between = (least, value, most) => Math.max(least, Math.min(value, most));
-  const MOST_CLEAR_ROWS = 5;
-  const MANY = 1024; // steps between two places where one may pause
-  const MOST_ARCS = 40;
-  const NARROW = 600; // the room below which names are short, and stand above their lanes where the picture is not made to fit
-  const LEAST_LEFT = 22; // points beside the first step where names stand above
-  const BOLD_LETTER = 0.62, LETTER = 0.56; // the width of a letter, as a part of the font's size
+const between = (least, value, most) => Math.max(least, Math.min(value, most));
+const MOST_CLEAR_ROWS = 5;
+const MANY = 1024; // steps between two places where one may pause
+const MOST_ARC_COLUMNS = 6; // columns of arcs for which room is kept
+const NARROW = 600; // the room below which names are short, and stand above their lanes where the picture is not made to fit
+const LEAST_LEFT = 22; // points beside the first step where names stand above
+const BOLD_LETTER = 0.62, LETTER = 0.56; // the width of a letter, as a part of the font's size
 
-  const SORTS = ["call", "unification", "assignment", "stream", "stream"]; // of the goal of a step, by the step's kind
+const SORTS = ["call", "unification", "assignment", "stream", "stream"]; // of the goal of a step, by the step's kind
 
-  const finish = (parts) => { while (!parts.next().done); };
+const finish = (parts) => { while (!parts.next().done); };
 
-  const keyOfName = (name) => Graph.keyOfGoal(...Printed.nameParts(name));
+const keyOfName = (name) => Graph.keyOfGoal(...Printed.nameParts(name));
 
-  const named = new WeakMap();
+const named = new WeakMap();
 
-  /** Finds goals by their names, once for each list of goals; yields after each goal. */
-  function* gatherNames(goals) {
-    const byKey = new Graph.PartedMap();
-    for (const goal of goals) {
-      byKey.set(keyOfName(goal.name), goal);
-      yield 0;
-    }
-    named.set(goals, byKey);
+/** Finds goals by their names, once for each list of goals; yields after each goal. */
+function* gatherNames(goals) {
+  const byKey = new Graph.PartedMap();
+  for (const goal of goals) {
+    byKey.set(keyOfName(goal.name), goal);
+    yield 0;
+  }
+  named.set(goals, byKey);
+}
+
+/** Goals by the keys of their names. */
+function goalsByKey(goals) {
+  if (!named.has(goals)) finish(gatherNames(goals));
+  return named.get(goals);
+}
+
+/** What each goal of a run is, by its name: `call` (with its predicate), `unification`, `assignment` or `stream`. */
+class GoalKinds {
+  constructor(run) {
+    this.run = run;
+    this.there = new Graph.PartedMap();
+    this.consumed = new Map();
   }
 
-  /** Goals by the keys of their names. */
-  function goalsByKey(goals) {
-    if (!named.has(goals)) finish(gatherNames(goals));
-    return named.get(goals);
+  /** The kind of a goal that is there, by its key. */
+  ofThere(key) {
+    const goal = goalsByKey(this.run.goals).get(key);
+    if (goal === undefined) return undefined;
+    if (!this.there.has(key)) this.there.set(key, { sort: goal.sort, predicate: goal.sort === "call" ? Printed.predicateOf(goal.text) : null });
+    return this.there.get(key);
   }
 
-  /** What each goal of a run is, by its name: `call` (with its predicate), `unification`, `assignment` or `stream`. */
-  class GoalKinds {
-    constructor(run) {
-      this.run = run;
-      this.there = new Graph.PartedMap();
-      this.consumed = new Map();
-    }
-
-    /** The kind of a goal that is there, by its key. */
-    ofThere(key) {
-      const goal = goalsByKey(this.run.goals).get(key);
-      if (goal === undefined) return undefined;
-      if (!this.there.has(key)) this.there.set(key, { sort: goal.sort, predicate: goal.sort === "call" ? Printed.predicateOf(goal.text) : null });
-      return this.there.get(key);
-    }
-
-    /** The kind of the goal that a step consumed. */
-    ofConsumer(index) {
-      const { graph, clauses } = this.run, kind = graph.kinds.at(index), clause = graph.clauses.at(index), key = kind === 0 ? clause : -kind;
-      if (!this.consumed.has(key)) this.consumed.set(key, { sort: SORTS[kind], predicate: kind === 0 ? (clauses[clause - 1] || { predicate: "?" }).predicate : null });
-      return this.consumed.get(key);
-    }
-
-    at(maker, place) {
-      const index = this.run.graph.consumerAt(maker, place);
-      return index === undefined || index === Graph.NONE ? this.ofThere(Graph.keyOfGoal(maker, place)) : this.ofConsumer(index);
-    }
-
-    get(name) {
-      return name === null ? undefined : this.at(...Printed.nameParts(name));
-    }
-
-    has(name) {
-      return this.get(name) !== undefined;
-    }
+  /** The kind of the goal that a step consumed. */
+  ofConsumer(index) {
+    const { graph, clauses } = this.run, kind = graph.kinds.at(index), clause = graph.clauses.at(index), key = kind === 0 ? clause : -kind;
+    if (!this.consumed.has(key)) this.consumed.set(key, { sort: SORTS[kind], predicate: kind === 0 ? (clauses[clause - 1] || { predicate: "?" }).predicate : null });
+    return this.consumed.get(key);
   }
 
-  const isSmall = (kind) => kind !== undefined && (kind.sort === "unification" || kind.sort === "assignment");
-
-  /** What a step's lane is found by: its goal, or the number of an ask, which has none. */
-  const keyOf = (step) => (step.goal === null ? String(step.number) : step.goal);
-
-  /** Lanes in their order, among which others are put; `before` of the ring itself is its end. */
-  class Ring {
-    constructor() {
-      /** @type {any} a lane, or the ring itself */
-      this.next = this;
-      this.previous = this;
-    }
-
-    put(lane, before) {
-      lane.next = before;
-      lane.previous = before.previous;
-      before.previous.next = lane;
-      before.previous = lane;
-    }
-
-    takeOut(lane) {
-      lane.previous.next = lane.next;
-      lane.next.previous = lane.previous;
-    }
+  at(maker, place) {
+    const index = this.run.graph.consumerAt(maker, place);
+    return index === undefined || index === Graph.NONE ? this.ofThere(Graph.keyOfGoal(maker, place)) : this.ofConsumer(index);
   }
 
-  function notePredicate(lane, kind, index) {
-    if (!kind || !kind.predicate || lane.predicates.includes(kind.predicate)) return;
-    lane.predicates.push(kind.predicate);
-    lane.since.push(index);
+  get(name) {
+    return name === null ? undefined : this.at(...Printed.nameParts(name));
+  }
+
+  has(name) {
+    return this.get(name) !== undefined;
+  }
+}
+
+const isSmall = (kind) => kind !== undefined && (kind.sort === "unification" || kind.sort === "assignment");
+
+/** What a step's lane is found by: its goal, or the number of an ask, which has none. */
+const keyOf = (step) => (step.goal === null ? String(step.number) : step.goal);
+
+/** Lanes in their order, among which others are put; `before` of the ring itself is its end. */
+class Ring {
+  constructor() {
+    /** @type {any} a lane, or the ring itself */
+    this.next = this;
+    this.previous = this;
+  }
+
+  put(lane, before) {
+    lane.next = before;
+    lane.previous = before.previous;
+    before.previous.next = lane;
+    before.previous = lane;
+  }
+
+  takeOut(lane) {
+    lane.previous.next = lane.next;
+    lane.next.previous = lane.previous;
+  }
+}
+
+function notePredicate(lane, kind, index) {
+  if (!kind || !kind.predicate || lane.predicates.includes(kind.predicate)) return;
+  lane.predicates.push(kind.predicate);
+  lane.since.push(index);
+}
+
+/**
+ * The lanes of a run, which grow and shrink with its graph: a step that comes or goes at the end costs what that step alone costs. A
+ * lane begins where a step (`parent`, by its index) made its first goal, or with an ask (`asked`), which nothing made, or at the left.
+ */
+class RunLanes {
+  constructor() {
+    this.ring = new Ring();
+    this.lanes = []; // as they began
+    this.ofStep = []; // by index
+    this.ofMade = []; // by the places of the goals that were made
+    this.ofQuery = new Map(); // by place in the query
+    this.isNumbered = true; // whether each lane has its index from the top
+  }
+
+  begin(name, before, index, parent, asked) {
+    const lane = { name, parent, asked, bornAt: index, count: 0, predicates: [], since: [], index: 0 };
+    this.lanes.push(lane);
+    this.ring.put(lane, before);
+    this.isNumbered = false;
+    return lane;
+  }
+
+  /** The lane of a goal that is there or was; undefined where nothing is known of it. */
+  ofGoal(graph, name) {
+    const [maker, place] = Printed.nameParts(name);
+    return maker === 0 ? this.ofQuery.get(place) : this.ofMade[graph.madeAt(maker, place)];
+  }
+
+  /** The lanes of the query's goals, from the top. */
+  beginQuery(places) {
+    if (this.lanes.length > 0) return;
+    for (const place of places) this.ofQuery.set(place, this.begin(`0.${place}`, this.ring, -1, null, null));
+  }
+
+  /** Takes away what came with the steps from an index on; yields now and then. */
+  *cut(graph, count) {
+    if (this.ofStep.length > count) this.ofMade.length = Math.min(this.ofMade.length, count < graph.count ? graph.firstMade.at(count) : graph.consumers.length);
+    while (this.ofStep.length > count) {
+      if (this.ofStep.length % MANY === 0) yield this.ofStep.length;
+      const lane = this.ofStep.pop();
+      lane.count -= 1;
+      while (lane.since.length > 0 && lane.since[lane.since.length - 1] >= count) {
+        lane.since.pop();
+        lane.predicates.pop();
+      }
+    }
+    while (this.lanes.length > 0 && this.lanes[this.lanes.length - 1].bornAt >= count) {
+      if (this.lanes.length % MANY === 0) yield this.lanes.length;
+      this.ring.takeOut(this.lanes.pop());
+      this.isNumbered = false;
+    }
   }
 
   /**
-   * The lanes of a run, which grow and shrink with its graph: a step that comes or goes at the end costs what that step alone costs. A
-   * lane begins where a step (`parent`, by its index) made its first goal, or with an ask (`asked`), which nothing made, or at the left.
+   * Takes away what came with steps from anywhere, before the graph does: `to` tells for each index where its step stands then, or NONE.
+   * Gives the lanes that stay and had such a step; yields now and then.
    */
-  class RunLanes {
-    constructor() {
-      this.ring = new Ring();
-      this.lanes = []; // as they began
-      this.ofStep = []; // by index
-      this.ofMade = []; // by the places of the goals that were made
-      this.ofQuery = new Map(); // by place in the query
-      this.isNumbered = true; // whether each lane has its index from the top
-    }
-
-    begin(name, before, index, parent, asked) {
-      const lane = { name, parent, asked, bornAt: index, count: 0, predicates: [], since: [], index: 0 };
-      this.lanes.push(lane);
-      this.ring.put(lane, before);
-      this.isNumbered = false;
-      return lane;
-    }
-
-    /** The lane of a goal that is there or was; undefined where nothing is known of it. */
-    ofGoal(graph, name) {
-      const [maker, place] = Printed.nameParts(name);
-      return maker === 0 ? this.ofQuery.get(place) : this.ofMade[graph.madeAt(maker, place)];
-    }
-
-    /** The lanes of the query's goals, from the top. */
-    beginQuery(places) {
-      if (this.lanes.length > 0) return;
-      for (const place of places) this.ofQuery.set(place, this.begin(`0.${place}`, this.ring, -1, null, null));
-    }
-
-    /** Takes away what came with the steps from an index on; yields now and then. */
-    *cut(graph, count) {
-      if (this.ofStep.length > count) this.ofMade.length = Math.min(this.ofMade.length, count < graph.count ? graph.firstMade.at(count) : graph.consumers.length);
-      while (this.ofStep.length > count) {
-        if (this.ofStep.length % MANY === 0) yield this.ofStep.length;
-        const lane = this.ofStep.pop();
-        lane.count -= 1;
-        while (lane.since.length > 0 && lane.since[lane.since.length - 1] >= count) {
-          lane.since.pop();
-          lane.predicates.pop();
-        }
-      }
-      while (this.lanes.length > 0 && this.lanes[this.lanes.length - 1].bornAt >= count) {
-        if (this.lanes.length % MANY === 0) yield this.lanes.length;
-        this.ring.takeOut(this.lanes.pop());
-        this.isNumbered = false;
+  *remove(graph, to, first) {
+    const touched = new Set();
+    let step = first, made = graph.firstMade.at(first);
+    for (let index = first; index < this.ofStep.length; index++) {
+      if (index % MANY === 0) yield index;
+      if (to[index] === Graph.NONE) {
+        touched.add(this.ofStep[index]);
+        this.ofStep[index].count -= 1;
+      } else {
+        for (let at = graph.firstMade.at(index); at < graph.madeEnd(index); at++) this.ofMade[made++] = this.ofMade[at];
+        this.ofStep[step++] = this.ofStep[index];
       }
     }
+    this.ofStep.length = step;
+    this.ofMade.length = made;
+    yield* this.moveLanes(to);
+    return touched;
+  }
 
-    /**
-     * Takes away what came with steps from anywhere, before the graph does: `to` tells for each index where its step stands then, or NONE.
-     * Gives the lanes that stay and had such a step; yields now and then.
-     */
-    *remove(graph, to, first) {
-      const touched = new Set();
-      let step = first, made = graph.firstMade.at(first);
-      for (let index = first; index < this.ofStep.length; index++) {
-        if (index % MANY === 0) yield index;
-        if (to[index] === Graph.NONE) {
-          touched.add(this.ofStep[index]);
-          this.ofStep[index].count -= 1;
-        } else {
-          for (let at = graph.firstMade.at(index); at < graph.madeEnd(index); at++) this.ofMade[made++] = this.ofMade[at];
-          this.ofStep[step++] = this.ofStep[index];
-        }
-      }
-      this.ofStep.length = step;
-      this.ofMade.length = made;
-      yield* this.moveLanes(to);
-      return touched;
-    }
-
-    /** Takes away the lanes that began with steps that go, and moves up the indexes that the others have; yields now and then. */
-    *moveLanes(to) {
-      let kept = 0;
-      for (let at = 0; at < this.lanes.length; at++) {
-        if (at % MANY === 0) yield at;
-        const lane = this.lanes[at];
-        if (lane.bornAt >= 0 && to[lane.bornAt] === Graph.NONE) {
-          this.ring.takeOut(lane);
-        } else {
-          moveUp(lane, to);
-          this.lanes[kept++] = lane;
-        }
-      }
-      this.lanes.length = kept;
-      this.isNumbered = false;
-    }
-
-    /** Finds anew which predicates some lanes were; yields now and then. */
-    *nameAnew(lanes, graph, kinds) {
-      let count = 0;
-      for (const lane of lanes) {
-        if (count++ % MANY === 0) yield count;
-        lane.predicates = [];
-        lane.since = [];
-      }
-      for (let index = 0; lanes.size > 0 && index < this.ofStep.length; index++) {
-        if (index % MANY === 0) yield index;
-        if (lanes.has(this.ofStep[index]) && graph.makers.at(index) !== Graph.NONE) notePredicate(this.ofStep[index], kinds.ofConsumer(index), index);
+  /** Takes away the lanes that began with steps that go, and moves up the indexes that the others have; yields now and then. */
+  *moveLanes(to) {
+    let kept = 0;
+    for (let at = 0; at < this.lanes.length; at++) {
+      if (at % MANY === 0) yield at;
+      const lane = this.lanes[at];
+      if (lane.bornAt >= 0 && to[lane.bornAt] === Graph.NONE) {
+        this.ring.takeOut(lane);
+      } else {
+        moveUp(lane, to);
+        this.lanes[kept++] = lane;
       }
     }
+    this.lanes.length = kept;
+    this.isNumbered = false;
+  }
 
-    /** Gives the next step its lane, and the goals that it made theirs: its own process goes on, small goals stay with it, other calls begin lanes beside it. */
-    add(graph, kinds) {
-      const index = this.ofStep.length, maker = graph.makers.at(index);
-      const known = maker === Graph.NONE ? undefined : maker === 0 ? this.ofQuery.get(graph.places.at(index)) : this.ofMade[graph.madeAt(maker, graph.places.at(index))];
-      const lane = known || this.begin(maker === Graph.NONE ? String(graph.numbers.at(index)) : `${maker}.${graph.places.at(index)}`, this.ring, index, null, maker === Graph.NONE ? index : null);
-      this.ofStep.push(lane);
-      lane.count += 1;
-      const own = maker === Graph.NONE ? undefined : kinds.ofConsumer(index);
-      notePredicate(lane, own, index);
-      this.placeMade(graph, kinds, index, lane, own);
+  /** Finds anew which predicates some lanes were; yields now and then. */
+  *nameAnew(lanes, graph, kinds) {
+    let count = 0;
+    for (const lane of lanes) {
+      if (count++ % MANY === 0) yield count;
+      lane.predicates = [];
+      lane.since = [];
     }
-
-    placeMade(graph, kinds, index, lane, own) {
-      const number = graph.numbers.at(index), count = graph.madeEnd(index) - graph.firstMade.at(index);
-      const made = Array.from({ length: count }, (none, place) => kinds.at(number, place + 1)), goesOn = goesOnIn(made, own);
-      let last = lane;
-      made.forEach((kind, place) => {
-        if (place === goesOn || isSmall(kind)) {
-          this.ofMade.push(lane);
-          return;
-        }
-        const before = goesOn >= 0 && place < goesOn ? lane : last.next, child = this.begin(`${number}.${place + 1}`, before, index, index, null);
-        this.ofMade.push(child);
-        if (before !== lane) last = child;
-      });
-    }
-
-    /** Gives each lane its index from the top, where lanes have come or gone since that was done; yields now and then. */
-    *number() {
-      let index = 0;
-      if (this.isNumbered) return;
-      for (let lane = this.ring.next; lane !== this.ring; lane = lane.next) {
-        lane.index = index++;
-        if (index % MANY === 0) yield index;
-      }
-      this.isNumbered = true;
+    for (let index = 0; lanes.size > 0 && index < this.ofStep.length; index++) {
+      if (index % MANY === 0) yield index;
+      if (lanes.has(this.ofStep[index]) && graph.makers.at(index) !== Graph.NONE) notePredicate(this.ofStep[index], kinds.ofConsumer(index), index);
     }
   }
 
-  const movedIn = (to, index) => (index === null || index < 0 ? index : to[index]);
-
-  /** Puts the places where steps stand now into a lane. */
-  function moveUp(lane, to) {
-    lane.bornAt = movedIn(to, lane.bornAt);
-    lane.parent = movedIn(to, lane.parent);
-    lane.asked = movedIn(to, lane.asked);
-    for (let at = 0; at < lane.since.length; at++) lane.since[at] = to[lane.since[at]];
+  /** Gives the next step its lane, and the goals that it made theirs: its own process goes on, small goals stay with it, other calls begin lanes beside it. */
+  add(graph, kinds) {
+    const index = this.ofStep.length, maker = graph.makers.at(index);
+    const known = maker === Graph.NONE ? undefined : maker === 0 ? this.ofQuery.get(graph.places.at(index)) : this.ofMade[graph.madeAt(maker, graph.places.at(index))];
+    const lane = known || this.begin(maker === Graph.NONE ? String(graph.numbers.at(index)) : `${maker}.${graph.places.at(index)}`, this.ring, index, null, maker === Graph.NONE ? index : null);
+    this.ofStep.push(lane);
+    lane.count += 1;
+    const own = maker === Graph.NONE ? undefined : kinds.ofConsumer(index);
+    notePredicate(lane, own, index);
+    this.placeMade(graph, kinds, index, lane, own);
   }
 
-  /**
-   * The place, among the goals that a step made, of the one in which its process goes on: the last one of the same predicate, else the
-   * last call, else the stream's rest; -1 where there is none. An ask goes on in the last call that it made.
-   */
-  function goesOnIn(made, own) {
-    let last = -1, same = -1;
+  placeMade(graph, kinds, index, lane, own) {
+    const number = graph.numbers.at(index), count = graph.madeEnd(index) - graph.firstMade.at(index);
+    const made = Array.from({ length: count }, (none, place) => kinds.at(number, place + 1)), goesOn = goesOnIn(made, own);
+    let last = lane;
     made.forEach((kind, place) => {
-      if (kind === undefined || isSmall(kind)) return;
-      last = place;
-      if (own && kind.predicate === own.predicate) same = place;
-    });
-    return same >= 0 ? same : last;
-  }
-
-  /** The places of the query's goals, those that are there and those that were consumed. */
-  function queryPlaces(run) {
-    const there = run.goals.filter((goal) => goal.name.startsWith("0.")).map((goal) => Printed.nameParts(goal.name)[1]);
-    return [...new Set([...there, ...run.graph.queryConsumers.keys()])].sort((one, other) => one - other);
-  }
-
-  /** The lanes of a run that was not put into lanes yet. */
-  function runLanes(run) {
-    const lanes = new RunLanes(), kinds = new GoalKinds(run);
-    lanes.beginQuery(queryPlaces(run));
-    while (lanes.ofStep.length < run.graph.count) lanes.add(run.graph, kinds);
-    finish(lanes.number());
-    return lanes;
-  }
-
-  /** Which lane a lane is folded into, with all that came of it: the highest of its ancestors that is to be folded, by name; null where none is. */
-  function foldsOf(whole, folded) {
-    const known = new Map();
-    const parentOf = (lane) => (lane.parent === null ? null : whole.ofStep[lane.parent]);
-    return (lane) => {
-      const way = [];
-      let at = lane;
-      while (at !== null && !known.has(at)) {
-        way.push(at);
-        at = parentOf(at);
-      }
-      let into = at === null ? null : known.get(at);
-      for (const one of way.reverse()) {
-        into = into || (folded.has(one.name) ? one : null);
-        known.set(one, into);
-      }
-      return into;
-    };
-  }
-
-  /**
-   * The lanes of some steps of a run, from one index up to another, each with its steps and the goals that are there, of all lanes of the
-   * run, which are numbered. `foldOf` gives the lane that a lane is folded into, or null.
-   * @param {(lane: any) => any} foldOf
-   */
-  function lanesIn(run, whole, from, to, goals, foldOf = () => null) {
-    const { graph } = run, kinds = new GoalKinds(run), parts = new Map(), laneOf = new Map();
-    const kept = (index) => (index !== null && index >= from && index < to ? graph.stepAt(index) : null);
-    const partOf = (own) => {
-      const into = foldOf(own), lane = into || own;
-      if (!parts.has(lane)) {
-        const predicates = lane.predicates.filter((none, at) => lane.since[at] < graph.count);
-        const fresh = { isFolded: into !== null, parent: kept(lane.parent), asked: kept(lane.asked), predicates };
-        parts.set(lane, { ...lane, ...fresh, steps: [], goals: [] });
-      }
-      return parts.get(lane);
-    };
-    if (from === 0) for (const lane of whole.ofQuery.values()) partOf(lane);
-    for (let index = from; index < to; index++) {
-      const part = partOf(whole.ofStep[index]), step = graph.stepAt(index);
-      part.steps.push(step);
-      laneOf.set(keyOf(step), part);
-    }
-    for (const goal of goals) {
-      const lane = whole.ofGoal(graph, goal.name), kind = kinds.get(goal.name);
-      if (lane === undefined) continue;
-      const part = partOf(lane);
-      part.goals.push(goal);
-      laneOf.set(goal.name, part);
-      if (kind && kind.predicate && !part.predicates.includes(kind.predicate)) part.predicates.push(kind.predicate);
-    }
-    return { lanes: [...parts.values()].sort((one, other) => one.index - other.index), laneOf, kinds };
-  }
-
-  /** The lanes of a run, from the top, each with its steps and the goals that are there. */
-  const lanesOf = (run) => lanesIn(run, runLanes(run), 0, run.graph.count, run.goals);
-
-  /** A text as a run's reader knows it: where `shown` is given, with names in the place of numbers of variables. */
-  const shownIn = (run, text) => (run.shown === undefined ? text : run.shown(text));
-
-  const shortName = (predicate) => predicate.split("/")[0];
-
-  /** What stands at the beginning of an ask's lane: the word, and its first goal with what is known by now. */
-  function askText(step, run, store, longest) {
-    const [first, ...others] = step.makes, text = (first && (run.texts.get(first) || Printed.splitOutside(step.act.slice(4), ",")[0])) || "true";
-    const told = Printed.sortOfText(text) === "call" ? Terms.briefCall(text, store) : shownIn(run, text);
-    return Terms.cut(`ask ${told}${others.length > 0 ? ", …" : ""}`, longest);
-  }
-
-  /** What stands at a lane's beginning: its call with what is known by now, or the predicates that it was. */
-  function laneText(lane, run, kinds, store, longest) {
-    if (lane.asked) return askText(lane.asked, run, store, longest);
-    const text = run.texts.get(lane.name) || (lane.goals.find((goal) => goal.name === lane.name) || { text: "" }).text;
-    const kind = kinds.get(lane.name);
-    if (kind && kind.sort === "stream") return `stream ${text.split(" ")[1] || ""}`;
-    if (isSmall(kind)) return Terms.cut(shownIn(run, text), longest);
-    if (lane.predicates.length > 1 || text === "") return Terms.cut(lane.predicates.slice(0, 3).map(shortName).join(" → "), longest);
-    return Terms.cut(Terms.briefCall(text, store), longest);
-  }
-
-  /** Whether a small goal has room in a row beside others: its line from its maker may cross no line of another maker. */
-  function fitsBeside(span, others) {
-    return others.every((other) => (other.maker === span.maker ? other.to !== span.to : other.to < span.from || span.to < other.from));
-  }
-
-  /** The row of a small goal: the first in which its line is clear of others, else the first in which its place is free. */
-  function rowFor(span, rows) {
-    const clear = rows.findIndex((others) => fitsBeside(span, others));
-    if (clear >= 0) return clear;
-    if (rows.length < MOST_CLEAR_ROWS) return rows.length;
-    const free = rows.findIndex((others) => others.every((other) => other.to !== span.to));
-    return free >= 0 ? free : rows.length;
-  }
-
-  /** Rows within a lane: reductions and inputs in row 0, bindings and sums below them, and the same for goals that are there. */
-  function placeInLane(lane, kinds, columnOf, makerOf, rowOf, columns) {
-    const isLeaf = (name) => isSmall(kinds.get(name)) && name !== lane.name;
-    const rows = [];
-    const place = (key, goal, to) => {
-      if (lane.isFolded || !isLeaf(goal)) {
-        rowOf.set(key, 0);
+      if (place === goesOn || isSmall(kind)) {
+        this.ofMade.push(lane);
         return;
       }
-      const maker = makerOf.get(goal);
-      const span = { maker, from: maker ? columnOf(maker) : -1, to }, row = rowFor(span, rows);
-      rows[row] = [...(rows[row] || []), span];
-      rowOf.set(key, row + 1);
-    };
-    for (const step of lane.steps) place(step.number, keyOf(step), columnOf(step));
-    for (const goal of lane.goals) place(goal.name, goal.name, columns);
-    lane.rows = 1 + rows.length;
-  }
-
-  const MOST_RADIUS = 11;
-
-  /** How large all is drawn: what the room allows, from steps that stand side by side as points to circles with numbers. */
-  function sizesFor(room, columns, lanes, sides, isFit) {
-    const least = isFit ? 0.5 : columns <= 30 ? 27 : 7;
-    const dx = between(least, (room - sides) / Math.max(1, columns), 56);
-    const most = lanes > 80 ? 4 : lanes > 30 ? 6 : lanes > 16 ? 8 : MOST_RADIUS;
-    const radius = between(isFit ? 1 : 3, dx * 0.3, most);
-    const kind = radius >= 8 ? "roomy" : radius >= 5 ? "dense" : "tiny";
-    const font = room < NARROW ? 10.5 : { roomy: 12.5, dense: 11, tiny: 9.5 }[kind];
-    return { dx, radius, kind, font, leaf: radius * 0.6, row: 13 + 2.3 * radius, leafRow: kind === "roomy" ? 25 : 7 + 1.3 * radius };
-  }
-
-  const RANKS = { tiny: 0, dense: 1, roomy: 2 };
-  const LOOKS = [["roomy", "long"], ["roomy", "name"], ["roomy", "none"], ["dense", "name"], ["dense", "none"], ["tiny", "none"]];
-
-  /** The radius from which on a mark is large: it holds the number of its step, which can be read. */
-  function leastLarge({ graph }) {
-    const digits = graph.count > 0 ? String(graph.numbers.at(graph.count - 1)).length : 1;
-    return digits > 4 ? MOST_RADIUS : 8;
-  }
-
-  /** The sizes of the best look for which there is room: large marks go before long labels of goals. */
-  function bestSizes(run, options, columns, lanes, letters) {
-    const large = leastLarge(run), isAs = (sizes, kind) => RANKS[sizes.kind] >= RANKS[kind] && (kind !== "roomy" || sizes.radius >= large - 0.01);
-    const looks = LOOKS.map(([kind, labels]) => {
-      const sides = (isAbove(options) ? 0 : letters * 7.4) + roomForGoals(run, labels), sizes = sizesFor(options.room, columns, lanes, sides, options.high !== undefined);
-      return { isLarge: isAs(sizes, kind), fits: sides + columns * sizes.dx < options.room + 1, sizes: { ...sizes, labels } };
+      const before = goesOn >= 0 && place < goesOn ? lane : last.next, child = this.begin(`${number}.${place + 1}`, before, index, index, null);
+      this.ofMade.push(child);
+      if (before !== lane) last = child;
     });
-    const scrolled = looks.filter(({ isLarge, sizes }) => isLarge && sizes.labels !== "long"); // where nothing fits, one scrolls
-    return (looks.find(({ isLarge, fits }) => isLarge && fits) || scrolled[0] || looks[looks.length - 1]).sizes;
   }
 
-  /** What stands after a goal that is there: `labels` is `long`, `name` or `none`. */
-  function goalLabel(run, goal, labels) {
-    if (labels === "none") return "";
-    if (labels === "name") return goal.name;
-    const told = { waits: ` waits ${goal.waitsFor.join(",")}`, failed: ` failed ${goal.refusal}` }[goal.status] || "";
-    return `${goal.name} ${Terms.cut(shownIn(run, goal.text), 26)}${Terms.cut(shownIn(run, told), 22)}`;
+  /** Gives each lane its index from the top, where lanes have come or gone since that was done; yields now and then. */
+  *number() {
+    let index = 0;
+    if (this.isNumbered) return;
+    for (let lane = this.ring.next; lane !== this.ring; lane = lane.next) {
+      lane.index = index++;
+      if (index % MANY === 0) yield index;
+    }
+    this.isNumbered = true;
   }
+}
 
-  /** The width of a column of arcs, with their variables. */
-  const arcWidth = (run, edges) => 10 + Math.max(0, ...edges.map((edge) => shownIn(run, edge.variable).length)) * 6;
+const movedIn = (to, index) => (index === null || index < 0 ? index : to[index]);
 
-  const MOST_TAKEN = 3; // steps that are shown beside their goal
-  const taken = new WeakMap(); // by lists of steps that were taken back: those of each goal that is there
+/** Puts the places where steps stand now into a lane. */
+function moveUp(lane, to) {
+  lane.bornAt = movedIn(to, lane.bornAt);
+  lane.parent = movedIn(to, lane.parent);
+  lane.asked = movedIn(to, lane.asked);
+  for (let at = 0; at < lane.since.length; at++) lane.since[at] = to[lane.since[at]];
+}
 
-  /** Finds the steps that were taken back from each of some goals; yields after each step. */
-  function* gatherTaken(shelf, goals) {
-    const there = goalsByKey(goals), byGoal = new Graph.PartedMap();
-    for (const step of shelf) {
-      const key = step.goal === null ? null : keyOfName(step.goal);
-      if (key !== null && there.has(key)) {
-        if (!byGoal.has(key)) byGoal.set(key, []);
-        byGoal.get(key).push(step);
+/**
+ * The place, among the goals that a step made, of the one in which its process goes on: the last one of the same predicate, else the
+ * last call, else the stream's rest; -1 where there is none. An ask goes on in the last call that it made.
+ */
+function goesOnIn(made, own) {
+  let last = -1, same = -1;
+  made.forEach((kind, place) => {
+    if (kind === undefined || isSmall(kind)) return;
+    last = place;
+    if (own && kind.predicate === own.predicate) same = place;
+  });
+  return same >= 0 ? same : last;
+}
+
+/** The places of the query's goals, those that are there and those that were consumed. */
+function queryPlaces(run) {
+  const there = run.goals.filter((goal) => goal.name.startsWith("0.")).map((goal) => Printed.nameParts(goal.name)[1]);
+  return [...new Set([...there, ...run.graph.queryConsumers.keys()])].sort((one, other) => one - other);
+}
+
+/** The lanes of a run that was not put into lanes yet. */
+function runLanes(run) {
+  const lanes = new RunLanes(), kinds = new GoalKinds(run);
+  lanes.beginQuery(queryPlaces(run));
+  while (lanes.ofStep.length < run.graph.count) lanes.add(run.graph, kinds);
+  finish(lanes.number());
+  return lanes;
+}
+
+/** Which lane a lane is folded into, with all that came of it: the highest of its ancestors that is to be folded, by name; null where none is. */
+function foldsOf(whole, folded) {
+  const known = new Map();
+  const parentOf = (lane) => (lane.parent === null ? null : whole.ofStep[lane.parent]);
+  return (lane) => {
+    const way = [];
+    let at = lane;
+    while (at !== null && !known.has(at)) {
+      way.push(at);
+      at = parentOf(at);
+    }
+    let into = at === null ? null : known.get(at);
+    for (const one of way.reverse()) {
+      into = into || (folded.has(one.name) ? one : null);
+      known.set(one, into);
+    }
+    return into;
+  };
+}
+
+/**
+ * The lanes of some steps of a run, from one index up to another, each with its steps and the goals that are there, of all lanes of the
+ * run, which are numbered. `foldOf` gives the lane that a lane is folded into, or null.
+ * @param {(lane: any) => any} foldOf
+ */
+function lanesIn(run, whole, from, to, goals, foldOf = () => null) {
+  const { graph } = run, kinds = new GoalKinds(run), parts = new Map(), laneOf = new Map();
+  const kept = (index) => (index !== null && index >= from && index < to ? graph.stepAt(index) : null);
+  const partOf = (own) => {
+    const into = foldOf(own), lane = into || own;
+    if (!parts.has(lane)) {
+      const predicates = lane.predicates.filter((none, at) => lane.since[at] < graph.count);
+      const fresh = { isFolded: into !== null, parent: kept(lane.parent), asked: kept(lane.asked), predicates };
+      parts.set(lane, { ...lane, ...fresh, steps: [], goals: [] });
+    }
+    return parts.get(lane);
+  };
+  if (from === 0) for (const lane of whole.ofQuery.values()) partOf(lane);
+  for (let index = from; index < to; index++) {
+    const part = partOf(whole.ofStep[index]), step = graph.stepAt(index);
+    part.steps.push(step);
+    laneOf.set(keyOf(step), part);
+  }
+  for (const goal of goals) {
+    const lane = whole.ofGoal(graph, goal.name), kind = kinds.get(goal.name);
+    if (lane === undefined) continue;
+    const part = partOf(lane);
+    part.goals.push(goal);
+    laneOf.set(goal.name, part);
+    if (kind && kind.predicate && !part.predicates.includes(kind.predicate)) part.predicates.push(kind.predicate);
+  }
+  return { lanes: [...parts.values()].sort((one, other) => one.index - other.index), laneOf, kinds };
+}
+
+/** The lanes of a run, from the top, each with its steps and the goals that are there. */
+const lanesOf = (run) => lanesIn(run, runLanes(run), 0, run.graph.count, run.goals);
+
+/** A text as a run's reader knows it: where `shown` is given, with names in the place of numbers of variables. */
+const shownIn = (run, text) => (run.shown === undefined ? text : run.shown(text));
+
+const shortName = (predicate) => predicate.split("/")[0];
+
+/** What stands at the beginning of an ask's lane: the word, and its first goal with what is known by now. */
+function askText(step, run, store, longest) {
+  const [first, ...others] = step.makes, text = (first && (run.texts.get(first) || Printed.splitOutside(step.act.slice(4), ",")[0])) || "true";
+  const told = Printed.sortOfText(text) === "call" ? Terms.briefCall(text, store) : shownIn(run, text);
+  return Terms.cut(`ask ${told}${others.length > 0 ? ", …" : ""}`, longest);
+}
+
+/** What stands at a lane's beginning: its call with what is known by now, or the predicates that it was. */
+function laneText(lane, run, kinds, store, longest) {
+  if (lane.asked) return askText(lane.asked, run, store, longest);
+  const text = run.texts.get(lane.name) || (lane.goals.find((goal) => goal.name === lane.name) || { text: "" }).text;
+  const kind = kinds.get(lane.name);
+  if (kind && kind.sort === "stream") return `stream ${text.split(" ")[1] || ""}`;
+  if (isSmall(kind)) return Terms.cut(shownIn(run, text), longest);
+  if (lane.predicates.length > 1 || text === "") return Terms.cut(lane.predicates.slice(0, 3).map(shortName).join(" → "), longest);
+  return Terms.cut(Terms.briefCall(text, store), longest);
+}
+
+/** Whether a small goal has room in a row beside others: its line from its maker may cross no line of another maker. */
+function fitsBeside(span, others) {
+  return others.every((other) => (other.maker === span.maker ? other.to !== span.to : other.to < span.from || span.to < other.from));
+}
+
+/** The row of a small goal: the first in which its line is clear of others, else the first in which its place is free. */
+function rowFor(span, rows) {
+  const clear = rows.findIndex((others) => fitsBeside(span, others));
+  if (clear >= 0) return clear;
+  if (rows.length < MOST_CLEAR_ROWS) return rows.length;
+  const free = rows.findIndex((others) => others.every((other) => other.to !== span.to));
+  return free >= 0 ? free : rows.length;
+}
+
+/** Rows within a lane: reductions and inputs in row 0, bindings and sums below them, and the same for goals that are there. */
+function placeInLane(lane, kinds, columnOf, makerOf, rowOf, columns) {
+  const isLeaf = (name) => isSmall(kinds.get(name)) && name !== lane.name;
+  const rows = [];
+  const place = (key, goal, to) => {
+    if (lane.isFolded || !isLeaf(goal)) {
+      rowOf.set(key, 0);
+      return;
+    }
+    const maker = makerOf.get(goal);
+    const span = { maker, from: maker ? columnOf(maker) : -1, to }, row = rowFor(span, rows);
+    rows[row] = [...(rows[row] || []), span];
+    rowOf.set(key, row + 1);
+  };
+  for (const step of lane.steps) place(step.number, keyOf(step), columnOf(step));
+  for (const goal of lane.goals) place(goal.name, goal.name, columns);
+  lane.rows = 1 + rows.length;
+}
+
+const MOST_RADIUS = 11, LARGEST_FONT = 12.5;
+
+/** Where the first column begins beside names of so many letters. */
+const leftBeside = (letters, font) => 24 + letters * font * BOLD_LETTER;
+
+/** How large all is drawn: what the room allows, from steps that stand side by side as points to circles with numbers. */
+function sizesFor(room, columns, lanes, sides, isFit) {
+  const least = isFit ? 0.5 : columns <= 30 ? 27 : 7;
+  const dx = between(least, (room - sides) / Math.max(1, columns), 56);
+  const most = lanes > 80 ? 4 : lanes > 30 ? 6 : lanes > 16 ? 8 : MOST_RADIUS;
+  const radius = between(isFit ? 1 : 3, dx * 0.3, most);
+  const kind = radius >= 8 ? "roomy" : radius >= 5 ? "dense" : "tiny";
+  const font = room < NARROW ? 10.5 : { roomy: LARGEST_FONT, dense: 11, tiny: 9.5 }[kind];
+  return { dx, radius, kind, font, leaf: radius * 0.6, row: 13 + 2.3 * radius, leafRow: kind === "roomy" ? 25 : 7 + 1.3 * radius };
+}
+
+const RANKS = { tiny: 0, dense: 1, roomy: 2 };
+const LOOKS = [["roomy", "long"], ["roomy", "name"], ["roomy", "none"], ["dense", "name"], ["dense", "none"], ["tiny", "none"]];
+
+/** The radius from which on a mark is large: it holds the number of its step, which can be read. */
+function leastLarge({ graph }) {
+  const digits = graph.count > 0 ? String(graph.numbers.at(graph.count - 1)).length : 1;
+  return digits > 4 ? MOST_RADIUS : 8;
+}
+
+/** The sizes of the best look for which there is room: large marks go before long labels of goals. */
+function bestSizes(run, options, columns, lanes, letters) {
+  const arcs = roomForArcs(run, lanes);
+  const large = leastLarge(run), isAs = (sizes, kind) => RANKS[sizes.kind] >= RANKS[kind] && (kind !== "roomy" || sizes.radius >= large - 0.01);
+  const isFit = options.high !== undefined, names = isFit ? leftBeside(letters, LARGEST_FONT) : letters * 7.4;
+  const looks = LOOKS.map(([kind, labels]) => {
+    const sides = (isAbove(options) ? 0 : names) + roomForGoals(run, labels) + arcs, sizes = sizesFor(options.room, columns, lanes.length, sides, isFit);
+    return { isLarge: isAs(sizes, kind), fits: sides + columns * sizes.dx < options.room + 1, sizes: { ...sizes, labels } };
+  });
+  const scrolled = looks.filter(({ isLarge, sizes }) => isLarge && sizes.labels !== "long"); // where nothing fits, one scrolls
+  return (looks.find(({ isLarge, fits }) => isLarge && fits) || scrolled[0] || looks[looks.length - 1]).sizes;
+}
+
+/** What stands after a goal that is there: `labels` is `long`, `name` or `none`. */
+function goalLabel(run, goal, labels) {
+  if (labels === "none") return "";
+  if (labels === "name") return goal.name;
+  const told = { waits: ` waits ${goal.waitsFor.join(",")}`, failed: ` failed ${goal.refusal}` }[goal.status] || "";
+  return `${goal.name} ${Terms.cut(shownIn(run, goal.text), 26)}${Terms.cut(shownIn(run, told), 22)}`;
+}
+
+/** The width of a column of arcs, with their variables. */
+const arcWidth = (run, edges) => 10 + Math.max(0, ...edges.map((edge) => shownIn(run, edge.variable).length)) * 6;
+
+const MOST_TAKEN = 3; // steps that are shown beside their goal
+const taken = new WeakMap(); // by lists of steps that were taken back: those of each goal that is there
+
+/** Finds the steps that were taken back from each of some goals; yields after each step. */
+function* gatherTaken(shelf, goals) {
+  const there = goalsByKey(goals), byGoal = new Graph.PartedMap();
+  for (const step of shelf) {
+    const key = step.goal === null ? null : keyOfName(step.goal);
+    if (key !== null && there.has(key)) {
+      if (!byGoal.has(key)) byGoal.set(key, []);
+      byGoal.get(key).push(step);
+    }
+    yield 0;
+  }
+  taken.set(shelf, byGoal);
+}
+
+/** The last steps that were taken back from a goal that is there. */
+function takenFrom(run, goal) {
+  if (!taken.has(run.shelf)) finish(gatherTaken(run.shelf, run.goals));
+  return (taken.get(run.shelf).get(keyOfName(goal.name)) || []).slice(-MOST_TAKEN);
+}
+
+/** About how much room the goals that are there take up, with their labels and what was taken back from them. */
+function roomForGoals(run, labels) {
+  if (run.goals.length === 0) return 96;
+  const widths = run.goals.map((goal) => goalLabel(run, goal, labels).length * 7 + takenFrom(run, goal).length * 30);
+  return 70 + Math.max(...widths);
+}
+
+/** Do the names of lanes stand above them? Beside them they would take too much of a narrow window. */
+const isAbove = ({ room, high }) => room < NARROW && high === undefined;
+
+/** The numbers above the columns; `before` is how many columns of the run stand before the first one. */
+function axis(columns, dx, x, before) {
+  const every = [1, 5, 10, 20, 50, 100, 200, 500].find((number) => number * dx >= 20 + 7 * String(columns + before).length) || 1000;
+  const ticks = [];
+  for (let column = 1; column <= columns; column++) {
+    const isFirst = column === 1 && every - (before % every) - 1 >= (before > 0 ? every / 2 : 0);
+    if (isFirst || (column + before) % every === 0) ticks.push({ x: x(column - 1), text: String(column + before) });
+  }
+  return ticks;
+}
+
+/** The goals that are there, each with its place, its label, and the steps that were taken back from it. */
+function placeGoals(view, run) {
+  const { sizes } = view;
+  for (const lane of view.lanes) {
+    for (const goal of lane.goals) {
+      const x = view.thereX, y = view.yOf(lane, view.rows.get(goal.name));
+      const label = goalLabel(run, goal, sizes.labels);
+      let end = x + sizes.radius + 6 + label.length * sizes.font * LETTER;
+      for (const step of takenFrom(run, goal)) {
+        end += sizes.radius * 2 + 8;
+        view.taken.push({ step, x: end - sizes.radius, y });
       }
-      yield 0;
-    }
-    taken.set(shelf, byGoal);
-  }
-
-  /** The last steps that were taken back from a goal that is there. */
-  function takenFrom(run, goal) {
-    if (!taken.has(run.shelf)) finish(gatherTaken(run.shelf, run.goals));
-    return (taken.get(run.shelf).get(keyOfName(goal.name)) || []).slice(-MOST_TAKEN);
-  }
-
-  /** About how much room the goals that are there take up, with their labels, what was taken back from them, and the arcs of waits. */
-  function roomForGoals(run, labels) {
-    if (run.goals.length === 0) return 96;
-    const widths = run.goals.map((goal) => goalLabel(run, goal, labels).length * 7 + takenFrom(run, goal).length * 30);
-    const edges = Stuck.edgesOf(run.goals).slice(0, MOST_ARCS);
-    return 70 + Math.max(...widths) + Math.min(3, edges.length) * arcWidth(run, edges);
-  }
-
-  /** Do the names of lanes stand above them? Beside them they would take too much of a narrow window. */
-  const isAbove = ({ room, high }) => room < NARROW && high === undefined;
-
-  /** The numbers above the columns; `before` is how many columns of the run stand before the first one. */
-  function axis(columns, dx, x, before) {
-    const every = [1, 5, 10, 20, 50, 100, 200, 500].find((number) => number * dx >= 20 + 7 * String(columns + before).length) || 1000;
-    const ticks = [];
-    for (let column = 1; column <= columns; column++) {
-      const isFirst = column === 1 && every - (before % every) - 1 >= (before > 0 ? every / 2 : 0);
-      if (isFirst || (column + before) % every === 0) ticks.push({ x: x(column - 1), text: String(column + before) });
-    }
-    return ticks;
-  }
-
-  /** The goals that are there, each with its place, its label, and the steps that were taken back from it. */
-  function placeGoals(view, run) {
-    const { sizes } = view;
-    for (const lane of view.lanes) {
-      for (const goal of lane.goals) {
-        const x = view.thereX, y = view.yOf(lane, view.rows.get(goal.name));
-        const label = goalLabel(run, goal, sizes.labels);
-        let end = x + sizes.radius + 6 + label.length * sizes.font * LETTER;
-        for (const step of takenFrom(run, goal)) {
-          end += sizes.radius * 2 + 8;
-          view.taken.push({ step, x: end - sizes.radius, y });
-        }
-        view.goals.set(goal.name, { goal, x, y, label, end, lane });
-      }
+      view.goals.set(goal.name, { goal, x, y, label, end, lane });
     }
   }
+}
 
-  /** The columns of arcs: each arc goes into the first in which it meets no other, short ones first. */
-  function columnsOfArcs(arcs) {
-    const columns = [], length = (arc) => Math.abs(arc.fromY - arc.toY);
-    for (const arc of [...arcs].sort((one, other) => length(one) - length(other))) {
-      const top = Math.min(arc.fromY, arc.toY) - 2, bottom = Math.max(arc.fromY, arc.toY) + 2;
-      const meets = (column) => column.some((other) => other.top < bottom && top < other.bottom);
-      const free = columns.findIndex((column) => !meets(column));
-      arc.column = free >= 0 ? free : columns.length;
-      columns[arc.column] = [...(columns[arc.column] || []), { top, bottom }];
-    }
-    return columns.length;
+/** The columns of arcs: each arc goes into the first in which it meets no other, short ones first. */
+function columnsOfArcs(arcs) {
+  const columns = [], length = (arc) => Math.abs(arc.fromY - arc.toY);
+  for (const arc of [...arcs].sort((one, other) => length(one) - length(other))) {
+    const top = Math.min(arc.fromY, arc.toY) - 2, bottom = Math.max(arc.fromY, arc.toY) + 2;
+    const meets = (column) => column.some((other) => other.top < bottom && top < other.bottom);
+    const free = columns.findIndex((column) => !meets(column));
+    arc.column = free >= 0 ? free : columns.length;
+    columns[arc.column] = [...(columns[arc.column] || []), { top, bottom }];
   }
+  return columns.length;
+}
 
-  /** The arcs from waiting goals to the goals that have their variable, beside each other at the right. Gives where they end. */
-  function placeWaits(view, run) {
-    const right = Math.max(0, ...[...view.goals.values()].map((place) => place.end));
-    const circle = Stuck.circleOf(run.goals);
-    const isInCircle = (edge) => circle.includes(edge.from) && circle[(circle.indexOf(edge.from) + 1) % circle.length] === edge.to;
-    const edges = Stuck.edgesOf(run.goals).slice(0, MOST_ARCS);
-    view.waits = edges.map((edge) => {
-      const from = view.goals.get(edge.from), to = view.goals.get(edge.to);
-      return { ...edge, fromX: from.end + 4, fromY: from.y + 4, toX: to.end + 6, toY: to.y - 4, isInCircle: isInCircle(edge) };
-    });
-    const wide = arcWidth(run, edges), columns = columnsOfArcs(view.waits);
-    for (const wait of view.waits) wait.x = right + 22 + wait.column * wide;
-    return right + 22 + columns * wide;
+/** The arcs between goals that are shown and stand as they do now: those of the circle, and the others. */
+function arcsShown({ waits = NO_WAITS, goals }) {
+  const { arcs, circle } = waits, waiting = new Set(goals.filter(({ status }) => status === "waits").map(({ name }) => name));
+  const there = new Set(goals.map(({ name }) => name)), next = new Map(circle.map(({ from, to }) => [from, to]));
+  const isTwice = ({ from, to, variable }) => circle.some((wait) => wait.from === from && wait.to === to && wait.variable === variable);
+  const all = [...circle, ...arcs.filter((arc) => !isTwice(arc))].filter(({ from, to }) => waiting.has(from) && there.has(to));
+  return all.map((arc) => ({ ...arc, isInCircle: next.get(arc.from) === arc.to }));
+}
+
+/** How much room the arcs of waits take up: the columns that they need where the goals stand below each other. */
+function roomForArcs(run, lanes) {
+  const edges = arcsShown(run);
+  const places = new Map(lanes.flatMap(({ goals }) => goals).map(({ name }, at) => [name, at * 20]));
+  const arcs = edges.map(({ from, to }) => ({ fromY: places.get(from) + 4, toY: places.get(to) - 4 }));
+  return Math.min(MOST_ARC_COLUMNS, columnsOfArcs(arcs)) * arcWidth(run, edges);
+}
+
+/** The arcs from waiting goals to the goals that have their variable, beside each other at the right. Gives where they end. */
+function placeWaits(view, run) {
+  const right = Math.max(0, ...[...view.goals.values()].map((place) => place.end));
+  const edges = arcsShown(run);
+  view.waits = edges.map((edge) => {
+    const from = view.goals.get(edge.from), to = view.goals.get(edge.to);
+    return { ...edge, fromX: from.end + 4, fromY: from.y + 4, toX: to.end + 6, toY: to.y - 4 };
+  });
+  const wide = arcWidth(run, edges), columns = columnsOfArcs(view.waits);
+  for (const wait of view.waits) wait.x = right + 22 + wait.column * wide;
+  return right + 22 + columns * wide;
+}
+
+function placeLanes(view, top) {
+  let y = top;
+  for (const lane of view.lanes) {
+    lane.y = y + view.nameRoom + view.sizes.row / 2;
+    y += view.nameRoom + view.sizes.row + (lane.rows - 1) * view.sizes.leafRow + ((lane.rows > 1 && view.sizes.kind === "roomy" ? 8 : 0) + 2) * (view.sizes.gap || 1);
   }
+  return y;
+}
 
-  function placeLanes(view, top) {
-    let y = top;
-    for (const lane of view.lanes) {
-      lane.y = y + view.nameRoom + view.sizes.row / 2;
-      y += view.nameRoom + view.sizes.row + (lane.rows - 1) * view.sizes.leafRow + ((lane.rows > 1 && view.sizes.kind === "roomy" ? 8 : 0) + 2) * (view.sizes.gap || 1);
-    }
-    return y;
+/** Makes all rows so much lower that they fit into the height that there is. */
+function shrink(view, options) {
+  const { sizes } = view, part = Math.max(0.05, (options.high - options.top) / (view.bottom - options.top));
+  Object.assign(sizes, { row: sizes.row * part, leafRow: sizes.leafRow * part, gap: part, radius: Math.max(1, Math.min(sizes.radius, sizes.row * part * 0.45)) });
+  Object.assign(sizes, { leaf: sizes.radius * 0.6, kind: sizes.radius >= 8 ? "roomy" : sizes.radius >= 5 ? "dense" : "tiny" });
+}
+
+/**
+ * The places of a run. `run` has graph, goals, shelf, texts and clauses; `options.by` is `record` or `depth`, `options.room` the
+ * width that there is, `options.top` the room above the first lane, and `options.high` the height that all is to fit into, if it is.
+ */
+function layout(run, options) {
+  const { lanes, laneOf, kinds } = run.placed || lanesOf(run);
+  const place = new Map(run.graph.steps.map((step, index) => [step.number, index]));
+  const columnOf = options.by === "depth" ? (step) => run.graph.depth.get(step.number) : (step) => place.get(step.number);
+  const columns = run.graph.steps.reduce((most, step) => Math.max(most, columnOf(step) + 1), options.leastColumns || 0);
+  const rows = new Map(), store = run.store || run.graph.store;
+  const makerOf = new Map(run.graph.steps.flatMap((step) => step.makes.map((goal) => [goal, step])));
+  for (const lane of lanes) {
+    placeInLane(lane, kinds, columnOf, makerOf, rows, columns);
+    lane.text = laneText(lane, run, kinds, store, options.room < NARROW ? 13 : run.isPart ? 22 : 30);
   }
-
-  /** Makes all rows so much lower that they fit into the height that there is. */
-  function shrink(view, options) {
-    const { sizes } = view, part = Math.max(0.05, (options.high - options.top) / (view.bottom - options.top));
-    Object.assign(sizes, { row: sizes.row * part, leafRow: sizes.leafRow * part, gap: part, radius: Math.max(1, Math.min(sizes.radius, sizes.row * part * 0.45)) });
-    Object.assign(sizes, { leaf: sizes.radius * 0.6, kind: sizes.radius >= 8 ? "roomy" : sizes.radius >= 5 ? "dense" : "tiny" });
-  }
-
-  /**
-   * The places of a run. `run` has graph, goals, shelf, texts and clauses; `options.by` is `record` or `depth`, `options.room` the
-   * width that there is, `options.top` the room above the first lane, and `options.high` the height that all is to fit into, if it is.
-   */
-  function layout(run, options) {
-    const { lanes, laneOf, kinds } = run.placed || lanesOf(run);
-    const place = new Map(run.graph.steps.map((step, index) => [step.number, index]));
-    const columnOf = options.by === "depth" ? (step) => run.graph.depth.get(step.number) : (step) => place.get(step.number);
-    const columns = run.graph.steps.reduce((most, step) => Math.max(most, columnOf(step) + 1), options.leastColumns || 0);
-    const rows = new Map(), store = run.store || run.graph.store;
-    const makerOf = new Map(run.graph.steps.flatMap((step) => step.makes.map((goal) => [goal, step])));
-    for (const lane of lanes) {
-      placeInLane(lane, kinds, columnOf, makerOf, rows, columns);
-      lane.text = laneText(lane, run, kinds, store, options.room < NARROW ? 13 : run.isPart ? 22 : 30);
-    }
-    const letters = Math.max(8, ...lanes.map((lane) => lane.name.length + lane.text.length + 2));
-    const sizes = bestSizes(run, options, columns, lanes.length, letters);
-    const left = isAbove(options) ? LEAST_LEFT : 24 + letters * sizes.font * BOLD_LETTER;
-    const x = (column) => left + column * sizes.dx + sizes.dx / 2;
-    const view = { by: options.by, lanes, laneOf, kinds, rows, makerOf, sizes, left, columns, store, marks: new Map(), goals: new Map(), taken: [], waits: [] };
-    view.yOf = (lane, row) => lane.y + row * sizes.leafRow;
-    view.nameRoom = isAbove(options) ? sizes.font + (sizes.kind === "roomy" ? 3 : 13) : 0;
-    view.isAbove = isAbove(options);
-    view.thereX = left + columns * sizes.dx + sizes.radius + 6;
+  const letters = Math.max(8, ...lanes.map((lane) => lane.name.length + lane.text.length + 2));
+  const sizes = bestSizes(run, options, columns, lanes, letters);
+  const left = isAbove(options) ? LEAST_LEFT : leftBeside(letters, sizes.font);
+  const x = (column) => left + column * sizes.dx + sizes.dx / 2;
+  const view = { by: options.by, lanes, laneOf, kinds, rows, makerOf, sizes, left, columns, store, marks: new Map(), goals: new Map(), taken: [], waits: [] };
+  view.yOf = (lane, row) => lane.y + row * sizes.leafRow;
+  view.nameRoom = isAbove(options) ? sizes.font + (sizes.kind === "roomy" ? 3 : 13) : 0;
+  view.isAbove = isAbove(options);
+  view.thereX = left + columns * sizes.dx + sizes.radius + 6;
+  view.bottom = placeLanes(view, options.top);
+  if (options.high !== undefined && view.bottom > options.high) {
+    shrink(view, options);
     view.bottom = placeLanes(view, options.top);
-    if (options.high !== undefined && view.bottom > options.high) {
-      shrink(view, options);
-      view.bottom = placeLanes(view, options.top);
-    }
-    view.ticks = axis(columns, sizes.dx, x, options.by === "depth" ? 0 : run.before || 0);
-    for (const step of run.graph.steps) {
-      const lane = laneOf.get(keyOf(step)), row = rows.get(step.number);
-      const isLeaf = step.kind === "unify" || step.kind === "assign";
-      view.marks.set(step.number, { step, lane, isFolded: lane.isFolded, x: x(columnOf(step)), y: view.yOf(lane, row), isLeaf, row });
-    }
-    placeGoals(view, run);
-    view.width = Math.max(placeWaits(view, run), left + columns * sizes.dx + (sizes.kind === "roomy" ? 80 : 30));
-    return view;
   }
+  view.ticks = axis(columns, sizes.dx, x, options.by === "depth" ? 0 : run.before || 0);
+  for (const step of run.graph.steps) {
+    const lane = laneOf.get(keyOf(step)), row = rows.get(step.number);
+    const isLeaf = step.kind === "unify" || step.kind === "assign";
+    view.marks.set(step.number, { step, lane, isFolded: lane.isFolded, x: x(columnOf(step)), y: view.yOf(lane, row), isLeaf, row });
+  }
+  placeGoals(view, run);
+  view.width = Math.max(placeWaits(view, run), left + columns * sizes.dx + (sizes.kind === "roomy" ? 80 : 30));
+  return view;
+}
 
-  return { layout, lanesOf, lanesIn, foldsOf, RunLanes, GoalKinds, queryPlaces, gatherNames, gatherTaken, shortName };
-})();
-
-export default Lanes;
+export { layout, lanesOf, lanesIn, foldsOf, RunLanes, GoalKinds, queryPlaces, gatherNames, gatherTaken, shortName, between };

@@ -1,7 +1,9 @@
 // The commands that the terminal answers itself: each gives lines, computed from what the session tells. Nothing here changes a session.
-import Stuck from "./stuck.mjs";
 import { buildingLines } from "./building.mjs";
+import { linesAtEnd } from "./let_go.mjs";
 import { plural } from "./reasons.mjs";
+import * as Waits from "./waits.mjs";
+import * as Reader from "../text/reader.mjs";
 
 /** Is a clause or goal of the predicate that a word names, as `price/2` or `price`? */
 const isOf = (predicate, word) => predicate === word || predicate?.split("/")[0] === word;
@@ -14,24 +16,23 @@ function list(session, [word]) {
 }
 
 async function stuck(session) {
-  const goals = await session.goals(), lines = Stuck.linesOf(goals, (variable) => session.run.labelOf(variable));
+  const goals = await session.goals(), waits = await Waits.waitsOf(session, goals);
+  const lines = Waits.linesOf(session, goals, waits);
   const failed = goals.filter(({ status }) => status === "failed").map(({ name, refusal }) => `${name} has failed: ${refusal}; explain ${name} and blame ${name} tell more`);
-  if (lines.length + failed.length > 0) return [...failed, ...lines, ...buildingLines(session, goals)];
-  return [goals.length === 0 ? "all is done" : "no goal waits"];
+  if (lines.length + failed.length > 0) return [...failed, ...lines, ...buildingLines(session, waits)];
+  return goals.length === 0 ? linesAtEnd(session) : ["no goal waits"];
 }
 
 /** The variables of the state that a word names: `_n_m`, or a name of the text. */
-const variablesOf = (session, word) => (/^_\d+_\d+$/.test(word) ? [word] : session.run.variablesNamed(word));
+const variablesOf = (session, word) => (Reader.isState(word) ? [word] : session.run.variablesNamed(word));
 
 /** The console knows a variable of a step as `_n_m` alone; here it may have the name that the text gives it. */
 const signOf = (session, word) => (session.variables.includes(word) ? word : variablesOf(session, word)[0] ?? word);
 
 async function holders(session, [word]) {
-  const held = Stuck.holdersOf(await session.goals()), lines = [];
-  for (const variable of variablesOf(session, word)) {
-    for (const goal of held.get(variable) ?? []) lines.push(`${session.run.labelOf(variable)}: ${goal.name} ${goal.status} ${goal.text}`);
-  }
-  return lines.length > 0 ? lines : [`no goal has ${word}`];
+  const held = Waits.holdersOf(await session.goals()), found = variablesOf(session, word).flatMap((variable) => held.get(variable) ?? []);
+  if (found.length === 0) return [`no goal has ${word}`];
+  return found.map(({ variable, goal: { name, status, text } }) => `${session.run.labelOf(variable)}: ${name} ${status} ${text}`);
 }
 
 async function records(session, [word]) {

@@ -1,6 +1,6 @@
 // Patterns of goals, as `price(3,_)`: how one is read, and which goals fit it. Pure.
-import Print from "../text/print.mjs";
-import Reader from "../text/reader.mjs";
+import * as Print from "../text/print.mjs";
+import * as Reader from "../text/reader.mjs";
 
 /** How a goal of a predicate, as `price/2`, is written: `price(_,_)`. */
 function formOf(predicate) {

@@ -1,33 +1,48 @@
 // Why something stands as it does, in words: a goal that waits or has failed, a step that others depend on.
-import Choices from "./choices.mjs";
-import Print from "../text/print.mjs";
-import Printed from "../text/printed.mjs";
-import Reader from "../text/reader.mjs";
+import * as Print from "../text/print.mjs";
+import * as Printed from "../text/printed.mjs";
+import * as Reader from "../text/reader.mjs";
+import { plural } from "../text/plural.mjs";
 import Refusals from "../protocol/refusals.mjs";
-import Stuck from "./stuck.mjs";
+import * as Replies from "../protocol/replies.mjs";
 import { buildingLines } from "./building.mjs";
+import { cut, termOf } from "./named.mjs";
+import { whyNo } from "./saying_no.mjs";
+import { lineOf, waitsOf } from "./waits.mjs";
 
 const MOST = 12; // lines of a kind that it tells
 const MOST_LOOKED = 200_000; // kept steps: of a longer run not all that depends on a step is looked for
 
-const plural = (count, word) => `${count} ${word}${count === 1 ? "" : "s"}`;
 const some = (words) => (words.length > MOST ? [...words.slice(0, MOST), ".."] : words);
 
 const labelOf = (session) => (variable) => session.run.labelOf(variable);
 
-/** What each clause says to a call that has failed. */
-async function whyNoClause(session, goal, clause) {
-  const run = await session.look();
-  return Choices.choicesOf(run, goal)
-    .filter((choice) => choice.says === "no" && (clause === undefined || choice.clause.number === Number(clause)))
-    .map((choice) => `clause ${choice.clause.number}: ${choice.why}`);
+/** Why clauses say no to a call with a text, by the lines of `clauses`. */
+function whyNoTo(session, text, lines) {
+  const call = text === undefined ? undefined : termOf(text);
+  const all = lines.map(Replies.readChoice).filter((choice) => choice?.says === "no");
+  return all.map(({ number, at }) => `clause ${number}: ${whyNo(session.clauses[number - 1], at, call)}`);
+}
+
+/** The same for a goal: how it was made tells it, but where a variable is shown, which may be bound by now. */
+async function whyTheySayNo(session, name, lines) {
+  const made = session.kept.texts.get(name), told = made === undefined ? undefined : whyNoTo(session, made, lines);
+  if (told?.every((words) => Printed.variablesIn(words).length === 0)) return told;
+  const goal = (await session.goalsTold())?.find((other) => other.name === name);
+  return whyNoTo(session, goal?.text, lines);
+}
+
+/** Why the clauses of a call that has failed say no, or one of them. */
+async function whyNoClause(session, name, clause) {
+  const lines = await session.ask(`clauses ${name}`);
+  return whyTheySayNo(session, name, lines.filter((line) => clause === undefined || Replies.numberIn(line) === Number(clause)));
 }
 
 /** The variable that was bound to the value of a term, at the end of its chain; undefined where the term is no variable, or unbound. */
 function boundVariable(run, term) {
   let last;
-  const termOf = (bound) => (typeof bound !== "string" ? bound : { variable: Reader.isState(bound) ? bound : undefined });
-  const end = Printed.endOfChain(term, ({ variable }) => termOf(run.bound.get(variable)), ({ variable }) => { last = variable; });
+  const asTerm = (bound) => (typeof bound !== "string" ? bound : { variable: Reader.isState(bound) ? bound : undefined });
+  const end = Printed.endOfChain(term, ({ variable }) => asTerm(run.bound.get(variable)), ({ variable }) => { last = variable; });
   return end.variable === undefined ? last : undefined;
 }
 
@@ -37,19 +52,24 @@ function boundBefore(run, goal) {
   return [...new Set(variables)].map((variable) => `${run.labelOf(variable)} was bound by step ${run.binders.get(variable)}; explain ${variable} tells why`);
 }
 
-/** What could not be made equal, or be computed. */
-async function whyNoValue(session, name) {
+/** What could not be made equal. */
+async function whyUnequal(session, name) {
   const run = await session.look(), goal = run.goalOf(name);
   if (goal?.right === undefined) return [];
   const [left, right] = [goal.left, goal.right].map((term) => Print.term(term, { store: run.shown, most: 60 }));
-  const why = goal.sort === "assignment" ? Choices.whyNoValue(goal.right, run) : undefined;
-  return why === undefined ? [`${left} and ${right}`, ...boundBefore(run, goal)] : [`${right}: ${why}`];
+  return [`${left} and ${right}`, ...boundBefore(run, goal)];
+}
+
+/** What could not be computed: which of these the console does not tell. */
+async function whyNoValue(session, name) {
+  const goal = await session.goalNamed(name), [, right] = / := (.*)$/.exec(goal?.text ?? "") ?? [];
+  return right === undefined ? [] : [`${cut(right, 60)}: division by zero, no integer, or beyond 64 bits`];
 }
 
 /** Who could bind what a goal waits for. */
 async function whyWaits(session, name) {
-  const goals = await session.goals();
-  return [...Stuck.linesOfGoal(goals, name, labelOf(session)), ...buildingLines(session, goals, name)];
+  const goals = (await session.goals()).filter((goal) => goal.name === name), waits = await waitsOf(session, goals);
+  return [...waits.map((wait) => lineOf(session, wait)), ...buildingLines(session, waits)];
 }
 
 /** What else goes where a step goes. */
@@ -62,7 +82,8 @@ async function hasConsequences(session, [number]) {
 /** Why a goal has failed. */
 async function whyFailed(session, name, refusal) {
   if (refusal === "F10") return whyNoClause(session, name);
-  return ["F11", "F13"].includes(refusal) ? whyNoValue(session, name) : [Refusals[refusal]];
+  if (refusal === "F11") return whyUnequal(session, name);
+  return refusal === "F13" ? whyNoValue(session, name) : [Refusals[refusal]];
 }
 
-export { MOST, plural, some, labelOf, whyNoClause, whyNoValue, whyWaits, whyFailed, hasConsequences };
+export { MOST, plural, some, labelOf, whyTheySayNo, whyNoClause, whyWaits, whyFailed, hasConsequences };

@@ -1,84 +1,117 @@
 // What becomes of a run where its program has changed: which clauses are gone, which steps go with them, and the
 // history by which the rest goes on under the new program. A clause is the same where its tokens are. The console
 // judges the history: nothing is promised here. Pure.
-import Consequences from "./consequences.mjs";
-import Tokens from "../text/tokens.mjs";
+import * as Consequences from "./consequences.mjs";
+import * as Printed from "../text/printed.mjs";
+import * as Reader from "../text/reader.mjs";
+import * as Tokens from "../text/tokens.mjs";
 
-const ReloadPlan = (() => {
-  const VARIABLE = /\b_(\d+)_(\d+)\b/g;
+const VARIABLE = /\b_(\d+)_(\d+)\b/g;
 
-  /** A clause without blanks and comments. */
-  const wordsOf = ({ text }) => Tokens.tokensOf(text).map((token) => token.text).join(" ");
+/** A clause without blanks and comments. */
+const wordsOf = ({ text }) => Tokens.tokensOf(text).map((token) => token.text).join(" ");
 
-  /**
-   * Which clause of the new program each clause of the old one is, by their numbers: clauses of one text are paired in
-   * their order.
-   */
-  function pairsOf(before, after) {
-    const places = new Map(), pairs = new Map();
-    for (const clause of after) {
-      const words = wordsOf(clause);
-      if (!places.has(words)) places.set(words, []);
-      places.get(words).push(clause.number);
-    }
-    for (const clause of before) {
-      const number = places.get(wordsOf(clause))?.shift();
-      if (number !== undefined) pairs.set(clause.number, number);
-    }
-    return pairs;
+/**
+ * Which clause of the new program each clause of the old one is, by their numbers: clauses of one text are paired in
+ * their order.
+ */
+function pairsOf(before, after) {
+  const places = new Map(), pairs = new Map();
+  for (const clause of after) {
+    const words = wordsOf(clause);
+    if (!places.has(words)) places.set(words, []);
+    places.get(words).push(clause.number);
   }
-
-  /**
-   * The plan for clauses, those before and after, and the steps of a record: the `pairs` of clauses, those that are
-   * `gone` and `come`, the steps that go, `going`, and those that stay, `staying`, both in recorded order. A step goes
-   * where its clause is gone, and where it depends on one that goes.
-   */
-  function planOf({ before, after, steps }) {
-    const pairs = pairsOf(before, after), numbers = new Set(pairs.values());
-    const wrong = steps.filter(({ clause }) => clause !== null && !pairs.has(clause)).map(({ number }) => number);
-    const reached = Consequences.reachedFrom(wrong, steps);
-    return {
-      pairs,
-      gone: before.filter(({ number }) => !pairs.has(number)),
-      come: after.filter(({ number }) => !numbers.has(number)),
-      going: steps.filter(({ number }) => reached.has(number)),
-      staying: steps.filter(({ number }) => !reached.has(number)),
-    };
+  for (const clause of before) {
+    const number = places.get(wordsOf(clause))?.shift();
+    if (number !== undefined) pairs.set(clause.number, number);
   }
+  return pairs;
+}
 
-  /** What a step does under the new program. */
-  const actOf = ({ clause, act }, pairs) => (clause === null ? act : `by ${pairs.get(clause)}`);
+/**
+ * The plan for clauses, those before and after, and the steps of a record: the `pairs` of clauses, those that are
+ * `gone` and `come`, the steps that go, `going`, and those that stay, `staying`, both in recorded order. A step goes
+ * where its clause is gone, and where it depends on one that goes.
+ */
+function planOf({ before, after, steps }) {
+  const pairs = pairsOf(before, after), numbers = new Set(pairs.values());
+  const wrong = steps.filter(({ clause }) => clause !== null && !pairs.has(clause)).map(({ number }) => number);
+  const reached = Consequences.reachedFrom(wrong, steps);
+  return {
+    pairs,
+    gone: before.filter(({ number }) => !pairs.has(number)),
+    come: after.filter(({ number }) => !numbers.has(number)),
+    going: steps.filter(({ number }) => reached.has(number)),
+    staying: steps.filter(({ number }) => !reached.has(number)),
+  };
+}
 
-  /** The lines of a history of version 1: each step has its number. */
-  function keptLines({ staying, pairs }, next) {
-    const lines = staying.map((step) => `${step.number} ${step.goal} ${actOf(step, pairs)}`);
-    return ["ghc-history 1", `steps ${lines.length}`, ...lines, `end ${next}`];
+/** Are the steps that stay numbered anew? So they are where one asked for goals: no opening can hold it. */
+const isRenumbered = ({ staying }) => staying.some(({ kind }) => kind === "ask");
+
+/** The number that a step gets which stays, as a function of its number before; that of the query is 0. */
+function numbering(plan) {
+  const isAnew = isRenumbered(plan), after = (number, place) => (isAnew ? place + 1 : number);
+  const numbers = new Map([[0, 0], ...plan.staying.map(({ number }, place) => [number, after(number, place)])]);
+  return (number) => numbers.get(Number(number));
+}
+
+/** The name that a variable has afterwards; undefined where the step goes that made it. A name of the query stays. */
+function nameAfter(plan, variable) {
+  if (!Reader.isState(variable)) return variable;
+  const [number, place] = Printed.numbersOf(variable), after = numbering(plan)(number);
+  return after === undefined ? undefined : `_${after}_${place}`;
+}
+
+/**
+ * The steps of a shelf, by their numbers, that may stand there afterwards: by clauses that stay, and of goals that
+ * are there after the steps that stay, or that one of them makes. None where the steps are numbered anew.
+ */
+function shelvedOf(plan, shelf) {
+  const { staying, pairs } = plan, shelved = [];
+  const made = new Set([0, ...staying.map(({ number }) => number)]), taken = new Set(staying.map(({ goal }) => goal));
+  for (const step of isRenumbered(plan) ? [] : shelf) {
+    const { number, goal, clause } = step, isMade = goal !== null && made.has(Number.parseInt(goal, 10));
+    if (!isMade || taken.has(goal) || (clause !== null && !pairs.has(clause))) continue;
+    made.add(number);
+    taken.add(goal);
+    shelved.push(step);
   }
+  return shelved;
+}
 
-  /**
-   * The lines of a history of version 2, whose steps are numbered anew from 1 on: version 1 cannot hold a step that
-   * asked for goals.
-   */
-  function renumberedLines({ staying, pairs }) {
-    const numbers = new Map([[0, 0], ...staying.map(({ number }, place) => [number, place + 1])]);
-    const renumbered = (number) => numbers.get(Number(number)) ?? number;
-    const renamed = (act) => act.replace(VARIABLE, (all, number, place) => `_${renumbered(number)}_${place}`);
-    const goalOf = (goal) => goal?.replace(/^\d+/, (number) => String(numbers.get(Number(number)))) ?? "-";
-    const lineOf = (step) => `${numbers.get(step.number)} ${goalOf(step.goal)} ${renamed(actOf(step, pairs))}`;
-    const lines = staying.map(lineOf);
-    return ["ghc-history 2", "opening 0 1", `entries ${lines.length}`, ...lines, "spies 0", `end ${lines.length + 1}`];
-  }
+/** The lines of steps that stay: their numbers and goals as they are afterwards, and their clauses' numbers. */
+function renumberedLines(plan) {
+  const after = numbering(plan);
+  const renamed = (act) => act.replace(VARIABLE, (all, number, place) => `_${after(number) ?? number}_${place}`);
+  const actOf = ({ clause, act }) => (clause === null ? renamed(act) : `by ${plan.pairs.get(clause)}`);
+  const goalOf = ({ goal }) => goal?.replace(/^\d+/, (number) => String(after(number))) ?? "-";
+  return plan.staying.map((step) => `${after(step.number)} ${goalOf(step)} ${actOf(step)}`);
+}
 
-  /** Are the steps that stay numbered anew? */
-  const isRenumbered = ({ staying }) => staying.some(({ kind }) => kind === "ask");
+const FIRST = 3; // the line of a history at which the steps of its opening begin
 
-  /** The text of the history by which the steps that stay go on; `next` is the number that the next step would get. */
-  function historyOf(plan, next) {
-    const lines = isRenumbered(plan) ? renumberedLines(plan) : keptLines(plan, next);
-    return lines.map((line) => `${line}\n`).join("");
-  }
+/** The step of the shelf that stands at a line of the history; undefined where none does. */
+const shelvedAt = ({ staying }, shelved, line) => shelved[line - FIRST - staying.length];
 
-  return { historyOf, isRenumbered, planOf };
-})();
+/**
+ * The text of the history by which the steps that stay go on: `next` is the number that the next step would get,
+ * `spied` has the predicates that are spied, `shelved` the steps of the shelf. Steps that keep their numbers are its
+ * opening, and those of the shelf stand after them, and are taken back; steps with other numbers are its entries.
+ */
+function historyOf(plan, { next, spied, shelved }) {
+  const isAnew = isRenumbered(plan);
+  const actOf = ({ clause, act }) => (clause === null ? act : `by ${plan.pairs.get(clause)}`);
+  const lineOf = (step) => `${step.number} ${step.goal} ${actOf(step)}`;
+  const opening = isAnew ? [] : [...plan.staying, ...shelved].map(lineOf);
+  const entries = isAnew ? renumberedLines(plan) : shelved.map(({ number }) => `undo ${number}`).reverse();
+  const [first, last] = isAnew ? [1, entries.length + 1] : [next, next];
+  const text = [
+    "ghc-history 2", `opening ${opening.length} ${first}`, ...opening, `entries ${entries.length}`, ...entries,
+    `spies ${spied.length}`, ...spied, `end ${last}`,
+  ];
+  return text.map((line) => `${line}\n`).join("");
+}
 
-export default ReloadPlan;
+export { historyOf, isRenumbered, nameAfter, planOf, shelvedAt, shelvedOf };

@@ -1,241 +1,241 @@
 // A run as the program's text and `records` tell it: the goals of its steps as written, where they stand in the text, and the names
 // that the text gives to variables. Each of them is computed when it is asked for, and kept: no name of a goal is given twice. Pure.
-import Reader from "../text/reader.mjs";
-import Printed from "../text/printed.mjs";
-import Print from "../text/print.mjs";
-import Replies from "../protocol/replies.mjs";
-import Consequences from "./consequences.mjs";
+import * as Reader from "../text/reader.mjs";
+import * as Printed from "../text/printed.mjs";
+import * as Print from "../text/print.mjs";
+import * as Replies from "../protocol/replies.mjs";
+import * as Consequences from "./consequences.mjs";
 
-const Run = (() => {
-  const numbersOf = (name) => name.match(/\d+/g).map(Number);
+const numbersOf = (name) => name.match(/\d+/g).map(Number);
 
-  /** The term in which each variable stands for what `env` gives. */
-  function substitute(term, env) {
-    return Reader.fold(term, (leaf) => (leaf.variable === undefined ? leaf : env.get(leaf.variable) ?? leaf), (name, terms) => ({ name, arguments: terms }));
+/** The term in which each variable stands for what `env` gives. */
+function substitute(term, env) {
+  return Reader.fold(term, (leaf) => (leaf.variable === undefined ? leaf : env.get(leaf.variable) ?? leaf), (name, terms) => ({ name, arguments: terms }));
+}
+
+function substituteGoal(goal, env) {
+  if (goal.sort === "call") return { sort: "call", call: substitute(goal.call, env) };
+  return { sort: goal.sort, left: substitute(goal.left, env), right: substitute(goal.right, env) };
+}
+
+const NONE = [];
+const SETTLED = { endOf: (term) => term }; // of a goal as the console prints it, in which bindings are followed
+const LONGEST = 1_048_576, SHOWN = 200; // letters of a binding that is read; letters of a longer one that are shown
+
+// What is thrown where a binding would have to be read whose text is too long for that.
+class TooLong extends Error {}
+
+class Run {
+  /** The run of a program's clauses and a query, of which no step is known. `kept` tells its steps, as they are now. */
+  constructor(clauses, query, kept) {
+    this.clauses = clauses;
+    this.kept = kept;
+    this.query = Reader.readQuery(query);
+    this.records = new Map(); // by the step's number
+    this.bound = new Map(); // what each variable is bound to: a text, or the term once it was read
+    this.binders = new Map(); // the step that bound a variable
+    this.goals = new Map(); // goals as written, by name
+    this.environments = new Map([[0, new Map(this.query.variables.map((name, place) => [name, { variable: `_0_${place + 1}` }]))]]);
+    this.addQueryGoals();
   }
 
-  function substituteGoal(goal, env) {
-    if (goal.sort === "call") return { sort: "call", call: substitute(goal.call, env) };
-    return { sort: goal.sort, left: substitute(goal.left, env), right: substitute(goal.right, env) };
+  addQueryGoals() {
+    let streams = 0;
+    this.query.goals.forEach((goal, place) => {
+      const made = substituteGoal(goal, this.environments.get(0));
+      const isStream = made.sort === "call" && made.call.name === "instream" && made.call.arguments.length === 1;
+      const name = `0.${place + 1}`;
+      if (isStream) this.goals.set(name, { sort: "stream", stream: (streams += 1), tail: made.call.arguments[0] });
+      else this.goals.set(name, made);
+    });
   }
 
-  const NONE = [];
-  const LONGEST = 1_048_576, SHOWN = 200; // letters of a binding that is read; letters of a longer one that are shown
+  /** Is what `records` told last still so? Where it is not, no binding is followed and nothing new is computed. */
+  get isFresh() {
+    return this.learnedAt === this.kept.changes;
+  }
 
-  // What is thrown where a binding would have to be read whose text is too long for that.
-  class TooLong extends Error {}
+  /** Learns the lines of the reply to `records`, as it is now. */
+  learn(lines) {
+    const told = new Set(lines.map(Replies.numberIn));
+    this.forget([...this.records.keys()].filter((number) => !told.has(number)));
+    this.learnMore(lines);
+  }
 
-  class Run {
-    /** The run of a program's clauses and a query, of which no step is known. `kept` tells its steps, as they are now. */
-    constructor(clauses, query, kept) {
-      this.clauses = clauses;
-      this.kept = kept;
-      this.query = Reader.readQuery(query);
-      this.records = new Map(); // by the step's number
-      this.bound = new Map(); // what each variable is bound to: a text, or the term once it was read
-      this.binders = new Map(); // the step that bound a variable
-      this.goals = new Map(); // goals as written, by name
-      this.environments = new Map([[0, new Map(this.query.variables.map((name, place) => [name, { variable: `_0_${place + 1}` }]))]]);
-      this.addQueryGoals();
-    }
+  /** Learns record lines of further steps: with what was known of the others that is all of the run as it is now. */
+  learnMore(lines) {
+    const unknown = lines.filter((line) => !this.records.has(Replies.numberIn(line)));
+    this.learnSteps(unknown.map(Replies.readRecord).filter((step) => step !== null));
+  }
 
-    addQueryGoals() {
-      let streams = 0;
-      this.query.goals.forEach((goal, place) => {
-        const made = substituteGoal(goal, this.environments.get(0));
-        const isStream = made.sort === "call" && made.call.name === "instream" && made.call.arguments.length === 1;
-        const name = `0.${place + 1}`;
-        if (isStream) this.goals.set(name, { sort: "stream", stream: (streams += 1), tail: made.call.arguments[0] });
-        else this.goals.set(name, made);
-      });
-    }
-
-    /** Is what `records` told last still so? Where it is not, no binding is followed and nothing new is computed. */
-    get isFresh() {
-      return this.learnedAt === this.kept.changes;
-    }
-
-    /** Learns the lines of the reply to `records`, as it is now. */
-    learn(lines) {
-      const told = new Set(lines.map(Replies.numberIn));
-      this.forget([...this.records.keys()].filter((number) => !told.has(number)));
-      this.learnMore(lines);
-    }
-
-    /** Learns record lines of further steps: with what was known of the others that is all of the run as it is now. */
-    learnMore(lines) {
-      this.learnedAt = this.kept.changes;
-      for (const line of lines) {
-        const record = this.records.has(Replies.numberIn(line)) ? null : Replies.readRecord(line);
-        if (record === null) continue;
-        const { number, reads, binds, names } = record;
-        this.records.set(number, { reads, binds, names });
-        for (const { variable, term } of binds) {
-          this.bound.set(variable, term);
-          this.binders.set(variable, number);
-        }
+  /** Learns steps as their record lines tell them. */
+  learnSteps(steps) {
+    this.learnedAt = this.kept.changes;
+    for (const { number, reads, binds, names } of steps) {
+      this.records.set(number, { reads, binds, names });
+      for (const { variable, term } of binds) {
+        this.bound.set(variable, term);
+        this.binders.set(variable, number);
       }
-    }
-
-    /** Forgets what was known of steps that went. */
-    forget(numbers) {
-      for (const number of numbers) {
-        for (const { variable } of this.records.get(number)?.binds ?? NONE) {
-          this.bound.delete(variable);
-          this.binders.delete(variable);
-        }
-        this.records.delete(number);
-      }
-    }
-
-    termOf(variable) {
-      const bound = this.bound.get(variable);
-      if (typeof bound !== "string") return bound;
-      if (bound.length > LONGEST) throw new TooLong(`the value of ${variable} has ${bound.length} letters, and is not taken apart`);
-      const term = Reader.readTerm(bound);
-      this.bound.set(variable, term);
-      return term;
-    }
-
-    /** Where the chain of a term ends, as far as it is known. */
-    endOf(term) {
-      return this.isFresh ? Printed.endOfChain(term, ({ variable }) => (variable === undefined ? undefined : this.termOf(variable))) : term;
-    }
-
-    /** The store as it is shown: of a binding that is too long to be read its first letters stand for it. */
-    get shown() {
-      const boundTo = ({ variable }) => {
-        const bound = variable === undefined ? undefined : this.bound.get(variable);
-        return bound?.length > LONGEST ? { name: `${bound.slice(0, SHOWN)}${Print.CUT}`, arguments: [] } : bound && this.termOf(variable);
-      };
-      return { endOf: (term) => (this.isFresh ? Printed.endOfChain(term, boundTo) : term) };
-    }
-
-    /** The step that made a goal; undefined for a goal of the query, and where the step is not kept. */
-    makerOf(goal) {
-      return this.kept.steps.get(numbersOf(goal)[0]);
-    }
-
-    /** The goals of an ask, as written. */
-    askedBy(step) {
-      return Reader.readQuery(step.act.slice("ask ".length)).goals;
-    }
-
-    /** A goal as written, by its name; undefined where it is not known. */
-    goalOf(name) {
-      const chain = [];
-      for (let at = name; at !== null && at !== undefined && !this.goals.has(at); at = this.makerOf(at)?.goal) chain.push(at);
-      for (const goal of chain.reverse()) {
-        const made = this.madeGoal(goal);
-        if (made !== undefined) this.goals.set(goal, made);
-      }
-      return this.goals.get(name);
-    }
-
-    /** A goal that a step made, where the goal that the step consumed is known. */
-    madeGoal(name) {
-      const step = this.makerOf(name), place = numbersOf(name)[1] - 1;
-      if (step === undefined) return undefined;
-      if (step.act.startsWith("ask ")) return this.askedBy(step)[place];
-      const consumed = this.goals.get(step.goal);
-      if (consumed === undefined) return undefined;
-      if (consumed.sort === "stream") return { ...consumed, tail: { variable: `_${step.number}_1` } };
-      const written = this.clauses[step.clause - 1]?.goals[place], env = this.environmentOf(step.number);
-      return written === undefined || env === undefined ? undefined : substituteGoal(written, env);
-    }
-
-    /** What the variables of a step's clause stand for, 0 being the query; undefined where the step takes no clause. */
-    environmentOf(number) {
-      if (this.environments.has(number)) return this.environments.get(number);
-      const step = this.kept.steps.get(number), goal = this.isFresh && step?.clause ? this.goalOf(step.goal) : undefined;
-      if (goal === undefined) return undefined;
-      const clause = this.clauses[step.clause - 1], env = new Map();
-      this.match(clause.head, goal.call, env);
-      clause.news.forEach((name, place) => env.set(name, { variable: `_${number}_${place + 1}` }));
-      this.environments.set(number, env);
-      return env;
-    }
-
-    /** Enters what each variable of a head stands for, as far as a goal tells it. */
-    match(head, call, env) {
-      const left = [[head, call]];
-      while (left.length > 0) {
-        const [pattern, term] = left.pop();
-        if (pattern.variable !== undefined) env.set(pattern.variable, term);
-        if (!pattern.arguments?.length) continue;
-        const end = this.endOf(term);
-        if (end.name !== pattern.name || end.arguments.length !== pattern.arguments.length) continue;
-        left.push(...pattern.arguments.map((argument, place) => [argument, end.arguments[place]]).reverse());
-      }
-    }
-
-    /** The text of a goal as written; empty where it is not known. */
-    textOf(name) {
-      const told = name === null ? "" : this.kept.texts.get(name);
-      if (told !== undefined) return told;
-      const goal = this.goalOf(name);
-      return goal === undefined ? "" : Print.goal(goal);
-    }
-
-    /** The predicate of a call, as `append/3`, by the text alone; undefined where the goal is no call. */
-    predicateOf(name) {
-      const written = name === null ? undefined : this.writtenGoal(name);
-      return written?.sort === "call" ? `${written.call.name}/${written.call.arguments.length}` : undefined;
-    }
-
-    /** The goal of the text of which a goal came: of a clause, of the query, or of an ask. */
-    writtenGoal(name) {
-      const [number, place] = numbersOf(name), step = this.kept.steps.get(number);
-      if (number === 0) return this.query.goals[place - 1];
-      if (step === undefined) return undefined;
-      if (step.clause) return this.clauses[step.clause - 1].goals[place - 1];
-      return step.act.startsWith("ask ") ? this.askedBy(step)[place - 1] : undefined;
-    }
-
-    /** Where a goal stands in the texts: the clause's number, or 0 for the query, and the place; undefined where it has none. */
-    placeOf(name) {
-      for (let at = name; at !== null && at !== undefined;) {
-        const [number] = numbersOf(at), written = this.writtenGoal(at), step = this.kept.steps.get(number);
-        if (written !== undefined && !step?.act.startsWith("ask ")) return { clause: step?.clause ?? 0, ...written.place };
-        at = step?.goal;
-      }
-      return undefined;
-    }
-
-    /** The name that the text gives to a variable of the state; undefined where it has none. */
-    nameOf(variable) {
-      if (!Reader.isState(variable)) return undefined;
-      const [number, place] = numbersOf(variable), step = this.kept.steps.get(number);
-      const names = number === 0 ? this.query.variables : step?.clause ? this.clauses[step.clause - 1].news : [];
-      const name = names[place - 1];
-      return name !== undefined && Reader.isWritten(name) ? name : undefined;
-    }
-
-    /** A variable with its name in words, as `_16_2 (Tail1 of step 16)`. */
-    labelOf(variable) {
-      const name = this.nameOf(variable), [number] = numbersOf(variable);
-      return name === undefined ? variable : `${variable} (${name} of ${number === 0 ? "the query" : `step ${number}`})`;
-    }
-
-    /** The variables of the state to which the text gives a name. */
-    variablesNamed(name) {
-      const found = [], place = this.query.variables.indexOf(name);
-      if (place >= 0) found.push(`_0_${place + 1}`);
-      for (const step of this.kept.steps.values()) {
-        const at = step.clause ? this.clauses[step.clause - 1].news.indexOf(name) : -1;
-        if (at >= 0) found.push(`_${step.number}_${at + 1}`);
-      }
-      return found;
-    }
-
-    /** The numbers of a step and of all that depends on it, in recorded order. */
-    consequencesOf(number) {
-      const steps = [...this.kept.steps.values()].map((step) => ({ ...step, ...this.records.get(step.number) })), reached = Consequences.reachedFrom([number], steps);
-      return [...this.kept.steps.keys()].filter((kept) => reached.has(kept));
     }
   }
 
-  return Run;
-})();
+  /** Forgets what was known of steps that went. */
+  forget(numbers) {
+    for (const number of numbers) {
+      for (const { variable } of this.records.get(number)?.binds ?? NONE) {
+        this.bound.delete(variable);
+        this.binders.delete(variable);
+      }
+      this.records.delete(number);
+    }
+  }
+
+  termOf(variable) {
+    const bound = this.bound.get(variable);
+    if (typeof bound !== "string") return bound;
+    if (bound.length > LONGEST) throw new TooLong(`the value of ${variable} has ${bound.length} letters, and is not taken apart`);
+    const term = Reader.readTerm(bound);
+    this.bound.set(variable, term);
+    return term;
+  }
+
+  /** Where the chain of a term ends, as far as it is known. */
+  endOf(term) {
+    return this.isFresh ? Printed.endOfChain(term, ({ variable }) => (variable === undefined ? undefined : this.termOf(variable))) : term;
+  }
+
+  /** The store as it is shown: of a binding that is too long to be read its first letters stand for it. */
+  get shown() {
+    const boundTo = ({ variable }) => {
+      const bound = variable === undefined ? undefined : this.bound.get(variable);
+      return bound?.length > LONGEST ? { name: `${bound.slice(0, SHOWN)}${Print.CUT}`, arguments: [] } : bound && this.termOf(variable);
+    };
+    return { endOf: (term) => (this.isFresh ? Printed.endOfChain(term, boundTo) : term) };
+  }
+
+  /** The step that made a goal; undefined for a goal of the query, and where the step is not kept. */
+  makerOf(goal) {
+    return this.kept.steps.get(numbersOf(goal)[0]);
+  }
+
+  /** The goals of an ask, as written. */
+  askedBy(step) {
+    return Reader.readQuery(step.act.slice("ask ".length)).goals;
+  }
+
+  /** A goal as written, by its name; undefined where it is not known. */
+  goalOf(name) {
+    const chain = [];
+    for (let at = name; at !== null && at !== undefined && !this.goals.has(at); at = this.makerOf(at)?.goal) chain.push(at);
+    for (const goal of chain.reverse()) {
+      const made = this.madeGoal(goal);
+      if (made !== undefined) this.goals.set(goal, made);
+    }
+    return this.goals.get(name);
+  }
+
+  /** A goal that a step made, where the goal that the step consumed is known. */
+  madeGoal(name) {
+    const step = this.makerOf(name), place = numbersOf(name)[1] - 1;
+    if (step === undefined) return undefined;
+    if (step.act.startsWith("ask ")) return this.askedBy(step)[place];
+    const consumed = this.goals.get(step.goal);
+    if (consumed === undefined) return undefined;
+    if (consumed.sort === "stream") return { ...consumed, tail: { variable: `_${step.number}_1` } };
+    const written = this.clauses[step.clause - 1]?.goals[place], env = this.environmentOf(step.number);
+    return written === undefined || env === undefined ? undefined : substituteGoal(written, env);
+  }
+
+  /** What each variable of a head stands for in a call, as far as the two are alike; `store.endOf` follows bindings. */
+  static bindingsOf(head, call, store = SETTLED) {
+    const bindings = new Map(), left = [[head, call]];
+    while (left.length > 0) {
+      const [pattern, term] = left.pop();
+      if (pattern.variable !== undefined) bindings.set(pattern.variable, term);
+      if (!pattern.arguments?.length) continue;
+      const end = store.endOf(term);
+      if (end.name !== pattern.name || end.arguments.length !== pattern.arguments.length) continue;
+      left.push(...pattern.arguments.map((argument, place) => [argument, end.arguments[place]]).reverse());
+    }
+    return bindings;
+  }
+
+  /** What the variables of a step's clause stand for, 0 being the query; undefined where the step takes no clause. */
+  environmentOf(number) {
+    if (this.environments.has(number)) return this.environments.get(number);
+    const step = this.kept.steps.get(number), goal = this.isFresh && step?.clause ? this.goalOf(step.goal) : undefined;
+    if (goal === undefined) return undefined;
+    const clause = this.clauses[step.clause - 1], env = Run.bindingsOf(clause.head, goal.call, this);
+    clause.news.forEach((name, place) => env.set(name, { variable: `_${number}_${place + 1}` }));
+    this.environments.set(number, env);
+    return env;
+  }
+
+  /** The text of a goal as written; empty where it is not known. */
+  textOf(name) {
+    const told = name === null ? "" : this.kept.texts.get(name);
+    if (told !== undefined) return told;
+    const goal = this.goalOf(name);
+    return goal === undefined ? "" : Print.goal(goal);
+  }
+
+  /** The predicate of a call, as `append/3`, by the text alone; undefined where the goal is no call. */
+  predicateOf(name) {
+    const written = name === null ? undefined : this.writtenGoal(name);
+    return written?.sort === "call" ? `${written.call.name}/${written.call.arguments.length}` : undefined;
+  }
+
+  /** The goal of the text of which a goal came: of a clause, of the query, or of an ask. */
+  writtenGoal(name) {
+    const [number, place] = numbersOf(name), step = this.kept.steps.get(number);
+    if (number === 0) return this.query.goals[place - 1];
+    if (step === undefined) return undefined;
+    if (step.clause) return this.clauses[step.clause - 1].goals[place - 1];
+    return step.act.startsWith("ask ") ? this.askedBy(step)[place - 1] : undefined;
+  }
+
+  /** Where a goal stands in the texts: the clause's number, or 0 for the query, and the place; undefined where it has none. */
+  placeOf(name) {
+    for (let at = name; at !== null && at !== undefined;) {
+      const [number] = numbersOf(at), written = this.writtenGoal(at), step = this.kept.steps.get(number);
+      if (written !== undefined && !step?.act.startsWith("ask ")) return { clause: step?.clause ?? 0, ...written.place };
+      at = step?.goal;
+    }
+    return undefined;
+  }
+
+  /** The name that the text gives to a variable of the state; undefined where it has none. */
+  nameOf(variable) {
+    if (!Reader.isState(variable)) return undefined;
+    const [number, place] = numbersOf(variable), step = this.kept.steps.get(number);
+    const names = number === 0 ? this.query.variables : step?.clause ? this.clauses[step.clause - 1].news : [];
+    const name = names[place - 1];
+    return name !== undefined && Reader.isWritten(name) ? name : undefined;
+  }
+
+  /** A variable with its name in words, as `_16_2 (Tail1 of step 16)`. */
+  labelOf(variable) {
+    const name = this.nameOf(variable), [number] = numbersOf(variable);
+    return name === undefined ? variable : `${variable} (${name} of ${number === 0 ? "the query" : `step ${number}`})`;
+  }
+
+  /** The variables of the state to which the text gives a name. */
+  variablesNamed(name) {
+    const found = [], place = this.query.variables.indexOf(name);
+    if (place >= 0) found.push(`_0_${place + 1}`);
+    for (const step of this.kept.steps.values()) {
+      const at = step.clause ? this.clauses[step.clause - 1].news.indexOf(name) : -1;
+      if (at >= 0) found.push(`_${step.number}_${at + 1}`);
+    }
+    return found;
+  }
+
+  /** The numbers of a step and of all that depends on it, in recorded order. */
+  consequencesOf(number) {
+    const steps = [...this.kept.steps.values()].map((step) => ({ ...step, ...this.records.get(step.number) })), reached = Consequences.reachedFrom([number], steps);
+    return [...this.kept.steps.keys()].filter((kept) => reached.has(kept));
+  }
+}
 
 export default Run;

@@ -1,126 +1,124 @@
 // What is known of a run: its graph, lanes, goals and the rest, which follow what the console tells. A long run is read in small parts. Pure.
-import Graph from "./graph.mjs";
-import Lanes from "./lanes.mjs";
-import Stuck from "./stuck.mjs";
-import Replies from "../protocol/replies.mjs";
+import * as Graph from "./graph.mjs";
+import { NO_WAITS } from "./arcs.mjs";
+import * as Lanes from "./lanes.mjs";
+import * as Replies from "../protocol/replies.mjs";
+import * as Clauses from "../text/clauses.mjs";
 
-const RunModel = (() => {
-  const PART = 64, MANY = 4096; // lines that are read, and steps that are moved, between two places where the reader may pause
+const PART = 64, MANY = 4096; // lines that are read, and steps that are moved, between two places where the reader may pause
 
-  class RunModel {
-    constructor(program, query = "") {
-      this.given = { program, query };
-      this.graph = new Graph.RunGraph();
-      this.lanes = new Lanes.RunLanes();
-      this.goals = [];
-      this.goalsRefused = ""; // why the console did not tell them
-      this.shelf = [];
-      this.texts = new Map();
-      this.clauses = Graph.readClauses(program);
-      this.isWhole = true; // not while a change is read
-      this.version = 0; // grows with each change
+class RunModel {
+  constructor(program, query = "") {
+    this.given = { program, query };
+    this.graph = new Graph.RunGraph();
+    this.lanes = new Lanes.RunLanes();
+    this.goals = [];
+    this.goalsRefused = ""; // why the console did not tell them
+    this.why = []; // where nothing goes on: what is not bound, with what `whynot` tells of it
+    this.waits = NO_WAITS; // who waits for whom, as far as it was asked
+    this.shelf = [];
+    this.texts = new Map();
+    this.clauses = Clauses.clausesOf(program);
+    this.isWhole = true; // not while a change is read
+    this.version = 0; // grows with each change
+  }
+
+  /**
+   * Follows what the worker tells. Steps have gone (`gone`, their numbers); or the first `kept` steps stay, all later ones go, and those of
+   * `lines` come. Beside it stand the lines of `goals` and `shelf`, one after the other, and texts. It yields how many steps
+   * are read, each time that it may pause; `isWhole` is false until it has ended.
+   */
+  *change(look, lines) {
+    this.version += 1;
+    this.isWhole = false;
+    if (look.gone !== null) yield* this.takeAway(look.gone);
+    else {
+      yield* this.cut(look.kept);
+      yield* this.add(lines);
     }
+    this.goals = yield* this.inParts(look.goals, Replies.readGoals);
+    yield* this.often(Lanes.gatherNames(this.goals));
+    this.goalsRefused = look.goalsRefused;
+    yield* this.addLanes();
+    yield* this.lanes.number();
+    for (const [name, text] of look.texts) this.texts.set(name, text);
+    this.shelf = yield* this.inParts(look.shelf, Replies.readShelf);
+    yield* this.often(Lanes.gatherTaken(this.shelf, this.goals));
+    this.version += 1;
+    this.isWhole = true;
+  }
 
-    /**
-     * Follows what the worker tells. Steps have gone (`gone`, their numbers); or the first `kept` steps stay, all later ones go, and those of
-     * `lines` come. Beside it stand the lines of `goals` and `shelf`, one after the other, and texts. It yields how many steps
-     * are read, each time that it may pause; `isWhole` is false until it has ended.
-     */
-    *change(look, lines) {
-      this.version += 1;
-      this.isWhole = false;
-      if (look.gone !== null) yield* this.takeAway(look.gone);
-      else {
-        yield* this.cut(look.kept);
-        yield* this.add(lines);
-      }
-      this.goals = yield* this.inParts(look.goals, Replies.readGoals);
-      yield* this.often(Lanes.gatherNames(this.goals));
-      this.goalsRefused = look.goalsRefused;
-      if (this.goals.some(({ status }) => status === "waits")) yield* this.often(Stuck.study(this.goals));
-      yield* this.addLanes();
-      yield* this.lanes.number();
-      for (const [name, text] of look.texts) this.texts.set(name, text);
-      this.shelf = yield* this.inParts(look.shelf, Replies.readShelf);
-      yield* this.often(Lanes.gatherTaken(this.shelf, this.goals));
-      this.version += 1;
-      this.isWhole = true;
+  /** Does what yields after each goal or step; yields now and then. */
+  *often(parts) {
+    for (let count = 1; !parts.next().done; count++) if (count % PART === 0) yield this.graph.count;
+  }
+
+  /** What lines tell, read one by one. */
+  *inParts(lines, read) {
+    const all = [];
+    let count = 0;
+    for (const line of lines) {
+      all.push(...read([line]));
+      count += 1;
+      if (count % PART === 0) yield this.graph.count;
     }
+    return all;
+  }
 
-    /** Does what yields after each goal or step; yields now and then. */
-    *often(parts) {
-      for (let count = 1; !parts.next().done; count++) if (count % PART === 0) yield this.graph.count;
-    }
-
-    /** What lines tell, read one by one. */
-    *inParts(lines, read) {
-      const all = [];
-      let count = 0;
-      for (const line of lines) {
-        all.push(...read([line]));
-        count += 1;
-        if (count % PART === 0) yield this.graph.count;
-      }
-      return all;
-    }
-
-    /** Takes away all steps after the first ones. */
-    *cut(kept) {
-      const { graph, lanes } = this;
-      yield* lanes.cut(graph, kept);
-      while (graph.count > kept) {
-        graph.pop();
-        if (graph.count % PART === 0) yield graph.count;
-      }
-    }
-
-    *add(lines) {
-      const { graph } = this;
-      for (const line of lines) {
-        graph.push(line);
-        if (graph.count % PART === 0) yield graph.count;
-      }
-    }
-
-    /** Takes steps away, on which no step that stays depends. */
-    *takeAway(numbers) {
-      const { graph, lanes } = this, to = new Int32Array(graph.count), first = yield* this.markGone(numbers, to);
-      if (first === graph.count - numbers.length) {
-        yield* this.cut(first);
-        return;
-      }
-      for (let index = 0, next = 0; index < to.length; index++) {
-        if (index % MANY === 0) yield index;
-        if (to[index] !== Graph.NONE) to[index] = next++;
-      }
-      const touched = yield* lanes.remove(graph, to, first);
-      yield* graph.remove(to, first);
-      yield* lanes.nameAnew(touched, graph, new Lanes.GoalKinds(this));
-    }
-
-    /** Puts NONE into the places of the steps of some numbers; gives the first of these places. */
-    *markGone(numbers, to) {
-      let first = to.length;
-      for (let at = 0; at < numbers.length; at++) {
-        if (at % MANY === 0) yield at;
-        const index = this.graph.indexOf(numbers[at]);
-        to[index] = Graph.NONE;
-        first = Math.min(first, index);
-      }
-      return first;
-    }
-
-    *addLanes() {
-      const { graph, lanes } = this, kinds = new Lanes.GoalKinds(this);
-      if (lanes.lanes.length === 0) lanes.beginQuery(Lanes.queryPlaces(this));
-      while (lanes.ofStep.length < graph.count) {
-        lanes.add(graph, kinds);
-        if (lanes.ofStep.length % PART === 0) yield graph.count;
-      }
+  /** Takes away all steps after the first ones. */
+  *cut(kept) {
+    const { graph, lanes } = this;
+    yield* lanes.cut(graph, kept);
+    while (graph.count > kept) {
+      graph.pop();
+      if (graph.count % PART === 0) yield graph.count;
     }
   }
 
-  return RunModel;
-})();
+  *add(lines) {
+    const { graph } = this;
+    for (const line of lines) {
+      graph.push(line);
+      if (graph.count % PART === 0) yield graph.count;
+    }
+  }
+
+  /** Takes steps away, on which no step that stays depends. */
+  *takeAway(numbers) {
+    const { graph, lanes } = this, to = new Int32Array(graph.count), first = yield* this.markGone(numbers, to);
+    if (first === graph.count - numbers.length) {
+      yield* this.cut(first);
+      return;
+    }
+    for (let index = 0, next = 0; index < to.length; index++) {
+      if (index % MANY === 0) yield index;
+      if (to[index] !== Graph.NONE) to[index] = next++;
+    }
+    const touched = yield* lanes.remove(graph, to, first);
+    yield* graph.remove(to, first);
+    yield* lanes.nameAnew(touched, graph, new Lanes.GoalKinds(this));
+  }
+
+  /** Puts NONE into the places of the steps of some numbers; gives the first of these places. */
+  *markGone(numbers, to) {
+    let first = to.length;
+    for (let at = 0; at < numbers.length; at++) {
+      if (at % MANY === 0) yield at;
+      const index = this.graph.indexOf(numbers[at]);
+      to[index] = Graph.NONE;
+      first = Math.min(first, index);
+    }
+    return first;
+  }
+
+  *addLanes() {
+    const { graph, lanes } = this, kinds = new Lanes.GoalKinds(this);
+    if (lanes.lanes.length === 0) lanes.beginQuery(Lanes.queryPlaces(this));
+    while (lanes.ofStep.length < graph.count) {
+      lanes.add(graph, kinds);
+      if (lanes.ofStep.length % PART === 0) yield graph.count;
+    }
+  }
+}
 
 export default RunModel;

@@ -1,19 +1,20 @@
 // What the terminal adds after a reply: why it was refused and what would help, what a stop means, and the names of variables.
-import Asking from "../protocol/asking.mjs";
-import BlameLines from "../protocol/blame_lines.mjs";
-import Causes from "../text/causes.mjs";
-import GoalTree from "./goal_tree.mjs";
-import Print from "../text/print.mjs";
-import Reader from "../text/reader.mjs";
-import Stuck from "./stuck.mjs";
-import Nearest from "../text/nearest.mjs";
+import * as Asking from "../protocol/asking.mjs";
+import * as BlameLines from "../protocol/blame_lines.mjs";
+import * as Causes from "../text/causes.mjs";
+import * as GoalTree from "./goal_tree.mjs";
+import Run from "./run.mjs";
+import * as Print from "../text/print.mjs";
+import * as Reader from "../text/reader.mjs";
+import { nearest, predicatesNamed } from "../text/nearest.mjs";
 import Refusals from "../protocol/refusals.mjs";
 import { causeInTerm } from "../text/causes_in_terms.mjs";
-import Replies from "../protocol/replies.mjs";
+import * as Replies from "../protocol/replies.mjs";
+import * as WhyNotLines from "../protocol/why_not_lines.mjs";
 import { afterPart } from "./blame_words.mjs";
-import { MOST, plural, some, labelOf, whyNoClause, whyNoValue, whyWaits, whyFailed, hasConsequences } from "./reasons.mjs";
-
-const { nearest, predicatesNamed } = Nearest;
+import { linesAtEnd, takenWords, whoLetGo } from "./let_go.mjs";
+import { holdersOf, lostLines } from "./waits.mjs";
+import { MOST, plural, some, labelOf, whyTheySayNo, whyNoClause, whyWaits, whyFailed, hasConsequences } from "./reasons.mjs";
 
 const BEGINNING = 200; // letters that it tells of a value that is too long
 
@@ -81,13 +82,13 @@ function badText(session, meaning, reply) {
 
 const HELPERS = {
   F5: noPredicate, F7: noGoal, F8: noSuchClause, F9: (session, [name]) => whyWaits(session, name), F10: (session, [name, clause]) => whyNoClause(session, name, clause),
-  F11: (session, [name]) => whyNoValue(session, name), F13: (session, [name]) => whyNoValue(session, name), F14: noOpenStream, F16: notKept, F17: hasConsequences,
+  F11: (session, [name]) => whyFailed(session, name, "F11"), F13: (session, [name]) => whyFailed(session, name, "F13"), F14: noOpenStream, F16: notKept, F17: hasConsequences,
   F21: notLawful, F23: noVariable,
 };
 
 /** How a value begins that is too long to be printed. */
 async function beginningOf(session, [word]) {
-  const run = await session.look(), variable = /^_\d+_\d+$/.test(word) ? word : run.variablesNamed(word)[0];
+  const run = await session.look(), variable = Reader.isState(word) ? word : run.variablesNamed(word)[0];
   if (variable === undefined) return [];
   return [`it begins so: ${Print.term({ variable }, { store: run.shown, most: BEGINNING })}`];
 }
@@ -100,7 +101,7 @@ async function notBlamed(session, [subject, ...words]) {
 
 /** Which of the variables is unknown. */
 function unknownOf(session, words) {
-  const isKnown = (word) => session.variables.includes(word) || /^_\d+_\d+$/.test(word) || BlameLines.readAnswer(word) !== null;
+  const isKnown = (word) => session.variables.includes(word) || Reader.isState(word) || BlameLines.readAnswer(word) !== null;
   return noVariable(session, [words.find((word) => !isKnown(word)) ?? words[0]]);
 }
 
@@ -126,17 +127,21 @@ const STOPS = {
   limit: ["leap goes on"], full: ["no step has room any more: 1,000,000 are kept, or all numbers are used up"], memory: ["memory was refused; what was done stands"],
 };
 
+/** Why a run has nothing left to do. */
+async function afterQuiet(session, goals) {
+  const count = goals.filter(({ status }) => status === "waits").length, streams = goals.filter(({ status }) => status === "stream").length;
+  const open = streams > 0 ? [`${plural(streams, "input stream")} open: in K TERM feeds one, end K closes it`] : [];
+  if (count > 0) return [`${plural(count, "goal")} wait${count === 1 ? "s" : ""}: stuck tells why`, ...await lostLines(session, goals), ...open];
+  if (open.length > 0) return open;
+  return goals.length === 0 ? linesAtEnd(session) : ["nothing that comes of it is left to do"];
+}
+
 /** What the last line of a run means. */
 async function afterStop(session, line) {
   const [, reason, name] = line.split(" "), goals = await session.goalsTold();
   if (goals === undefined || STOPS[reason] !== undefined) return STOPS[reason] ?? [];
   const goal = goals.find((other) => other.name === name);
-  if (reason === "quiet") {
-    const count = goals.filter(({ status }) => status === "waits").length, streams = goals.filter(({ status }) => status === "stream").length;
-    const open = streams > 0 ? [`${plural(streams, "input stream")} open: in K TERM feeds one, end K closes it`] : [];
-    if (count > 0) return [`${plural(count, "goal")} wait${count === 1 ? "s" : ""}: stuck tells why`, ...open];
-    return open.length > 0 ? open : [goals.length === 0 ? "all is done" : "nothing that comes of it is left to do"];
-  }
+  if (reason === "quiet") return afterQuiet(session, goals);
   if (reason === "clash" && goal) return [`${goal.text} has failed: ${goal.refusal}`, ...await whyFailed(session, name, goal.refusal)];
   return reason === "spied" && goal ? [`next is ${goal.text}: step ${name} takes it`] : [];
 }
@@ -156,13 +161,14 @@ async function afterSettling(session, reply) {
 }
 
 /** Who could bind a variable that `show` tells to be unbound. */
-async function afterShow(session, reply) {
+async function afterShow(session, [name], reply) {
   const [, variable] = /^\S+ = (_\d+_\d+)$/.exec(reply[0]) ?? [];
   if (variable === undefined) return [];
-  const goals = await session.goalsTold(), holders = Stuck.holdersOf(goals ?? []).get(variable) ?? [];
+  const goals = await session.goalsTold(), holders = holdersOf(goals ?? []).get(variable) ?? [];
   if (goals === undefined) return [`${session.run.labelOf(variable)} is unbound`];
-  const held = holders.length === 0 ? "no goal has it" : `held by ${some(holders.map(({ name }) => name)).join(", ")}`;
-  return [`${session.run.labelOf(variable)} is unbound; ${held}`];
+  const held = `held by ${some(holders.map(({ goal }) => goal.name)).join(", ")}`, isHeld = holders.length > 0;
+  const who = isHeld ? held : `no goal has it${await whoLetGo(session, name)}`;
+  return [`${session.run.labelOf(variable)} is unbound; ${who}`];
 }
 
 function afterGoals(session, reply) {
@@ -198,22 +204,23 @@ function namesOfAll(session, reply) {
 }
 
 const SCREEN = 20, DEEPEST = 12; // lines of a tree that are shown at once; how far its lines are moved in at most
-const MANY = 200; // lines of a tree for which the goals are not asked for one by one
 
-/** The text of the goal that a step took, as it was written. */
-async function writtenText(session, step, isOfMany) {
-  const known = session.kept.texts.get(step.goal);
-  if (known !== undefined || !isOfMany) return known ?? session.goalTaken(step);
-  return (await session.look()).textOf(step.goal);
+/** The run of the steps of an explanation, which tells their goals as written: none of them rests on another step. */
+function runOf({ clauses, given, kept: { texts } }, steps) {
+  const kept = { steps: new Map(steps.map((step) => [step.number, step])), texts, changes: 0 };
+  const run = new Run(clauses, given.query, kept);
+  run.learnSteps(steps);
+  return run;
 }
 
 /** The steps of an explanation as a tree, with their goals as they stood then; a screen of it, where not all is asked for. */
 async function treeLines(session, { words: [subject], isWhole }, reply) {
   const steps = GoalTree.stepsOf(reply), { rows, left } = GoalTree.treeOf(steps, isWhole ? Infinity : SCREEN), lines = [];
   const values = new GoalTree.Values(steps), places = new Map(steps.map(({ number }, place) => [number, place]));
+  const run = runOf(session, steps), textOf = async (step) => run.textOf(step.goal) || session.goalTaken(step);
   for (const row of rows) {
     const { step, depth } = row, store = values.before(places.get(step.number));
-    const text = step.goal === null ? undefined : GoalTree.goalText(await writtenText(session, step, rows.length > MANY), store);
+    const text = step.goal === null ? undefined : GoalTree.goalText(await textOf(step), store);
     lines.push("  ".repeat(Math.min(depth, DEEPEST)) + GoalTree.wordsOf(row, text));
   }
   const hidden = left + rows.reduce((sum, { below }) => sum + below, 0);
@@ -228,6 +235,13 @@ async function afterExplain(session, meaning, reply) {
   return [...namesOfFirst(session, reply), ...(rests === undefined ? [] : [rests]), ...await treeLines(session, meaning, reply), ...some(lines)];
 }
 
+/** After `whynot`: variables by the names of the text, and the clauses of the steps that let them go. */
+function afterWhyNot(session, reply) {
+  const { lost } = WhyNotLines.read(reply), steps = new Map(lost.map((step) => [step.number, step]));
+  const taken = [...steps.values()].map((step) => `step ${step.number} took ${takenWords(session, step)}`);
+  return [...namesOfAll(session, reply), ...some(taken)];
+}
+
 /** After `keep`: what the last line counts. */
 function afterKeep(reply) {
   const [, count] = /^kept (\d+)$/.exec(reply.at(-1)) ?? [];
@@ -240,14 +254,15 @@ async function notesAfter(session, meaning, reply) {
   if (Replies.isRefused(reply)) return afterRefusal(session, meaning, reply);
   const last = reply.at(-1) ?? "";
   if (last.startsWith("stopped ")) return afterStop(session, last);
-  if (meaning.name === "show") return afterShow(session, reply);
+  if (meaning.name === "show") return afterShow(session, meaning.words, reply);
   if (meaning.name === "goals") return afterGoals(session, reply);
   if (meaning.name === "who") return namesOfFirst(session, reply);
   if (meaning.name === "explain") return afterExplain(session, meaning, reply);
   if (meaning.name === "part") return afterPart(session, meaning.words[0], reply);
+  if (meaning.name === "whynot") return afterWhyNot(session, reply);
   if (meaning.name === "keep") return afterKeep(reply);
   if (meaning.name === "goal") return afterGoal(session, meaning.words);
-  if (meaning.name === "clauses") return [...await whyNoClause(session, meaning.words[0]), ...namesOfAll(session, reply)];
+  if (meaning.name === "clauses") return [...await whyTheySayNo(session, meaning.words[0], reply), ...namesOfAll(session, reply)];
   return afterSettling(session, reply);
 }
 

@@ -1,64 +1,53 @@
 // Terms in few letters, for labels: what a goal's arguments are bound to, as far as it is known. Pure functions.
-import Printed from "../text/printed.mjs";
+import * as Printed from "../text/printed.mjs";
+import * as Reader from "../text/reader.mjs";
 
-const Terms = (() => {
-  const VARIABLE = /^_\d+_\d+$/;
-  const UNKNOWN = "·";
-  const LONGEST_LIST = 13;
+const UNKNOWN = "·";
+const LONGEST_LIST = 13;
 
-  /** What each variable is bound to, by the steps of a record. */
-  function storeOf(steps) {
-    const store = new Map();
-    for (const step of steps) for (const binding of step.binds) store.set(binding.variable, binding.term);
-    return store;
+/** Where the chain of a term ends. */
+const endOf = (term, store) => Printed.endOfChain(term, (end) => store.get(end));
+
+/** The elements of a list as far as they are known, and what comes after them: nothing, or something unknown. */
+function elementsOf(term, store) {
+  const elements = [];
+  let rest = endOf(term, store);
+  while (rest.startsWith("[") && rest !== "[]" && elements.length < 40) {
+    const [heads, tail] = Printed.splitOutside(rest.slice(1, -1), "|");
+    elements.push(...Printed.splitOutside(heads, ","));
+    rest = tail === undefined ? "[]" : endOf(tail, store);
   }
+  return { elements, isClosed: rest === "[]" };
+}
 
-  /** Where the chain of a term ends. */
-  const endOf = (term, store) => Printed.endOfChain(term, (end) => store.get(end));
-
-  /** The elements of a list as far as they are known, and what comes after them: nothing, or something unknown. */
-  function elementsOf(term, store) {
-    const elements = [];
-    let rest = endOf(term, store);
-    while (rest.startsWith("[") && rest !== "[]" && elements.length < 40) {
-      const [heads, tail] = Printed.splitOutside(rest.slice(1, -1), "|");
-      elements.push(...Printed.splitOutside(heads, ","));
-      rest = tail === undefined ? "[]" : endOf(tail, store);
-    }
-    return { elements, isClosed: rest === "[]" };
+function briefList(term, store, depth) {
+  const { elements, isClosed } = elementsOf(term, store);
+  const shown = elements.map((element) => (depth > 1 ? "…" : brief(element, store, depth + 1)));
+  let text = shown.join(",");
+  if (text.length > LONGEST_LIST) {
+    while (shown.length > 1 && shown.join(",").length > LONGEST_LIST - 2) shown.pop();
+    text = `${shown.join(",")},…`;
   }
+  return isClosed ? `[${text}]` : `[${text}|${UNKNOWN}]`;
+}
 
-  function briefList(term, store, depth) {
-    const { elements, isClosed } = elementsOf(term, store);
-    const shown = elements.map((element) => (depth > 1 ? "…" : brief(element, store, depth + 1)));
-    let text = shown.join(",");
-    if (text.length > LONGEST_LIST) {
-      while (shown.length > 1 && shown.join(",").length > LONGEST_LIST - 2) shown.pop();
-      text = `${shown.join(",")},…`;
-    }
-    return isClosed ? `[${text}]` : `[${text}|${UNKNOWN}]`;
-  }
+/** A term in few letters: a list's elements, a structure's name, a point for what is not known. */
+function brief(term, store, depth = 0) {
+  const end = endOf(term, store);
+  if (Reader.isState(end)) return UNKNOWN;
+  if (end.startsWith("[") && end !== "[]") return briefList(end, store, depth);
+  const open = end.indexOf("(");
+  return open < 0 ? end : `${end.slice(0, open)}(…)`;
+}
 
-  /** A term in few letters: a list's elements, a structure's name, a point for what is not known. */
-  function brief(term, store, depth = 0) {
-    const end = endOf(term, store);
-    if (VARIABLE.test(end)) return UNKNOWN;
-    if (end.startsWith("[") && end !== "[]") return briefList(end, store, depth);
-    const open = end.indexOf("(");
-    return open < 0 ? end : `${end.slice(0, open)}(…)`;
-  }
+/** A call in few letters, as `filter([5,7],3,·)`. */
+function briefCall(call, store) {
+  const open = call.indexOf("(");
+  if (open < 0) return call;
+  const shown = Printed.splitOutside(call.slice(open + 1, -1), ",").map((term) => brief(term, store));
+  return `${call.slice(0, open)}(${shown.join(",")})`;
+}
 
-  /** A call in few letters, as `filter([5,7],3,·)`. */
-  function briefCall(call, store) {
-    const open = call.indexOf("(");
-    if (open < 0) return call;
-    const shown = Printed.splitOutside(call.slice(open + 1, -1), ",").map((term) => brief(term, store));
-    return `${call.slice(0, open)}(${shown.join(",")})`;
-  }
+const cut = (text, length) => (text.length > length ? `${text.slice(0, length - 1).replace(/…+$/, "")}…` : text);
 
-  const cut = (text, length) => (text.length > length ? `${text.slice(0, length - 1).replace(/…+$/, "")}…` : text);
-
-  return { storeOf, brief, briefCall, cut };
-})();
-
-export default Terms;
+export { brief, briefCall, cut };

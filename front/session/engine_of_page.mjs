@@ -3,8 +3,8 @@
 import fs from "node:fs";
 import path from "node:path";
 import { fileURLToPath } from "node:url";
+import zlib from "node:zlib";
 import Engine from "./engine.mjs";
-import Inflate from "./inflate.mjs";
 
 const HERE = path.dirname(fileURLToPath(import.meta.url));
 
@@ -23,7 +23,7 @@ function scriptOf(page, name) {
 const constantIn = (script) => JSON.parse(script.slice(script.indexOf("=") + 1, script.lastIndexOf(";")));
 
 /** The bytes of the module in the text of a page. */
-const moduleOf = (page) => Inflate.unpack(Buffer.from(constantIn(scriptOf(page, "module.js")), "base64"));
+const moduleOf = (page) => zlib.inflateSync(Buffer.from(constantIn(scriptOf(page, "module.js")), "base64"));
 
 /** The bytes of the module that web/ghcdb.html carries. */
 const moduleOfPage = () => moduleOf(fs.readFileSync(PAGE, "latin1"));
@@ -34,4 +34,4 @@ async function engineOfPage(file = PAGE) {
   return { engine: await Engine.load(moduleOf(page)), madeWith: constantIn(scriptOf(page, "made_with.js")) };
 }
 
-export { engineOfPage, moduleOf, moduleOfPage, scriptOf, PAGE, THREAD };
+export { engineOfPage, moduleOfPage, scriptOf, PAGE, THREAD };

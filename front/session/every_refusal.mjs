@@ -1,7 +1,7 @@
 // All refusals of a program and a query at once. ghcdb tells one at a time, so it is asked again without what it
 // refused: it judges, and what stands here only repeats.
-import Causes from "../text/causes.mjs";
-import TakingOut from "../text/taking_out.mjs";
+import * as Causes from "../text/causes.mjs";
+import * as TakingOut from "../text/taking_out.mjs";
 import Engine from "./engine.mjs";
 import { Ended, HANDED, ofPage, open } from "./program.mjs";
 import { whyRefused } from "./refused.mjs";
@@ -42,44 +42,95 @@ function byPlace({ cause: one }, { cause: other }) {
   return isLater || (one === undefined ? 0 : one.line - other.line || one.column - other.column);
 }
 
+/** Is a place before another one, or that? */
+const isBefore = (place, other) => place.line < other.line || (place.line === other.line && place.column <= other.column);
+
 // The texts as they are judged, after what was refused is out.
 class Judged {
   constructor({ text, query, file = "program", load }) {
-    Object.assign(this, { file, load });
-    this.original = text;
+    this.file = file;
+    this.load = load;
+    this.originals = { text, query };
     this.readable = text; // without what is no syntax
     this.text = text; // without all that was refused
     this.query = query;
     this.added = []; // clauses of predicates that have none
     this.names = new Set(); // what the parts that are out may have defined
+    this.isOpen = false; // may they have defined anything?
+    this.taken = undefined; // the goal that was taken out last: the text before, where it was refused, begins and ends
+    this.mends = new Map(); // by a clause's number, what takes out what its checks refused
+    this.places = new Set(); // at which something was told
   }
 
   get program() {
     return this.added.length === 0 ? this.text : `${this.text}\n${this.added.join("\n")}\n`;
   }
 
-  /** The refusal with its cause, in a list, told of the text as it was; none where what is undefined may be out. */
-  told(said) {
-    const [, who, number, rest] = SAID.exec(said) ?? [];
-    if (number === "F5" && this.names.has(/^undefined (\w+)\//.exec(rest)[1])) return [];
-    const { readable: text, file, query, load } = this;
-    const { lines, cause } = whyRefused(said, { text, given: { file, query, load } });
-    if (cause === undefined || who === "query") return [{ said, lines, cause }];
-    return [{ said, lines: Causes.linesOf(cause, this.original), cause }];
+  /** What ghcdb said, taken apart. */
+  read(said) {
+    const [, who, number, rest] = SAID.exec(said) ?? [], numbers = rest?.match(/\d+/g)?.map(Number) ?? [];
+    return { who, number, rest, place: { line: numbers[0], column: numbers[1] }, clause: numbers.at(-1) };
   }
 
-  /** Takes out what was refused; false where that cannot be. */
-  takeOut(said) {
-    const [, who, number, rest] = SAID.exec(said) ?? [], numbers = rest?.match(/\d+/g)?.map(Number);
+  /** Was a goal not all that is wrong, since ghcdb stops in it again? */
+  isSame({ who, number, place }) {
+    const { taken } = this;
+    if (taken === undefined || number !== "F2" || who !== taken.who) return false;
+    return isBefore(taken.start, place) && isBefore(place, taken.end);
+  }
+
+  /** The refusal with its cause, in a list, told of the text as it was; none where it may be due to what is out. */
+  told(said) {
+    const { who, number, rest, clause } = this.read(said), { file, query, load, originals } = this;
+    if (number === "F5" && (this.isOpen || this.names.has(/^undefined (\w+)\//.exec(rest)[1]))) return [];
+    const mends = number === "F3" || number === "F4" ? this.mends.get(clause) ?? [] : [];
+    const text = mends.reduce((before, mend) => mend(before) ?? before, this.readable);
+    const { lines, cause } = whyRefused(said, { text, query, file, load });
+    if (cause === undefined) return [{ said, lines, cause }];
+    const key = `${who} ${cause.line}:${cause.column}`, isTold = number !== "F5" && this.places.has(key);
+    this.places.add(key);
+    const original = who === "query" ? originals.query : originals.text;
+    return isTold ? [] : [{ said, lines: Causes.linesOf(cause, original), cause }];
+  }
+
+  /** Takes out what was refused, of which `cause` was told; false where that cannot be. */
+  takeOut(said, cause) {
+    const read = this.read(said), { who, number, rest } = read;
     if (number === undefined) return false;
     if (number === "F5") return this.define(...rest.slice("undefined ".length).split("/"));
-    if (who === "query") return this.dropQuery();
-    if (number !== "F2") return this.judge(TakingOut.withoutClause(this.text, numbers.at(-1)));
-    const [line, column] = numbers, without = TakingOut.withoutPlace(this.text, { line, column });
-    if (without === undefined || without.text === this.text) return false;
+    if (who === "query") return this.takeOutOfQuery(read);
+    return number === "F2" ? this.takeOutOfProgram(read) : this.takeOutOfClause(read, cause);
+  }
+
+  /** Takes a goal out that is no syntax; where that does not help all goals. */
+  takeOutOfQuery(read) {
+    const { query } = this, without = this.isSame(read) ? undefined : TakingOut.withoutGoal(query, read.place, true);
+    this.taken = without && { who: read.who, ...without };
+    return this.ask(without === undefined || without.text === query ? NO_QUERY : without.text);
+  }
+
+  /** Takes a goal out that is no syntax; its clause where that does not help, and where no goal is wrong. */
+  takeOutOfProgram(read) {
+    const isSame = this.isSame(read), now = { before: this.text, place: read.place };
+    const { before, place } = isSame ? this.taken : now;
+    const without = TakingOut.withoutPlace(before, place, isSame);
+    if (without === undefined || without.text === before) return false;
+    this.taken = without.end && { who: read.who, before, place, ...without };
     without.names.forEach((name) => this.names.add(name));
+    this.isOpen ||= without.isAnybodys === true;
     this.readable = without.text;
     return this.judge(without.text);
+  }
+
+  /** Takes a test out, or a variable that stands in a head again; the clause where nothing was told of these. */
+  takeOutOfClause({ number, rest, clause }, cause) {
+    const [, name] = /^variable (\w+) repeated/.exec(rest) ?? [];
+    const withoutTest = (text) => TakingOut.withoutGoal(text, cause)?.text;
+    const mend = number === "F4" ? (text) => TakingOut.withoutRepeated(text, clause, name) : withoutTest;
+    const mended = cause === undefined ? undefined : mend(this.text);
+    if (mended === undefined || mended === this.text) return this.judge(TakingOut.withoutClause(this.text, clause));
+    this.mends.set(clause, [...this.mends.get(clause) ?? [], mend]);
+    return this.judge(mended);
   }
 
   judge(text) {
@@ -88,15 +139,15 @@ class Judged {
     return isOther;
   }
 
+  ask(query) {
+    const isOther = query !== this.query;
+    this.query = query;
+    return isOther;
+  }
+
   define(name, arity) {
     this.added.push(TakingOut.clauseFor(name, Number(arity)));
     return true;
-  }
-
-  dropQuery() {
-    const isOther = this.query !== NO_QUERY;
-    this.query = NO_QUERY;
-    return isOther;
   }
 }
 
@@ -104,13 +155,15 @@ class Judged {
  * The refusals of a program and a query, each as `{ said, lines, cause }`: the one that ghcdb tells, then the others by
  * their places; at most 20. `given` has `text` and `query`, and the names of the program's and the history's files as
  * `file` and `load`; `first` is what ghcdb said, where it was asked already, and `native` judges.
+ * @returns {Promise<import("../types").Refusal[]>}
  */
 async function everyRefusal(given, native, first) {
   const judged = new Judged(given), refusals = [];
   let said = first ?? await refusalOf(judged, native);
   for (let asked = 0; said !== undefined && asked < MOST_ASKED; asked += 1) {
-    refusals.push(...judged.told(said));
-    if (refusals.length === MOST || !judged.takeOut(said)) break;
+    const told = judged.isSame(judged.read(said)) ? [] : judged.told(said);
+    refusals.push(...told);
+    if (refusals.length === MOST || !judged.takeOut(said, told[0]?.cause)) break;
     said = await refusalOf(judged, native);
   }
   const [told, ...more] = refusals;

@@ -138,4 +138,9 @@ function writeWhole(file, text, mode = 0o666) {
   syncFolder(path.dirname(place));
 }
 
-export { beginningOf, isFile, isNoFile, lineOf, tried, writeWhole };
+const NO_VERSION = "is no version: save tells the whole session, save 1 the kept steps; a file of that name is";
+
+/** Why a word names no file to save into: a number is taken for a version. Undefined where it names one. */
+const whyNoName = (word) => (/^\d+$/.test(word) ? `${word} ${NO_VERSION} ./${word}` : undefined);
+
+export { beginningOf, isFile, isNoFile, lineOf, tried, whyNoName, writeWhole };

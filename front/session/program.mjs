@@ -73,6 +73,13 @@ function signalOf(status, signal) {
 class Talk {
   constructor() {
     this.before = Promise.resolve(); // what was asked before
+    /** @type {Ended | undefined} */
+    this.ended = undefined;
+  }
+
+  /** Hands a line to the program: each kind of session does so in its own way. */
+  send(line) {
+    throw new TypeError(`there is no program for ${line}`);
   }
 
   /**

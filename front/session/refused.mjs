@@ -1,7 +1,7 @@
 // Why ghcdb refused a program, a query or a history before a session began, in words: for the terminal, and for the editors.
 import fs from "node:fs";
-import Replies from "../protocol/replies.mjs";
-import Causes from "../text/causes.mjs";
+import * as Replies from "../protocol/replies.mjs";
+import * as Causes from "../text/causes.mjs";
 import { isFile, lineOf, tried } from "./files.mjs";
 
 const MOST_SHOWN = 200; // letters of a line of a history
@@ -32,17 +32,19 @@ function readRefusal(line) {
   return { who, refusal };
 }
 
-/** What helps with a line of standard error that refuses a text or a file: lines, and the cause in a text where there is one. `name` is the program's. */
-function whyRefused(line, { text, given }, name = given.file) {
+/**
+ * What helps with a line of standard error that refuses a text or a file: lines, and the cause in a text where there is
+ * one. `file` and `load` are the names of the program's and the history's files.
+ */
+function whyRefused(line, { text, query, file, load }) {
   const { who, refusal } = readRefusal(line);
   if (who === undefined) return { lines: [] };
-  const file = who === "history" ? given.load : given.file;
-  if (refusal.startsWith("F26")) return { lines: whyNotRead(file) };
-  if (who === "history") return { lines: whyNotLoaded(file, refusal) };
-  const isQuery = who === "query", source = isQuery ? given.query : text;
+  if (refusal.startsWith("F26")) return { lines: whyNotRead(who === "history" ? load : file) };
+  if (who === "history") return { lines: whyNotLoaded(load, refusal) };
+  const isQuery = who === "query", source = isQuery ? query : text;
   const limit = Replies.limitIn(refusal);
   if (limit !== undefined) return { lines: [limit] };
-  const cause = Causes.causeOf(refusal, { text: source, which: isQuery ? "query" : name, isQuery, program: text });
+  const cause = Causes.causeOf(refusal, { text: source, which: isQuery ? "query" : file, isQuery, program: text });
   return cause === undefined ? { lines: [] } : { lines: Causes.linesOf(cause, source), cause: { ...cause, isQuery } };
 }
 

@@ -1,7 +1,7 @@
 // A session of a script: replies are handed on as they come, and of a long run nothing is kept before somebody looks.
 import Kept from "../run/kept.mjs";
 import { Session } from "./session.mjs";
-import Replies from "../protocol/replies.mjs";
+import * as Replies from "../protocol/replies.mjs";
 
 const MOST_KEPT = 20_000; // steps that are kept as they come; of more, the program is asked again where somebody looks
 

@@ -1,8 +1,8 @@
 // A session as the terminal and the editors keep it: the program that runs, the steps that its replies told, and a look at the run,
 // which is taken only when something has changed and somebody asks.
 import Kept from "../run/kept.mjs";
-import Reader from "../text/reader.mjs";
-import Replies from "../protocol/replies.mjs";
+import * as Reader from "../text/reader.mjs";
+import * as Replies from "../protocol/replies.mjs";
 import Run from "../run/run.mjs";
 import * as Program from "./program.mjs";
 import { beginningOf, isNoFile, tried, writeWhole } from "./files.mjs";
@@ -48,11 +48,19 @@ class Session {
     const goals = await this.program.ask("goals");
     this.clauses = Reader.readProgram(this.text);
     this.kept = new Kept();
+    const list = Replies.readGoals(goals);
     if (this.isLoaded) this.kept.begin(await this.program.ask("records"));
+    else list.forEach(({ name, text }) => this.kept.texts.set(name, text)); // nothing is bound yet: so they are written
     this.run = new Run(this.clauses, this.given.query, this.kept);
-    this.seen = { records: -1, goals: isWhole(goals) ? 0 : -1, reply: goals, list: Replies.readGoals(goals) };
+    this.seen = { records: -1, goals: isWhole(goals) ? 0 : -1, reply: goals, list };
     this.savedAt = 0;
     this.way = undefined; // the way back to it, where somebody may end a line
+  }
+
+  /** What may be refused, and the names of the files; a history that was handed stands in none. */
+  get texts() {
+    const { text, given: { file, query, load }, handed: { history } } = this;
+    return { text, file, query, load: history === undefined ? load : undefined };
   }
 
   /** Did the session go on from a history? */
@@ -64,8 +72,13 @@ class Session {
   open() {
     const { words, native, bytes, handed: { program, history } } = this, isHanded = program !== undefined || history !== undefined;
     if (!isHanded && (bytes === undefined || (native !== undefined && !isNoFile(this.given.file)))) return Program.open(words, native);
-    const begun = this.handing(history);
-    return Program.open(begun.words, native, begun.files);
+    return this.another(history);
+  }
+
+  /** A program begun with the words and the texts as they are known, which goes on from a history, where one is given. */
+  another(history) {
+    const { words, files } = this.handing(history);
+    return Program.open(words, this.native, files);
   }
 
   /** The words with which the program is begun, and the texts that they name: the program as it is known, and a history where one is given. */

@@ -1,7 +1,7 @@
 // The way back to a session whose program has to be ended in the midst of a line: a history, and the lines that changed
 // the session since.
 import Kept from "../run/kept.mjs";
-import Replies from "../protocol/replies.mjs";
+import * as Replies from "../protocol/replies.mjs";
 
 const AT_ONCE = 1000; // lines that are played again at once
 const LIGHT = 1000; // so many lines of replies are soon told again, however short the history is
@@ -37,7 +37,12 @@ class WayBack {
 
   /** Starts from a history, a text of so many lines; undefined: from what the session began with. */
   begin(history, length) {
-    Object.assign(this, { history, length, lines: [], steps: 0, weight: 0, isDue: false });
+    this.history = history;
+    this.length = length;
+    this.lines = [];
+    this.steps = 0; // that the lines took
+    this.weight = 0; // the lines of their replies
+    this.isDue = false;
   }
 
   /** Notes a line that was accepted, and its reply. */

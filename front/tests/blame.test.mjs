@@ -1,7 +1,7 @@
 // Tests of front/protocol/blame_lines.mjs: what the replies to `part` and `blame` tell, and the answers on a line. The texts are worked out by hand.
 import test from "node:test";
 import assert from "node:assert/strict";
-import BlameLines from "../protocol/blame_lines.mjs";
+import * as BlameLines from "../protocol/blame_lines.mjs";
 
 const NOTHING = { given: null, asked: [], inTurns: false, gave: null, left: null, made: [], taken: null, standing: null, ask: null, fault: null };
 

@@ -4,7 +4,7 @@ import fs from "node:fs";
 import path from "node:path";
 import test from "node:test";
 import { fileURLToPath } from "node:url";
-import Causes from "../text/causes.mjs";
+import * as Causes from "../text/causes.mjs";
 import { engineOfPage } from "../session/engine_of_page.mjs";
 import MISTAKES from "./lib/mistakes.mjs";
 

@@ -1,8 +1,8 @@
 // What the texts tell a reader to write instead: it is in the reader's own names, and done as told does what was meant.
 import assert from "node:assert";
 import test from "node:test";
-import Causes from "../text/causes.mjs";
-import Nearest from "../text/nearest.mjs";
+import * as Causes from "../text/causes.mjs";
+import * as Nearest from "../text/nearest.mjs";
 import { engineOfPage } from "../session/engine_of_page.mjs";
 import MISTAKES from "./lib/mistakes.mjs";
 

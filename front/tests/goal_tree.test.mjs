@@ -1,7 +1,7 @@
 // Tests of front/run/goal_tree.mjs: the tree of an explanation's steps, which of many are shown, and their goals with the values of then.
 import test from "node:test";
 import assert from "node:assert/strict";
-import GoalTree from "../run/goal_tree.mjs";
+import * as GoalTree from "../run/goal_tree.mjs";
 
 const BILL = [
   "T = 150", "1 0.1 by 1 reads - binds - makes 1.1,1.2,1.3", "2 1.1 by 2 reads - binds - makes 2.1 or 3", "3 2.1 is reads - binds _1_1=120 makes -",

@@ -36,7 +36,8 @@ test("each import names a module that is there", () => {
 
 test("each module imports the modules that it names", () => {
   const exported = (code) => /^export default (\w+);/m.exec(code)?.[1];
-  const names = new Set(products.map((file) => exported(codeOf(file))).filter(Boolean));
+  const wholes = (file) => [...codeOf(file).matchAll(/^import (?:\* as )?([A-Z]\w*) from/gm)].map(([, name]) => name);
+  const names = new Set(products.flatMap((file) => [exported(codeOf(file)), ...wholes(file)]).filter(Boolean));
   assert.ok(names.size > 50);
   for (const file of products) {
     const code = codeOf(file), known = new Set([...code.matchAll(/^import (?:\* as )?(\w+)|\b(?:const|class) (\w+)/gm)].map(([, imported, own]) => imported ?? own));

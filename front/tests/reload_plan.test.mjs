@@ -1,12 +1,12 @@
 // What becomes of a run where its program has changed: clauses are paired, steps go with their clauses, and a history keeps the rest.
 import assert from "node:assert";
 import test from "node:test";
-import Replies from "../protocol/replies.mjs";
-import Consequences from "../run/consequences.mjs";
-import ReloadPlan from "../run/reload_plan.mjs";
-import Reader from "../text/reader.mjs";
+import * as Replies from "../protocol/replies.mjs";
+import * as Consequences from "../run/consequences.mjs";
+import * as ReloadPlan from "../run/reload_plan.mjs";
+import * as Reader from "../text/reader.mjs";
 
-const { historyOf, isRenumbered, planOf } = ReloadPlan;
+const { historyOf, isRenumbered, nameAfter, planOf, shelvedAt, shelvedOf } = ReloadPlan;
 
 const BILL = ["bill(A,B,T) :- true | price(A,P), price(B,Q), T := P + Q.", "price(N,P) :- N > 0 | P := N * 10.", "price(N,P) :- N >= 10 | P := N * 8."];
 const RECORDS = Replies.readRecords([
@@ -45,8 +45,10 @@ test("of clauses that stand twice each is paired once", () => {
 
 test("the history keeps the numbers of the steps, and names the clauses by their new ones", () => {
   const [one, two, three] = BILL;
-  assert.strictEqual(historyOf(plan(BILL, [three, one, two.replace("10", "9")]), 7), "ghc-history 1\nsteps 3\n1 0.1 by 2\n4 1.2 by 1\n5 4.1 is\nend 7\n");
-  assert.strictEqual(historyOf(plan(BILL, [two]), 7), "ghc-history 1\nsteps 0\nend 7\n");
+  const found = plan(BILL, [three, one, two.replace("10", "9")]), spied = ["bill/3", "price/2"];
+  assert.strictEqual(historyOf(found, { next: 7, spied, shelved: [] }), "ghc-history 2\nopening 3 7\n1 0.1 by 2\n4 1.2 by 1\n5 4.1 is\nentries 0\nspies 2\nbill/3\nprice/2\nend 7\n");
+  assert.strictEqual(historyOf(plan(BILL, [two]), { next: 7, spied: [], shelved: [] }), "ghc-history 2\nopening 0 7\nentries 0\nspies 0\nend 7\n");
+  assert.deepStrictEqual(["T", "_0_1", "_1_2", "_2_1", "_9_1"].map((name) => nameAfter(found, name)), ["T", "_0_1", "_1_2", undefined, undefined]);
 });
 
 test("where a step asked for goals, the steps are numbered anew, and so are the goals and variables that they name", () => {
@@ -56,7 +58,22 @@ test("where a step asked for goals, the steps are numbered anew, and so are the 
   ]);
   const found = plan(BILL, [BILL[0], BILL[2]], steps);
   assert.deepStrictEqual([inShort(found)[3], isRenumbered(found)], ["3", true]);
-  assert.strictEqual(historyOf(found, 10), "ghc-history 2\nopening 0 1\nentries 4\n1 0.1 by 1\n2 - ask price(_1_1,_2_1), q(a_2_1,_0_1)\n3 0.2 in f(_3)\n4 2.1 by 2\nspies 0\nend 5\n");
+  assert.strictEqual(historyOf(found, { next: 10, spied: [], shelved: [] }), "ghc-history 2\nopening 0 1\nentries 4\n1 0.1 by 1\n2 - ask price(_1_1,_2_1), q(a_2_1,_0_1)\n3 0.2 in f(_3)\n4 2.1 by 2\nspies 0\nend 5\n");
+  assert.deepStrictEqual(["_0_2", "_2_1", "_3_1", "_5_2"].map((name) => nameAfter(found, name)), ["_0_2", "_1_1", undefined, "_2_2"]);
+});
+
+test("of a shelf those steps may stay whose clause and goal are there, and the history takes them and takes them back", () => {
+  const [one, two, three] = BILL, found = plan(BILL, [three, one, two.replace("10", "9")]); // 1, 4 and 5 stay
+  const shelf = Replies.readShelf(["7 1.1 by 3", "8 7.1 is", "9 1.1 by 3", "10 1.2 by 3", "11 1.3 by 2", "12 1.3 is", "13 12.1 eq", "14 3.1 eq", "15 - ask q"]);
+  const shelved = shelvedOf(found, shelf), numbers = shelved.map(({ number }) => number);
+  assert.deepStrictEqual(numbers, [7, 8, 12, 13]);
+  assert.strictEqual(historyOf(found, { next: 16, spied: [], shelved }), [
+    "ghc-history 2", "opening 7 16", "1 0.1 by 2", "4 1.2 by 1", "5 4.1 is", "7 1.1 by 1", "8 7.1 is", "12 1.3 is", "13 12.1 eq",
+    "entries 4", "undo 13", "undo 12", "undo 8", "undo 7", "spies 0", "end 16", "",
+  ].join("\n"));
+  assert.deepStrictEqual([3, 5, 6, 8, 9, 10].map((line) => shelvedAt(found, shelved, line)?.number), [undefined, undefined, 7, 12, 13, undefined]);
+  const asked = { ...found, staying: [...found.staying, ...Replies.readRecords(["6 - ask q reads - binds - makes 6.1"])] };
+  assert.deepStrictEqual(shelvedOf(asked, shelf), []);
 });
 
 test("what depends on steps", () => {

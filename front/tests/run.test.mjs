@@ -1,18 +1,16 @@
-// The model of a run against the console: goals as written, names, what clauses say, what a rollback takes.
+// The model of a run against the console: goals as written, names, what a rollback takes.
 import assert from "node:assert";
 import fs from "node:fs";
 import path from "node:path";
 import test from "node:test";
 import { fileURLToPath } from "node:url";
-import Asking from "../protocol/asking.mjs";
-import Choices from "../run/choices.mjs";
+import * as Asking from "../protocol/asking.mjs";
 import Kept from "../run/kept.mjs";
-import Print from "../text/print.mjs";
-import Reader from "../text/reader.mjs";
+import * as Print from "../text/print.mjs";
+import * as Reader from "../text/reader.mjs";
 import Run from "../run/run.mjs";
-import Stuck from "../run/stuck.mjs";
 import { engineOfPage } from "../session/engine_of_page.mjs";
-import Replies from "../protocol/replies.mjs";
+import * as Replies from "../protocol/replies.mjs";
 
 const HERE = path.dirname(fileURLToPath(import.meta.url));
 
@@ -57,27 +55,6 @@ test("goals are as the console wrote them, also where a run told none of them", 
     }
   }
   assert.ok(compared > 900, `${compared} goals`);
-});
-
-test("clauses say what the console says of them", async () => {
-  const { engine } = await engineOfPage();
-  let compared = 0;
-  for (const given of programs()) {
-    const { session, run, type, look } = begin(engine, given);
-    for (let steps = 0; steps < 25; steps += 1) {
-      for (const { name, sort } of Replies.readGoals(session.line("goals"))) {
-        look();
-        for (const { clause, says } of sort === "call" ? Choices.choicesOf(run, name) : []) {
-          const [reply] = type(`step ${name} ${clause.number}`), number = /^REDU (\d+)/.exec(reply);
-          if (number !== null) type(`undo ${number[1]}`);
-          assert.strictEqual(number !== null ? "yes" : reply === "F9 waits" ? "waits" : "no", says, `${given.query}: ${name} by ${clause.number}: ${reply}`);
-          compared += 1;
-        }
-      }
-      if (type("leap 1").at(-1) !== "stopped limit") break;
-    }
-  }
-  assert.ok(compared > 1000, `${compared} answers`);
 });
 
 test("a rollback takes the consequences that were told", async () => {
@@ -130,26 +107,6 @@ test("kept steps are known from replies, also behind arrange, undo and redo", as
   for (const line of ["leap", "undo 2", "redo 2", "undo 99", "arrange 3 1 2 4 5 6", "roll 1"]) type(line);
   assert.deepStrictEqual([...kept.steps.keys()], Replies.readRecords(session.line("records")).map(({ number }) => number));
   assert.strictEqual(kept.last, [...kept.steps.keys()].at(-1));
-});
-
-test("why nothing goes on: circles, and what nobody can bind", () => {
-  const goals = Replies.readGoals(["1.1 waits _1_1 p(_1_1,_1_2)", "1.2 waits _1_2 p(_1_2,_1_1)", "1.3 waits _1_9 q(_1_9)", "1.4 failed F10 r(_1_9)"]);
-  assert.deepStrictEqual(Stuck.linesOf(goals, (variable) => variable), [
-    "1.1 waits for _1_1: held by 1.2 waits", "1.2 waits for _1_2: held by 1.1 waits", "1.3 waits for _1_9: nobody can bind it (only 1.4, which has failed)",
-    "a circle: 1.1 waits for 1.2 waits for 1.1",
-  ]);
-});
-
-test("of many goals that wait the first are told", () => {
-  const many = 5000, all = (line) => Replies.readGoals(Array.from({ length: many }, (none, place) => line(place + 1)));
-  const lines = Stuck.linesOf(all((place) => `${place}.1 waits _0_1 w(_0_1)`), (variable) => variable);
-  assert.strictEqual(lines.length, 201);
-  assert.match(lines[0], /^1\.1 waits for _0_1: nobody can bind it \(only 2\.1, which waits for it too, .*13\.1, which waits for it too, \.\. \(4999 goals\)\)$/);
-  assert.strictEqual(lines[200], ".. 4800 more such lines; goals lists all goals");
-  assert.strictEqual(Stuck.linesOf(all((place) => `${place}.1 waits _0_1,_0_2 w(_0_1,_0_2)`), (variable) => variable).at(-1).split(": ")[0], "a circle");
-  const ring = Stuck.linesOf(all((place) => `${place}.1 waits _${place}_1 w(_${place}_1,_${place === many ? 1 : place + 1}_1)`), (variable) => variable);
-  assert.match(ring.at(-1), /^a circle: .* waits for \.\. \(5000 goals\) waits for .* waits for \d+\.1$/);
-  assert.strictEqual(Stuck.linesOfGoal(all((place) => `${place}.1 waits _0_1 w(_0_1)`), "7.1", (variable) => variable).length, 1);
 });
 
 test("a long list, a long chain and a deep term are walked by loops", () => {

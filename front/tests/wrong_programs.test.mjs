@@ -5,7 +5,7 @@ import fs from "node:fs";
 import path from "node:path";
 import test from "node:test";
 import { fileURLToPath } from "node:url";
-import Causes from "../text/causes.mjs";
+import * as Causes from "../text/causes.mjs";
 import { engineOfPage } from "../session/engine_of_page.mjs";
 import { everyRefusal } from "../session/every_refusal.mjs";
 import { queryOf } from "../text/query_comment.mjs";

@@ -2,161 +2,160 @@
 // instead; and notes on texts that are accepted but seldom meant. Nothing is refused or accepted here. Pure.
 //
 // A cause is `{ which, line, column, length, title, hints }`: `which` is the text's name, the column counts bytes from 1.
-import Tokens from "./tokens.mjs";
-import Reader from "./reader.mjs";
-import SyntaxCauses from "./syntax_causes.mjs";
-import CheckerCauses from "./checker_causes.mjs";
-import Nearest from "./nearest.mjs";
-import Cures from "./cures.mjs";
+import * as Tokens from "./tokens.mjs";
+import * as Reader from "./reader.mjs";
+import * as SyntaxCauses from "./syntax_causes.mjs";
+import * as CheckerCauses from "./checker_causes.mjs";
+import * as Nearest from "./nearest.mjs";
+import * as Cures from "./cures.mjs";
 
-const Causes = (() => {
-  const caused = (which, { token, title, hints }) => ({ which, line: token.line, column: token.column, length: Math.max(1, token.text.length), title, hints });
+const caused = (which, { token, title, hints }) => ({ which, line: token.line, column: token.column, length: Math.max(1, token.text.length), title, hints });
 
-  /** The cause of a refusal such as `F2 syntax at 1:8`, of a text; undefined where there is nothing to say. */
-  function causeOf(refusal, { text, which, isQuery = false, program = text }) {
-    const [, number, rest] = /^(F\d+) (.*)$/.exec(refusal) ?? [];
-    const syntax = /^syntax at (\d+):(\d+)$/.exec(rest), clause = /^not flat in clause (\d+)$/.exec(rest);
-    const twice = /^variable (\w+) repeated in the head of clause (\d+)$/.exec(rest), call = /^undefined (\w+)\/(\d+)$/.exec(rest);
-    if (number === "F2" && syntax) {
-      const found = SyntaxCauses.causeOf(text, { line: Number(syntax[1]), column: Number(syntax[2]) }, isQuery, program);
-      return caused(which, { ...found, title: `syntax: ${found.title}` });
-    }
-    if (!clause && !twice && !call) return undefined;
-    const tokens = Tokens.tokensOf(text);
-    if (number === "F3" && clause) return caused(which, CheckerCauses.notFlat(tokens, Number(clause[1])));
-    if (number === "F4" && twice) return caused(which, CheckerCauses.notLinear(tokens, twice[1], Number(twice[2]), text));
-    if (number === "F5" && call) return caused(which, CheckerCauses.undefinedCall(Tokens.tokensOf(program), tokens, call[1], Number(call[2]), isQuery));
-    return undefined;
+/** The cause of a refusal such as `F2 syntax at 1:8`, of a text; undefined where there is nothing to say. */
+function causeOf(refusal, { text, which, isQuery = false, program = text }) {
+  const [, number, rest] = /^(F\d+) (.*)$/.exec(refusal) ?? [];
+  const syntax = /^syntax at (\d+):(\d+)$/.exec(rest), clause = /^not flat in clause (\d+)$/.exec(rest);
+  const twice = /^variable (\w+) repeated in the head of clause (\d+)$/.exec(rest), call = /^undefined (\w+)\/(\d+)$/.exec(rest);
+  if (number === "F2" && syntax) {
+    const found = SyntaxCauses.causeOf(text, { line: Number(syntax[1]), column: Number(syntax[2]) }, isQuery, program);
+    return caused(which, { ...found, title: `syntax: ${found.title}` });
   }
+  if (!clause && !twice && !call) return undefined;
+  const tokens = Tokens.tokensOf(text);
+  if (number === "F3" && clause) return caused(which, CheckerCauses.notFlat(tokens, Number(clause[1])));
+  if (number === "F4" && twice) return caused(which, CheckerCauses.notLinear(tokens, twice[1], Number(twice[2]), text));
+  if (number === "F5" && call) return caused(which, CheckerCauses.undefinedCall(Tokens.tokensOf(program), tokens, call[1], Number(call[2]), isQuery));
+  return undefined;
+}
 
-  const bytesOf = (text) => new TextEncoder().encode(text);
-  const lineOf = (text, line) => (text.split("\n")[line - 1] ?? "").replace(/\r$/, "");
+const bytesOf = (text) => new TextEncoder().encode(text);
+const lineOf = (text, line) => (text.split("\n")[line - 1] ?? "").replace(/\r$/, "");
 
-  /** Where a cause stands in its line, in letters as JavaScript counts them, from 1. */
-  const letterOf = ({ line, column }, text) => new TextDecoder().decode(bytesOf(lineOf(text, line)).slice(0, column - 1)).length + 1;
+/** Where a cause stands in its line, in letters as JavaScript counts them, from 1. */
+const letterOf = ({ line, column }, text) => new TextDecoder().decode(bytesOf(lineOf(text, line)).slice(0, column - 1)).length + 1;
 
-  const WIDEST = 160, AROUND = 60; // letters: of a line that is shown whole, and that are shown before and after the place in a longer one
+const WIDEST = 160, AROUND = 60; // letters: of a line that is shown whole, and that are shown before and after the place in a longer one
 
-  /** What is shown of a line, and how much of that stands before the place. */
-  function shownOf(source, before, length) {
-    if (source.length <= WIDEST) return { source, before: source.slice(0, before) };
-    const from = Math.max(0, before - AROUND), to = before + length + AROUND, start = from > 0 ? ".. " : "";
-    return { source: `${start}${source.slice(from, to)}${to < source.length ? " .." : ""}`, before: start + source.slice(from, before) };
+/** What is shown of a line, and how much of that stands before the place. */
+function shownOf(source, before, length) {
+  if (source.length <= WIDEST) return { source, before: source.slice(0, before) };
+  const from = Math.max(0, before - AROUND), to = before + length + AROUND, start = from > 0 ? ".. " : "";
+  return { source: `${start}${source.slice(from, to)}${to < source.length ? " .." : ""}`, before: start + source.slice(from, before) };
+}
+
+const visible = (source) => source.replace(/[\x00-\x08\x0b-\x1f\x7f]/g, "\ufffd"); // so that a text cannot give a terminal orders
+
+/** The lines that show a cause: title, place, the text's line with a caret, hints. */
+function linesOf(cause, text) {
+  const { which, line, column, length, title, hints } = cause, shown = shownOf(lineOf(text, line), letterOf(cause, text) - 1, length);
+  const number = String(line), margin = " ".repeat(number.length);
+  return [
+    title, `${margin}--> ${which}:${line}:${column}`, `${margin} |`, `${number} | ${visible(shown.source)}`, `${margin} | ${shown.before.replace(/[^\t]/g, " ")}${"^".repeat(length)}`,
+    ...hints.map((hint) => `${margin} = ${hint}`),
+  ];
+}
+
+const UNUSED = "what nobody else names is read or bound by nobody";
+
+const lettersOf = (name) => name.replace(/\d+$/, "");
+const mayBeMeant = (name, other) => name.length > 2 && other.length > 2 && lettersOf(name) !== lettersOf(other);
+
+/** The assignments of a clause that wait for what they are to bind: the place of the variable, and the right side. */
+function ownSums(clause) {
+  return clause.flatMap(({ text }, place) => {
+    if (text !== ":=") return [];
+    const right = clause.slice(place + 1), end = right.findIndex((token) => token.text === "," || token.text === ".");
+    const isOwn = right.slice(0, end).some((token) => token.kind === "variable" && token.text === clause[place - 1].text);
+    return isOwn ? [{ place: place - 1, right: right.slice(0, end) }] : [];
+  });
+}
+
+/** The lone variables that are meant in assignments of a like name, as F1 in F := N * F. */
+function meantInSums(clause, lone) {
+  return ownSums(clause).flatMap(({ place }) => lone.filter(({ text }) => lettersOf(text) === lettersOf(clause[place].text)).slice(0, 1));
+}
+
+/** What is written instead of an assignment that waits for what it is to bind. */
+function cureOfSum(clause, { place, right }) {
+  const { text } = clause[place], lone = clause.filter((token) => clause.filter((other) => other.text === token.text).length === 1);
+  const [meant] = lone.filter((token) => token.kind === "variable" && lettersOf(token.text) === lettersOf(text));
+  const told = (name, tokens) => `${name} := ${Cures.textOf(tokens) ?? ".."}`;
+  if (meant === undefined) return `a variable gets one value; name a new one: ${told(Cures.newName(text, clause), right)}`;
+  return `a variable gets one value; is ${meant.text} meant? ${told(text, right.map((token) => (token.text === text ? meant : token)))}`;
+}
+
+/** Notes on the variables of a clause that stand once in it. */
+function loneVariables(clause, number, which) {
+  const places = new Map();
+  for (const token of clause) {
+    if (token.kind === "variable" && !token.text.startsWith("_")) places.set(token.text, places.has(token.text) ? undefined : token);
   }
+  const lone = [...places.values()].filter((token) => token !== undefined), isMeant = new Set(meantInSums(clause, lone));
+  const names = [...lone.map(({ text }) => text), ...places.keys()]; // two that stand once may be meant to be one
+  return lone.map((token) => {
+    const near = Nearest.nearest(token.text, names.filter((name) => mayBeMeant(token.text, name)));
+    const other = isMeant.has(token) ? UNUSED : `${UNUSED}; write _ where that is meant`;
+    const hint = near === undefined ? other : `is it ${near}? ${UNUSED}`;
+    return caused(which, { token, title: `note: ${token.text} stands once in clause ${number}`, hints: [hint] });
+  });
+}
 
-  const visible = (source) => source.replace(/[\x00-\x08\x0b-\x1f\x7f]/g, "\ufffd"); // so that a text cannot give a terminal orders
+const NOBODYS = "each _ is a variable of its own: give the value a name, and use that";
 
-  /** The lines that show a cause: title, place, the text's line with a caret, hints. */
-  function linesOf(cause, text) {
-    const { which, line, column, length, title, hints } = cause, shown = shownOf(lineOf(text, line), letterOf(cause, text) - 1, length);
-    const number = String(line), margin = " ".repeat(number.length);
-    return [
-      title, `${margin}--> ${which}:${line}:${column}`, `${margin} |`, `${number} | ${visible(shown.source)}`, `${margin} | ${shown.before.replace(/[^\t]/g, " ")}${"^".repeat(length)}`,
-      ...hints.map((hint) => `${margin} = ${hint}`),
-    ];
+/** Notes on assignments that wait for what they are to bind, and on those whose value nobody gets. */
+function ownAssignments(clause, number, which) {
+  const notes = [];
+  clause.forEach((token, place) => {
+    if (token.text !== ":=") return;
+    const left = clause[place - 1], title = `note: nobody gets what _ := computes in clause ${number}`;
+    if (left.text === "_") notes.push(caused(which, { token: left, title, hints: [NOBODYS] }));
+  });
+  for (const sum of ownSums(clause)) {
+    const token = clause[sum.place], title = `note: ${token.text} stands on both sides of := in clause ${number}`;
+    notes.push(caused(which, { token, title, hints: [cureOfSum(clause, sum)] }));
   }
+  return notes;
+}
 
-  const UNUSED = "what nobody else names is read or bound by nobody";
+/** Notes on predicates whose clauses stand apart. */
+function scattered(clauses, which) {
+  const seen = new Map(), notes = [];
+  let last;
+  clauses.forEach((clause, place) => {
+    const predicate = Tokens.predicateAt(clause, 0);
+    const title = `note: clause ${place + 1} of ${predicate} stands apart from clause ${seen.get(predicate)}`;
+    const isApart = seen.has(predicate) && last !== predicate;
+    if (isApart) notes.push(caused(which, { token: clause[0], title, hints: ["clauses of one predicate are read more easily side by side"] }));
+    seen.set(predicate, place + 1);
+    last = predicate;
+  });
+  return notes;
+}
 
-  const lettersOf = (name) => name.replace(/\d+$/, "");
-  const mayBeMeant = (name, other) => name.length > 2 && other.length > 2 && lettersOf(name) !== lettersOf(other);
-
-  /** The assignments of a clause that wait for what they are to bind: the place of the variable, and the right side. */
-  function ownSums(clause) {
-    return clause.flatMap(({ text }, place) => {
-      if (text !== ":=") return [];
-      const right = clause.slice(place + 1), end = right.findIndex((token) => token.text === "," || token.text === ".");
-      const isOwn = right.slice(0, end).some((token) => token.kind === "variable" && token.text === clause[place - 1].text);
-      return isOwn ? [{ place: place - 1, right: right.slice(0, end) }] : [];
+/**
+ * Notes on results that stand in a head, which binds nothing, where another clause of the predicate binds that
+ * argument in its body; `all` are the clauses' tokens.
+ */
+function resultsInHeads(program, all, which) {
+  const clauses = Reader.readProgram(program), binders = CheckerCauses.bindersOf(clauses), notes = [];
+  const cureOf = (number, place) => CheckerCauses.bindInBody(all[number - 1], place);
+  for (const { head, predicate, number, line, letter, name } of clauses) {
+    head.arguments.forEach((argument, place) => {
+      const binder = argument.variable === undefined ? binders.get(`${predicate} ${place}`) : undefined;
+      if (binder === undefined) return;
+      const cure = `a head binds nothing; clause ${binder} binds that argument in its body: ${cureOf(number, place)}`;
+      const token = { line, column: letter, text: name };
+      notes.push(caused(which, { token, title: `note: clause ${number} waits until argument ${place + 1} is bound`, hints: [cure] }));
     });
   }
+  return notes;
+}
 
-  /** The lone variables that are meant in assignments of a like name, as F1 in F := N * F. */
-  function meantInSums(clause, lone) {
-    return ownSums(clause).flatMap(({ place }) => lone.filter(({ text }) => lettersOf(text) === lettersOf(clause[place].text)).slice(0, 1));
-  }
+/** The notes on a program that was accepted, in the order of its text. */
+function notesOn(program, which) {
+  const clauses = Tokens.clausesIn(program);
+  const notes = clauses.flatMap((clause, place) => [...loneVariables(clause, place + 1, which), ...ownAssignments(clause, place + 1, which)]);
+  return [...notes, ...resultsInHeads(program, clauses, which), ...scattered(clauses, which)].sort((one, other) => one.line - other.line || one.column - other.column);
+}
 
-  /** What is written instead of an assignment that waits for what it is to bind. */
-  function cureOfSum(clause, { place, right }) {
-    const { text } = clause[place], lone = clause.filter((token) => clause.filter((other) => other.text === token.text).length === 1);
-    const [meant] = lone.filter((token) => token.kind === "variable" && lettersOf(token.text) === lettersOf(text));
-    const told = (name, tokens) => `${name} := ${Cures.textOf(tokens) ?? ".."}`;
-    if (meant === undefined) return `a variable gets one value; name a new one: ${told(Cures.newName(text, clause), right)}`;
-    return `a variable gets one value; is ${meant.text} meant? ${told(text, right.map((token) => (token.text === text ? meant : token)))}`;
-  }
-
-  /** Notes on the variables of a clause that stand once in it. */
-  function loneVariables(clause, number, which) {
-    const places = new Map();
-    for (const token of clause) {
-      if (token.kind === "variable" && !token.text.startsWith("_")) places.set(token.text, places.has(token.text) ? undefined : token);
-    }
-    const lone = [...places.values()].filter((token) => token !== undefined), isMeant = new Set(meantInSums(clause, lone));
-    const names = [...lone.map(({ text }) => text), ...places.keys()]; // two that stand once may be meant to be one
-    return lone.map((token) => {
-      const near = Nearest.nearest(token.text, names.filter((name) => mayBeMeant(token.text, name)));
-      const other = isMeant.has(token) ? UNUSED : `${UNUSED}; write _ where that is meant`;
-      const hint = near === undefined ? other : `is it ${near}? ${UNUSED}`;
-      return caused(which, { token, title: `note: ${token.text} stands once in clause ${number}`, hints: [hint] });
-    });
-  }
-
-  const NOBODYS = "each _ is a variable of its own: give the value a name, and use that";
-
-  /** Notes on assignments that wait for what they are to bind, and on those whose value nobody gets. */
-  function ownAssignments(clause, number, which) {
-    const notes = [];
-    clause.forEach((token, place) => {
-      if (token.text !== ":=") return;
-      const left = clause[place - 1], title = `note: nobody gets what _ := computes in clause ${number}`;
-      if (left.text === "_") notes.push(caused(which, { token: left, title, hints: [NOBODYS] }));
-    });
-    for (const sum of ownSums(clause)) {
-      const token = clause[sum.place], title = `note: ${token.text} stands on both sides of := in clause ${number}`;
-      notes.push(caused(which, { token, title, hints: [cureOfSum(clause, sum)] }));
-    }
-    return notes;
-  }
-
-  /** Notes on predicates whose clauses stand apart. */
-  function scattered(clauses, which) {
-    const seen = new Map(), notes = [];
-    let last;
-    clauses.forEach((clause, place) => {
-      const predicate = `${clause[0].text}/${Tokens.arityAt(clause, 0)}`;
-      const title = `note: clause ${place + 1} of ${predicate} stands apart from clause ${seen.get(predicate)}`;
-      const isApart = seen.has(predicate) && last !== predicate;
-      if (isApart) notes.push(caused(which, { token: clause[0], title, hints: ["clauses of one predicate are read more easily side by side"] }));
-      seen.set(predicate, place + 1);
-      last = predicate;
-    });
-    return notes;
-  }
-
-  /** Notes on results that stand in a head, which binds nothing, where another clause of the predicate binds that argument in its body. */
-  function resultsInHeads(program, which) {
-    const clauses = Reader.readProgram(program), binders = CheckerCauses.bindersOf(clauses), notes = [];
-    const all = Tokens.clausesOf(Tokens.tokensOf(program)), cureOf = (number, place) => CheckerCauses.bindInBody(all[number - 1], place);
-    for (const { head, predicate, number, line, letter, name } of clauses) {
-      head.arguments.forEach((argument, place) => {
-        const binder = argument.variable === undefined ? binders.get(`${predicate} ${place}`) : undefined;
-        if (binder === undefined) return;
-        const cure = `a head binds nothing; clause ${binder} binds that argument in its body: ${cureOf(number, place)}`;
-        const token = { line, column: letter, text: name };
-        notes.push(caused(which, { token, title: `note: clause ${number} waits until argument ${place + 1} is bound`, hints: [cure] }));
-      });
-    }
-    return notes;
-  }
-
-  /** The notes on a program that was accepted, in the order of its text. */
-  function notesOn(program, which) {
-    const clauses = Tokens.clausesOf(Tokens.tokensOf(program));
-    const notes = clauses.flatMap((clause, place) => [...loneVariables(clause, place + 1, which), ...ownAssignments(clause, place + 1, which)]);
-    return [...notes, ...resultsInHeads(program, which), ...scattered(clauses, which)].sort((one, other) => one.line - other.line || one.column - other.column);
-  }
-
-  return { causeOf, notesOn, linesOf, letterOf };
-})();
-
-export default Causes;
+export { causeOf, notesOn, linesOf, letterOf };

@@ -1,5 +1,5 @@
 // Why the text of an input term is refused (F2), where a query's words would mislead. Pure.
-import Tokens from "./tokens.mjs";
+import * as Tokens from "./tokens.mjs";
 
 const OPERATORS = new Set(["+", "-", "*", "/", "mod"]);
 const cause = (title, ...hints) => ({ title: `syntax: ${title}`, hints });

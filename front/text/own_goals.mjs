@@ -1,98 +1,94 @@
 // What to write instead of a goal, a test or a head that is refused, with the reader's own sides of it. Pure.
 //
 // What is given is a place of a clause: the tokens `here` before it, and `later` those from it on.
-import Cures from "./cures.mjs";
-import OwnWords from "./own_words.mjs";
+import * as Cures from "./cures.mjs";
+import * as OwnWords from "./own_words.mjs";
 
-const OwnGoals = (() => {
-  const COMPARISONS = new Set(["<", ">", "=<", ">=", "=:=", "=\\="]);
-  const isVariable = (text) => /^[A-Z_]\w*$/.test(text ?? "");
-  const clauseOf = ({ here, later }) => [...here, ...later];
+const COMPARISONS = new Set(["<", ">", "=<", ">=", "=:=", "=\\="]);
+const isVariable = (text) => /^[A-Z_]\w*$/.test(text ?? "");
+const clauseOf = ({ here, later }) => [...here, ...later];
 
-  /** The two sides of a mark in the goal around the place, as texts; none where the mark is not there. */
-  function sidesAt(where, mark) {
-    const clause = clauseOf(where), at = Math.min(where.here.length, clause.length - 1);
-    const { from, to } = OwnWords.goalAt(clause, { from: at, to: at });
-    const place = clause.findIndex(({ text }, number) => number >= from && number < to && text === mark);
-    return place < 0 ? [] : OwnWords.sidesOf(clause, { from: place, to: place + 1 });
-  }
+/** The two sides of a mark in the goal around the place, as texts; none where the mark is not there. */
+function sidesAt(where, mark) {
+  const clause = clauseOf(where), at = Math.min(where.here.length, clause.length - 1);
+  const { from, to } = OwnWords.goalAt(clause, { from: at, to: at });
+  const place = clause.findIndex(({ text }, number) => number >= from && number < to && text === mark);
+  return place < 0 ? [] : OwnWords.sidesOf(clause, { from: place, to: place + 1 });
+}
 
-  /** An if-then-else as two clauses, with the clause's head and the condition. */
-  function twoClauses(where) {
-    const clause = clauseOf(where), head = OwnWords.headOf(clause), named = (head && Cures.textOf(head)) ?? "p(X,Y)";
-    const arrow = clause.findIndex((token, place) => token.text === "-" && clause[place + 1]?.text === ">");
-    const { from } = OwnWords.goalAt(clause, { from: arrow, to: arrow + 2 }), condition = clause.slice(from, arrow);
-    const other = Cures.oppositeOf(condition), start = "write two clauses, each with its guard: ";
-    if (other === undefined) return `${start}${named} :- .. | ..`;
-    return `${start}${named} :- ${Cures.textOf(condition)} | ..   ${named} :- ${other} | ..`;
-  }
+/** An if-then-else as two clauses, with the clause's head and the condition. */
+function twoClauses(where) {
+  const clause = clauseOf(where), head = OwnWords.headOf(clause), named = (head && Cures.textOf(head)) ?? "p(X,Y)";
+  const arrow = clause.findIndex((token, place) => token.text === "-" && clause[place + 1]?.text === ">");
+  const { from } = OwnWords.goalAt(clause, { from: arrow, to: arrow + 2 }), condition = clause.slice(from, arrow);
+  const other = Cures.oppositeOf(condition), start = "write two clauses, each with its guard: ";
+  if (other === undefined) return `${start}${named} :- .. | ..`;
+  return `${start}${named} :- ${Cures.textOf(condition)} | ..   ${named} :- ${other} | ..`;
+}
 
-  /** An expression beside `=`: what computes it. */
-  function computed(where) {
-    const sides = sidesAt(where, "="), [left, right] = isVariable(sides[0]) ? sides : [...sides].reverse();
-    return `to compute write :=, as ${isVariable(left) && right !== undefined ? `${left} := ${right}` : "Y := X + 1"}`;
-  }
+/** An expression beside `=`: what computes it. */
+function computed(where) {
+  const sides = sidesAt(where, "="), [left, right] = isVariable(sides[0]) ? sides : [...sides].reverse();
+  return `to compute write :=, as ${isVariable(left) && right !== undefined ? `${left} := ${right}` : "Y := X + 1"}`;
+}
 
-  /** A number before `:=`: turned round where that makes sense. */
-  function turnedRound(where) {
-    const [left, right] = sidesAt(where, ":="), isWhole = left !== undefined && isVariable(right);
-    return `turn it round, as ${isWhole ? `${right} := ${left}` : "X := 3"}, or compare numbers by =:= in the guard`;
-  }
+/** A number before `:=`: turned round where that makes sense. */
+function turnedRound(where) {
+  const [left, right] = sidesAt(where, ":="), isWhole = left !== undefined && isVariable(right);
+  return `turn it round, as ${isWhole ? `${right} := ${left}` : "X := 3"}, or compare numbers by =:= in the guard`;
+}
 
-  /** `=` between numbers in a guard. */
-  function comparedSides(where) {
-    const [left = "X mod 2", right = "0"] = sidesAt(where, "=");
-    return `to compare numbers write =:=, as ${left} =:= ${right}`;
-  }
+/** `=` between numbers in a guard. */
+function comparedSides(where) {
+  const [left = "X mod 2", right = "0"] = sidesAt(where, "=");
+  return `to compare numbers write =:=, as ${left} =:= ${right}`;
+}
 
-  /** A term other than a number in a comparison: the head tests for it. */
-  function comparedTerm(where) {
-    const { here } = where, clause = clauseOf(where), unequal = "for \"not equal\" write a clause for each case";
-    const mark = here.findLastIndex(({ text }) => COMPARISONS.has(text));
-    const isBefore = mark < here.findLastIndex(({ text }) => [",", "|", ":-"].includes(text));
-    const at = isBefore || mark < 0 ? here.length : mark;
-    if (clause[at].text === "=\\=") return unequal;
-    return `the head tests for a term, as ${OwnWords.fill("{VALUE}", clause, at)} :- ..; ${unequal}`;
-  }
+/** A term other than a number in a comparison: the head tests for it. */
+function comparedTerm(where) {
+  const { here } = where, clause = clauseOf(where), unequal = "for \"not equal\" write a clause for each case";
+  const mark = here.findLastIndex(({ text }) => COMPARISONS.has(text));
+  const isBefore = mark < here.findLastIndex(({ text }) => [",", "|", ":-"].includes(text));
+  const at = isBefore || mark < 0 ? here.length : mark;
+  if (clause[at].text === "=\\=") return unequal;
+  return `the head tests for a term, as ${OwnWords.fill("{VALUE}", clause, at)} :- ..; ${unequal}`;
+}
 
-  /** The expression that ends before the place, compared. */
-  function comparedGoal(where) {
-    const clause = clauseOf(where), place = where.here.length;
-    const { from } = OwnWords.goalAt(clause, { from: place, to: place }), goal = clause.slice(from, place);
-    const variable = clause.find(({ kind }) => kind === "variable")?.text ?? "X";
-    if (goal.length === 1) return `compare it, as ${variable} =:= ${goal[0].text}`;
-    return `compare it, as ${Cures.textOf(goal) ?? `${variable} mod 2`} =:= 0`;
-  }
+/** The expression that ends before the place, compared. */
+function comparedGoal(where) {
+  const clause = clauseOf(where), place = where.here.length;
+  const { from } = OwnWords.goalAt(clause, { from: place, to: place }), goal = clause.slice(from, place);
+  const variable = clause.find(({ kind }) => kind === "variable")?.text ?? "X";
+  if (goal.length === 1) return `compare it, as ${variable} =:= ${goal[0].text}`;
+  return `compare it, as ${Cures.textOf(goal) ?? `${variable} mod 2`} =:= 0`;
+}
 
-  /** A comparison of three sides, of which the place is the second mark, as two of them. */
-  function twoComparisons(where) {
-    const clause = clauseOf(where), place = where.here.length, first = place - 2;
-    const { from, to } = OwnWords.goalAt(clause, { from: first, to: place + 1 });
-    const [one, two] = [clause.slice(from, place), clause.slice(first + 1, to)].map(Cures.textOf);
-    return `write two: ${one ?? "X < Y"}, ${two ?? "Y < Z"}`;
-  }
+/** A comparison of three sides, of which the place is the second mark, as two of them. */
+function twoComparisons(where) {
+  const clause = clauseOf(where), place = where.here.length, first = place - 2;
+  const { from, to } = OwnWords.goalAt(clause, { from: first, to: place + 1 });
+  const [one, two] = [clause.slice(from, place), clause.slice(first + 1, to)].map(Cures.textOf);
+  return `write two: ${one ?? "X < Y"}, ${two ?? "Y < Z"}`;
+}
 
-  /** A comparison at a place of a clause's body, moved before the bar. */
-  function beforeBar(where, place) {
-    const clause = clauseOf(where), head = OwnWords.headOf(clause), named = (head && Cures.textOf(head)) ?? "head";
-    const { from, to } = OwnWords.goalAt(clause, { from: place, to: place + 1 });
-    return `tests stand before the bar: ${named} :- ${Cures.textOf(clause.slice(from, to)) ?? "X > Y"} | ..`;
-  }
+/** A comparison at a place of a clause's body, moved before the bar. */
+function beforeBar(where, place) {
+  const clause = clauseOf(where), head = OwnWords.headOf(clause), named = (head && Cures.textOf(head)) ?? "head";
+  const { from, to } = OwnWords.goalAt(clause, { from: place, to: place + 1 });
+  return `tests stand before the bar: ${named} :- ${Cures.textOf(clause.slice(from, to)) ?? "X > Y"} | ..`;
+}
 
-  /** A sum or difference in a head: a new variable stands there, of which the body computes the old one. */
-  function computedInBody(where) {
-    const clause = clauseOf(where), [name, sign, number] = clause.slice(where.here.length - 1);
-    const isSigned = sign.kind === "integer", isSum = ["+", "-"].includes(sign.text) && number?.kind === "integer";
-    if (name.kind !== "variable" || !(isSigned || isSum)) return "take a variable there, and compute in the body";
-    const other = Cures.newName(name.text, clause), amount = isSigned ? sign.text.slice(1) : number.text;
-    const back = `${name.text} := ${other} ${sign.text === "+" ? "-" : "+"} ${amount}`;
-    return `take a variable ${other} there, and compute in the body: ${back}`;
-  }
+/** A sum or difference in a head: a new variable stands there, of which the body computes the old one. */
+function computedInBody(where) {
+  const clause = clauseOf(where), [name, sign, number] = clause.slice(where.here.length - 1);
+  const isSigned = sign.kind === "integer", isSum = ["+", "-"].includes(sign.text) && number?.kind === "integer";
+  if (name.kind !== "variable" || !(isSigned || isSum)) return "take a variable there, and compute in the body";
+  const other = Cures.newName(name.text, clause), amount = isSigned ? sign.text.slice(1) : number.text;
+  const back = `${name.text} := ${other} ${sign.text === "+" ? "-" : "+"} ${amount}`;
+  return `take a variable ${other} there, and compute in the body: ${back}`;
+}
 
-  return {
-    twoClauses, computed, turnedRound, comparedSides, comparedTerm, comparedGoal, twoComparisons, beforeBar,
-    computedInBody,
-  };
-})();
-
-export default OwnGoals;
+export {
+  twoClauses, computed, turnedRound, comparedSides, comparedTerm, comparedGoal, twoComparisons, beforeBar,
+  computedInBody,
+};

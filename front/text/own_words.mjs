@@ -4,95 +4,91 @@
 // name; {B}, what stands before it, {R}, the variable to which it is assigned, {POWER} and {TWOS}, that power of it and
 // of two; {V} and {W}, the arguments of the test there; {HEAD}, its clause's head, {NAME} the name that begins it, and
 // {VALUE}, the head with {Y} in the place of {X}; {OPPOSITE}, a test that no other clause has.
-import Tokens from "./tokens.mjs";
-import Cures from "./cures.mjs";
+import * as Tokens from "./tokens.mjs";
+import * as Cures from "./cures.mjs";
 
-const OwnWords = (() => {
-  const ENDS = [",", "|", ":-", "."], SYMBOLS = /^[^\w\s()[\],|.%"']+$/;
-  const ANY = { // where the text shows none
-    X: "X", Y: "Y", N: "N", N1: "N1", B: "X", R: "Y", POWER: "X * X", TWOS: "2", V: "X", W: "Y", HEAD: "p(X,Y)",
-    NAME: "p", VALUE: "p(a)", OPPOSITE: "; of terms that are no numbers write a clause for each other value",
+const ENDS = [",", "|", ":-", "."], SYMBOLS = /^[^\w\s()[\],|.%"']+$/;
+const ANY = { // where the text shows none
+  X: "X", Y: "Y", N: "N", N1: "N1", B: "X", R: "Y", POWER: "X * X", TWOS: "2", V: "X", W: "Y", HEAD: "p(X,Y)",
+  NAME: "p", VALUE: "p(a)", OPPOSITE: "; of terms that are no numbers write a clause for each other value",
+};
+
+const touches = (left, right) => left.end === right.at;
+const isSymbol = (token) => ["mark", "wrong"].includes(token?.kind) && SYMBOLS.test(token.text);
+
+/** The mark at a place of a clause: from where to where its tokens stand, which touch each other. */
+function markAt(clause, place) {
+  const areSymbols = (left, right) => isSymbol(clause[left]) && isSymbol(clause[right]);
+  const joins = (left, right) => areSymbols(left, right) && touches(clause[left], clause[right]);
+  let from = place, to = place + 1;
+  while (from > 0 && joins(from - 1, from)) from -= 1;
+  while (to < clause.length && joins(to - 1, to)) to += 1;
+  return { from, to };
+}
+
+/** Where the goal around a place begins and ends; a bracket that is opened before the place ends it too. */
+function goalAt(clause, { from, to }) {
+  return Cures.rangeAt(clause, { from, to }, Tokens.depthOf(clause.slice(0, from)), ENDS);
+}
+
+const isTerm = (tokens) => tokens.length > 0 && tokens.every(({ kind }) => kind !== "wrong" && kind !== "end");
+
+/** The texts of the two sides of a mark; undefined where a side is none, or too long. */
+function sidesOf(clause, mark) {
+  const goal = goalAt(clause, mark);
+  const isWritten = ({ kind }) => kind !== "end"; // a query ends with no mark of its own
+  const sides = [clause.slice(goal.from, mark.from), clause.slice(mark.to, goal.to).filter(isWritten)];
+  return sides.map((tokens) => (isTerm(tokens) ? Cures.textOf(tokens) : undefined));
+}
+
+/** The head of a clause; undefined where it begins with none, or is too long. */
+function headOf(clause) {
+  const head = Tokens.headOf(clause);
+  return clause[0]?.kind === "name" && Tokens.depthOf(head) === 0 && isTerm(head) ? head : undefined;
+}
+
+/** The head with a value in the place of a variable that it has, where that is a term; of two variables `a`. */
+function headWith(head, name, value) {
+  const isThere = head?.some(({ kind, text }) => kind === "variable" && text === name);
+  if (!isThere || value === undefined || value.includes(" ")) return undefined;
+  const isVariable = /^[A-Z_]/.test(value), shown = { text: isVariable ? "a" : value };
+  const replaced = isVariable ? [name, value] : [name];
+  return Cures.textOf(head.map((token) => (replaced.includes(token.text) ? shown : token)));
+}
+
+/** The first two arguments of the call at a place, where they are variables. */
+function argumentsAt(clause, place) {
+  const variableAt = (at) => (clause[at]?.kind === "variable" ? clause[at].text : undefined);
+  if (clause[place + 1]?.text !== "(") return [];
+  return [variableAt(place + 2), clause[place + 3]?.text === "," ? variableAt(place + 4) : undefined];
+}
+
+const MOST_FACTORS = 6;
+
+/** What stands for a power, and for a shift, where a number tells how far. */
+function powersOf(base, { text } = { text: "" }) {
+  const many = /^\d$/.test(text) ? Number(text) : 0, isShort = many > 1 && many <= MOST_FACTORS;
+  const power = isShort ? Array(many).fill(base).join(" * ") : `${base} * ${base} * ..`;
+  return { POWER: base && power, TWOS: many > 0 ? String(2 ** many) : undefined };
+}
+
+/** What stands for the openings of a hint, at a place of a clause. */
+function openingsAt(clause, place) {
+  const mark = markAt(clause, place), [X, Y] = sidesOf(clause, mark), [V, W] = argumentsAt(clause, place);
+  const head = headOf(clause), before = clause[mark.from - 1], N = before?.kind === "variable" ? before.text : undefined;
+  const [R] = /^[A-Z_]\w*(?= := )/.exec(X ?? "") ?? [], B = before?.kind === "integer" ? before.text : N;
+  return {
+    X, Y, N, N1: N && Cures.newName(N, clause), B, R, ...powersOf(B, clause[mark.to]), V, W,
+    HEAD: head && Cures.textOf(head), NAME: head?.[0].text, VALUE: headWith(head, X, Y),
   };
+}
 
-  const touches = (left, right) => left.end === right.at;
-  const isSymbol = (token) => ["mark", "wrong"].includes(token?.kind) && SYMBOLS.test(token.text);
+/** A hint with its openings filled in; `more` are known elsewhere. Where {X} or {Y} is not known both are any. */
+function fill(hint, clause, place, more = {}) {
+  if (!hint.includes("{")) return hint;
+  const own = { ...openingsAt(clause, place), ...more }, isHalf = own.X === undefined || own.Y === undefined;
+  const known = isHalf ? { ...own, X: undefined, Y: undefined } : own;
+  return hint.replace(/\{([A-Z]+1?)\}/g, (all, name) => known[name] ?? ANY[name]);
+}
 
-  /** The mark at a place of a clause: from where to where its tokens stand, which touch each other. */
-  function markAt(clause, place) {
-    const areSymbols = (left, right) => isSymbol(clause[left]) && isSymbol(clause[right]);
-    const joins = (left, right) => areSymbols(left, right) && touches(clause[left], clause[right]);
-    let from = place, to = place + 1;
-    while (from > 0 && joins(from - 1, from)) from -= 1;
-    while (to < clause.length && joins(to - 1, to)) to += 1;
-    return { from, to };
-  }
-
-  /** Where the goal around a place begins and ends; a bracket that is opened before the place ends it too. */
-  function goalAt(clause, { from, to }) {
-    return Cures.rangeAt(clause, { from, to }, Tokens.depthOf(clause.slice(0, from)), ENDS);
-  }
-
-  const isTerm = (tokens) => tokens.length > 0 && tokens.every(({ kind }) => kind !== "wrong" && kind !== "end");
-
-  /** The texts of the two sides of a mark; undefined where a side is none, or too long. */
-  function sidesOf(clause, mark) {
-    const goal = goalAt(clause, mark);
-    const isWritten = ({ kind }) => kind !== "end"; // a query ends with no mark of its own
-    const sides = [clause.slice(goal.from, mark.from), clause.slice(mark.to, goal.to).filter(isWritten)];
-    return sides.map((tokens) => (isTerm(tokens) ? Cures.textOf(tokens) : undefined));
-  }
-
-  /** The head of a clause; undefined where it begins with none, or is too long. */
-  function headOf(clause) {
-    const head = clause.slice(0, Tokens.endOfCall(clause, 0) + 1);
-    return clause[0]?.kind === "name" && Tokens.depthOf(head) === 0 && isTerm(head) ? head : undefined;
-  }
-
-  /** The head with a value in the place of a variable that it has, where that is a term; of two variables `a`. */
-  function headWith(head, name, value) {
-    const isThere = head?.some(({ kind, text }) => kind === "variable" && text === name);
-    if (!isThere || value === undefined || value.includes(" ")) return undefined;
-    const isVariable = /^[A-Z_]/.test(value), shown = { text: isVariable ? "a" : value };
-    const replaced = isVariable ? [name, value] : [name];
-    return Cures.textOf(head.map((token) => (replaced.includes(token.text) ? shown : token)));
-  }
-
-  /** The first two arguments of the call at a place, where they are variables. */
-  function argumentsAt(clause, place) {
-    const variableAt = (at) => (clause[at]?.kind === "variable" ? clause[at].text : undefined);
-    if (clause[place + 1]?.text !== "(") return [];
-    return [variableAt(place + 2), clause[place + 3]?.text === "," ? variableAt(place + 4) : undefined];
-  }
-
-  const MOST_FACTORS = 6;
-
-  /** What stands for a power, and for a shift, where a number tells how far. */
-  function powersOf(base, { text } = { text: "" }) {
-    const many = /^\d$/.test(text) ? Number(text) : 0, isShort = many > 1 && many <= MOST_FACTORS;
-    const power = isShort ? Array(many).fill(base).join(" * ") : `${base} * ${base} * ..`;
-    return { POWER: base && power, TWOS: many > 0 ? String(2 ** many) : undefined };
-  }
-
-  /** What stands for the openings of a hint, at a place of a clause. */
-  function openingsAt(clause, place) {
-    const mark = markAt(clause, place), [X, Y] = sidesOf(clause, mark), [V, W] = argumentsAt(clause, place);
-    const head = headOf(clause), before = clause[mark.from - 1], N = before?.kind === "variable" ? before.text : undefined;
-    const [R] = /^[A-Z_]\w*(?= := )/.exec(X ?? "") ?? [], B = before?.kind === "integer" ? before.text : N;
-    return {
-      X, Y, N, N1: N && Cures.newName(N, clause), B, R, ...powersOf(B, clause[mark.to]), V, W,
-      HEAD: head && Cures.textOf(head), NAME: head?.[0].text, VALUE: headWith(head, X, Y),
-    };
-  }
-
-  /** A hint with its openings filled in; `more` are known elsewhere. Where {X} or {Y} is not known both are any. */
-  function fill(hint, clause, place, more = {}) {
-    if (!hint.includes("{")) return hint;
-    const own = { ...openingsAt(clause, place), ...more }, isHalf = own.X === undefined || own.Y === undefined;
-    const known = isHalf ? { ...own, X: undefined, Y: undefined } : own;
-    return hint.replace(/\{([A-Z]+1?)\}/g, (all, name) => known[name] ?? ANY[name]);
-  }
-
-  return { fill, markAt, goalAt, sidesOf, headOf };
-})();
-
-export default OwnWords;
+export { fill, goalAt, sidesOf, headOf };

@@ -1,404 +1,401 @@
 // Why a text is refused at a place (F2): the cause in a reader's words, and what to write instead. It refuses nothing by itself; ghcdb
 // has told the place, and the first rule that knows a cause there is the answer. Pure.
-import Tokens from "./tokens.mjs";
-import Habits from "./habits.mjs";
-import Cures from "./cures.mjs";
-import OwnGoals from "./own_goals.mjs";
-import OwnWords from "./own_words.mjs";
+import * as Tokens from "./tokens.mjs";
+import * as Habits from "./habits.mjs";
+import * as Cures from "./cures.mjs";
+import * as OwnGoals from "./own_goals.mjs";
+import * as OwnWords from "./own_words.mjs";
+import * as Reader from "./reader.mjs";
 
-const SyntaxCauses = (() => {
-  const COMPARISONS = new Set(["<", ">", "=<", ">=", "=:=", "=\\="]), OPERATIONS = new Set(["+", "-", "*", "/", "mod"]);
-  const NO_IF = "there is no if-then-else", NO_SUM = "= does not compute";
-  const CLAUSE = "a clause is: head :- guard | body.";
-  const goalsAs = (example) => `a query is goals with commas between them, as ${example}`;
-  const ARGUMENT = "an argument is a term, and is not computed", PAIR = "a pair is a structure, as pair(A,B), or two arguments";
-  const BEHIND_NUMBER = "numbers are integers, written in digits alone";
+const COMPARISONS = new Set(["<", ">", "=<", ">=", "=:=", "=\\="]), OPERATIONS = new Set(["+", "-", "*", "/", "mod"]);
+const NO_IF = "there is no if-then-else", NO_SUM = "= does not compute";
+const CLAUSE = "a clause is: head :- guard | body.";
+const goalsAs = (example) => `a query is goals with commas between them, as ${example}`;
+const ARGUMENT = "an argument is a term, and is not computed", PAIR = "a pair is a structure, as pair(A,B), or two arguments";
+const BEHIND_NUMBER = "numbers are integers, written in digits alone";
 
-  const quoted = (token) => `'${token.text}'`;
-  const cause = (title, ...hints) => ({ title, hints });
-  const touches = (left, right) => left !== undefined && left.end === right.at;
-  const endsTerm = (token) => token !== undefined && (["name", "variable", "integer"].includes(token.kind) || [")", "]"].includes(token.text));
-  const hasComparison = (tokens) => tokens.some(({ text }) => COMPARISONS.has(text));
+const quoted = (token) => `'${token.text}'`;
+const cause = (title, ...hints) => ({ title, hints });
+const touches = (left, right) => left !== undefined && left.end === right.at;
+const endsTerm = (token) => token !== undefined && (["name", "variable", "integer"].includes(token.kind) || [")", "]"].includes(token.text));
+const hasComparison = (tokens) => tokens.some(({ text }) => COMPARISONS.has(text));
 
-  /** What the rules look at: the token at the place, its neighbours, its clause's tokens; of a query a goal to show. */
-  function surroundings(text, at, isQuery, program) {
-    const tokens = Tokens.tokensOf(text), example = isQuery ? Cures.exampleOf(Tokens.tokensOf(program)) : undefined;
-    const found = tokens.findIndex((token) => token.line === at.line && token.column === at.column);
-    const place = found < 0 ? tokens.length - 1 : found, token = tokens[place];
-    const stop = tokens.slice(0, place).findLastIndex((other) => other.text === ".");
-    const following = tokens.slice(place), end = following.findIndex((other) => other.text === ".");
-    return {
-      text, isQuery, example, tokens, place, token,
-      before: tokens[place - 1], next: tokens[place + 1] ?? token, here: tokens.slice(stop + 1, place),
-      later: end < 0 ? following : following.slice(0, end), rest: text.slice(token.at), depth: Tokens.depthOf(tokens.slice(stop + 1, place)),
-    };
+/** What the rules look at: the token at the place, its neighbours, its clause's tokens; of a query a goal to show. */
+function surroundings(text, at, isQuery, program) {
+  const tokens = Tokens.tokensOf(text), example = isQuery ? Cures.exampleOf(Tokens.tokensOf(program)) : undefined;
+  const found = tokens.findIndex((token) => token.line === at.line && token.column === at.column);
+  const place = found < 0 ? tokens.length - 1 : found, token = tokens[place];
+  const stop = tokens.slice(0, place).findLastIndex((other) => other.text === ".");
+  const following = tokens.slice(place), end = following.findIndex((other) => other.text === ".");
+  return {
+    text, isQuery, example, tokens, place, token,
+    before: tokens[place - 1], next: tokens[place + 1] ?? token, here: tokens.slice(stop + 1, place),
+    later: end < 0 ? following : following.slice(0, end), rest: text.slice(token.at), depth: Tokens.depthOf(tokens.slice(stop + 1, place)),
+  };
+}
+
+/** Lines that declare something elsewhere: directives, modules, modes. */
+function declaration({ token, next, here, isQuery }) {
+  const [first, second] = [...here, token, next];
+  if (isQuery || second === first) return undefined;
+  if (first.text === "mode" && second.kind === "name") return { ...cause("there are no mode declarations", "drop this line: heads and guards tell what is read"), at: first };
+  const isDirective = (first.text === ":-" && here.length > 0) || (first.text === "-" && second.kind === "name");
+  return isDirective ? { ...cause("there are no directives and modules", "drop this line"), at: first } : undefined;
+}
+
+const hasArrow = (tokens) => tokens.some((token, place) => token.text === "-" && tokens[place + 1]?.text === ">" && touches(token, tokens[place + 1]));
+
+/** A semicolon, which is "or" in a body, the end of a clause elsewhere, or what stands before an else. */
+function semicolon(where) {
+  const { token, next, here, isQuery } = where;
+  if (token.text !== ";") return undefined;
+  const isAfterNeck = here.some(({ text }) => text === ":-"), ends = next.kind === "end" || next.line > token.line;
+  if (isQuery) return cause("there is no \"or\"", "a query is one row of goals: separate them by commas");
+  if (hasArrow(here)) return isAfterNeck ? cause(NO_IF, OwnGoals.twoClauses(where)) : cause("-> is written :-, and a clause ends with a full stop", CLAUSE);
+  return ends && isAfterNeck ? cause("there is no \"or\"", "write two clauses", "a clause ends with a full stop") : undefined;
+}
+
+/** Marks of other languages that have two meanings. */
+function markInPlace({ token, before, next, here, depth, isQuery }) {
+  if (token.text === "?" && endsTerm(before) && touches(before, token)) return cause("there are no read-only marks", "drop the ?: heads and guards wait for what they look at");
+  const isCommit = token.text === ":" && !touches(before, token) && !touches(token, next) && depth === 0 && Tokens.barOutside(here) < 0;
+  if (isCommit && !isQuery && here.length > 0) return cause("the bar of a clause is written |", CLAUSE);
+  return undefined;
+}
+
+function foreignMark({ rest, text, token, before }) {
+  if (text.startsWith("\ufeff") && token.at <= 1) return cause(
+    Habits.MARKS.find(([pattern]) => pattern.test("\ufeff"))[1], "save it as UTF-8 without BOM");
+  if (token.text === "\\" && before?.text === "/" && touches(before, token)) return cause(...Habits.PAIRS["/\\"]);
+  const found = Habits.MARKS.find(([pattern]) => pattern.test(rest)), isMark = token.kind === "wrong" || rest.startsWith("//");
+  return found === undefined || !isMark ? undefined : cause(found[1], found[2]);
+}
+
+/** A comment of another language, in which the place is: it begins before the place, and does not end there. */
+function blockComment({ text, tokens, place }) {
+  const opens = (token, at) => token.text === "/" && tokens[at + 1]?.text === "*" && touches(token, tokens[at + 1]);
+  const first = tokens.slice(0, place + 1).findLast(opens);
+  if (first === undefined || text.slice(first.end + 1, tokens[place].at).includes("*/")) return undefined;
+  return { ...cause(...Habits.COMMENT), at: { ...first, text: "/*" } };
+}
+
+function badToken({ token }) {
+  if (token.kind === "variable" && Reader.isState(token.text)) return cause(
+    `${token.text} is a name of the running state`, "name the variable otherwise; such names may stand in `ask` and `show` alone");
+  if (token.kind !== "integer") return undefined;
+  const value = BigInt(token.text);
+  if (value <= 2n ** 63n - 1n && value >= -(2n ** 63n)) return undefined;
+  return cause("the integer does not fit into 64 bits", "integers go from -9223372036854775808 to 9223372036854775807");
+}
+
+/** Arrows, which mean one thing after a head and another in a body. */
+function arrow({ token, before, next, here, depth, isQuery }) {
+  const mark = [touches(before, token) ? before.text + token.text : "", touches(token, next) ? token.text + next.text : ""].find((pair) => ["=>", "<-", "--", "->"].includes(pair));
+  if (mark === undefined || depth > 0 || isQuery) return undefined;
+  const hasNeck = here.some(({ text }) => text === ":-"), isHead = here.length > 0 && !hasNeck;
+  if (isHead) return mark === "--" ? cause("there are no grammars with -->", CLAUSE) : cause(`${mark} is written :-`, CLAUSE);
+  return mark === "<-" ? cause("there is no <-", "to bind a variable write =, as {X} = {Y}; to compute :=, as {X} := {Y}") : undefined;
+}
+
+const MARKS = new Set([":-", ":=", "=<", ">="]);
+
+/** A mark that a blank stands in. */
+function splitMark({ token, before, next }) {
+  const joined = [[before, token], [token, next]].filter(([left, right]) => left !== undefined && left.line === right.line && !touches(left, right)).map(([left, right]) => left.text + right.text);
+  const mark = joined.find((pair) => MARKS.has(pair));
+  return mark === undefined ? undefined : cause(`a blank stands within ${mark}`, `write ${mark} in one piece`);
+}
+
+function foreignPair({ token, before, next }) {
+  const pairs = [touches(before, token) ? before.text + token.text : "", touches(token, next) ? token.text + next.text : ""];
+  const found = pairs.find((pair) => Object.hasOwn(Habits.PAIRS, pair));
+  return found === undefined ? undefined : cause(...Habits.PAIRS[found]);
+}
+
+/** Where a comment took the rest of an expression's line: % is no operator. */
+function commentInExpression({ text, token, before, here }) {
+  const isExpression = here.some((other) => other.text === ":=" || COMPARISONS.has(other.text));
+  if (!isExpression || !endsTerm(before) || before.line === token.line) return undefined;
+  const rest = text.slice(before.end).split("\n")[0];
+  if (!/^[ \t]*%/.test(rest)) return undefined;
+  const [, right = "2"] = /^[ \t]*%[ \t]*(\w+)/.exec(rest) ?? [];
+  return { ...cause("% begins a comment, and is no operator", `the remainder is mod, as ${before.kind === "variable" ? before.text : "X"} mod ${right}`), after: before };
+}
+
+const OPERATORS = ["+", "-", "*", "/", "mod", "=", ":="];
+
+function endOfText({ token, here, isQuery, before, example }) {
+  if (token.kind !== "end") return undefined;
+  const open = Tokens.openBrackets(here).at(-1), where = open && `${quoted(open)} of line ${open.line}, column ${open.column} is not closed`;
+  if (isQuery && open !== undefined) return cause("the query ends within brackets", where);
+  if (isQuery) return cause(
+    here.length > 0 ? "the query ends too early" : "the query is empty",
+    OPERATORS.includes(before?.text) ? `something is missing after ${quoted(before)}` : `write goals, as ${example}; for none: true`);
+  return { ...cause("the text ends within a clause", where ?? `write a full stop after ${quoted(before)}`), after: before };
+}
+
+function beginning({ token, here, next, isQuery, before, example }) {
+  if (here.length > 0) return undefined;
+  if (isQuery && before?.text === ".") return cause("a query is one row of goals", "separate goals by commas");
+  if (token.text === ":-") return isQuery ? cause("a query is given without :-", "drop the :-") : cause("a clause begins with a name", "there are no directives and modules: drop this line");
+  if (next.text === "." && ["otherwise", "alternatively"].includes(token.text)) return cause(...Habits.TESTS[token.text]);
+  if (["true", "otherwise", "alternatively", "instream"].includes(token.text)) return cause(
+    `no clause is for ${token.text}`, "it has a meaning of its own: give the predicate another name");
+  if (token.text === "." && before?.text === ".") return cause("there is a full stop too many", "drop it");
+  if (token.kind === "variable" && !isQuery && (next.text === "=" || next.text === ":=")) return cause(
+    `a clause begins with a name, and not with ${quoted(token)}`, "goals stand in a clause's body, or in the query");
+  if (token.kind === "variable") return cause(
+    `${token.text} is a variable, and no ${isQuery ? "goal" : "clause"} begins with one`, `names of predicates begin with a small letter: ${token.text[0].toLowerCase()}${token.text.slice(1)}`);
+  if (isQuery) return cause(`no goal begins with ${quoted(token)}`, `write goals, as ${example}`);
+  return cause(`no clause begins with ${quoted(token)}`, token.kind === "integer" ? "names of predicates begin with a small letter" : CLAUSE);
+}
+
+function foreignWord({ token, before, next, later }) {
+  const [X, Y] = token.text === "mod" ? Cures.argumentsOf(later).map(Cures.textOf) : [];
+  if (token.text === "mod" && next.text === "(") return cause("mod is an operator", `${X ?? "X"} mod ${Y ?? "2"}, and not mod(${X ?? "X"},${Y ?? "2"})`);
+  if (token.text === "is" && before?.kind === "variable") return cause("`is` is written :=", endsTerm(next) || next.text === "(" ? "{X} := {Y}" : `${before.text} := ..`, ...(next.text === "[" ? [`a term is given by =, as ${before.text} = [A|X]`] : []));
+  if (token.kind === "name" && Object.hasOwn(Habits.WORDS, token.text) && endsTerm(before)) return cause(...Habits.WORDS[token.text]);
+  if (before?.kind === "name" && Object.hasOwn(Habits.WORDS, before.text) && before.text !== "is") return cause(...Habits.WORDS[before.text]);
+  return undefined;
+}
+
+const isFraction = (left, point, right) => left?.kind === "integer" && point?.text === "." && right?.kind === "integer" && touches(left, point) && touches(point, right);
+
+function numbers({ token, before, next, tokens, place }) {
+  const first = tokens[place - 2];
+  if (isFraction(first, before, token) || isFraction(before, token, next)) return cause("there are no fractions", "numbers are integers of 64 bits");
+  if (before?.kind === "integer" && touches(before, token) && (token.kind === "name" || token.kind === "variable")) return cause(
+    `${quoted(token)} cannot follow ${quoted(before)}`, BEHIND_NUMBER);
+  if (token.text === "+" && next.kind === "integer" && !endsTerm(before)) return cause("there is no + before a number", `write ${next.text}`);
+  if (token.text === "-" && next.kind === "integer" && !touches(token, next) && !endsTerm(before)) return cause(
+    "a space stands between the sign and the number", `write -${next.text}`);
+  return undefined;
+}
+
+/** An expression in the place of a term: in a head, or in an argument of a body. */
+function expressionWithin({ token, before, next, here, later, isHead }) {
+  const isNumber = [token, before, next].some(({ kind }) => kind === "integer") && before.kind !== "name";
+  if (isHead) return cause("a head has terms, and computes nothing", ...(isNumber ? [OwnGoals.computedInBody({ here, later })] : [PAIR]));
+  if (before.kind === "name" || next.kind === "name" || next.text === "[") return cause(ARGUMENT, PAIR);
+  const mayBePair = !isNumber && endsTerm(before) && ["-", "/"].includes(token.text);
+  return cause(ARGUMENT, Cures.computeFirst([...here, ...later], here.length), ...(mayBePair ? [PAIR] : []));
+}
+
+const BEFORE_OPERAND = new Set([":=", "<", ">", "=<", ">=", "=:=", "=\\=", "+", "-", "*", "/", "mod", "(", "|"]);
+
+/** Is what stands at the end of a clause's beginning a side of a comparison? */
+function isCompared(here) {
+  const from = here.findLastIndex(({ text }) => [",", "|", ":-"].includes(text)), goal = here.slice(from + 1);
+  return hasComparison(goal) && (COMPARISONS.has(goal.at(-1).text) || BEFORE_OPERAND.has(goal.at(-1).text));
+}
+
+function arithmetic(where) {
+  const { token, before, next, depth, here, later, isQuery } = where;
+  const isOperator = OPERATIONS.has(token.text);
+  if (token.text === "-" && before?.text !== "(" && BEFORE_OPERAND.has(before?.text)) return cause(
+    "there is no minus before a variable or a bracket", next.kind === "variable" ? `write 0 - ${next.text}` : "write 0 - (..)");
+  const isSigned = token.text.startsWith("-") && token.kind === "integer", isHead = !isQuery && !here.some(({ text }) => text === ":-");
+  if (depth > 0 && (isOperator || isSigned)) return expressionWithin({ token, before, next, here, later, isHead });
+  if (isOperator && [...here, ...later].some(({ text }) => text === "=")) return cause(NO_SUM, OwnGoals.computed(where));
+  if (token.text === ":=") return cause("only a variable stands before :=", OwnGoals.turnedRound(where));
+  if (token.kind === "name" && isCompared(here)) return cause(
+    `${quoted(token)} is no number, and only numbers are compared`, OwnGoals.comparedTerm(where));
+  if (token.kind === "name" && next.text === "(" && BEFORE_OPERAND.has(before?.text) && here.at(-1)?.text !== "|" && here.some(({ text }) => text === ":=" || COMPARISONS.has(text))) return cause(
+    `${token.text} is no operator, and nothing computes it`, `let a process give the value: ${token.text}(..,V), and then X := V`, "to name a term write =");
+  if (token.kind === "name" && BEFORE_OPERAND.has(before?.text) && here.some(({ text }) => text === ":=" || COMPARISONS.has(text))) return cause(
+    `${quoted(token)} is no number`, "an expression has variables, integers, + - * / mod and brackets; to name a term write =");
+  return undefined;
+}
+
+/** What stands in the list that is open, outside of brackets within it; undefined where none is. */
+function inList(here) {
+  const open = Tokens.openBrackets(here).at(-1);
+  if (open?.text !== "[") return undefined;
+  let depth = 0;
+  return here.slice(here.indexOf(open) + 1).filter((token) => {
+    const isOutside = depth === 0;
+    depth += Tokens.depthOf([token]);
+    return isOutside;
+  });
+}
+
+/** May the last goal before a guard's bar be a test? An expression without a comparison is none. */
+function isTest(here) {
+  const start = here.findLastIndex(({ text }, place) => [",", ":-"].includes(text) && Tokens.depthOf(here.slice(0, place)) === 0), goal = here.slice(start + 1);
+  const isExpression = goal[0]?.kind === "integer" || (goal.length > 1 && goal.some(({ text }) => OPERATIONS.has(text)));
+  return start < 0 || !isExpression || hasComparison(goal) || Tokens.depthOf(here) > 0;
+}
+
+function bars({ token, before, here, later }) {
+  const hasBar = Tokens.barOutside(here) >= 0;
+  if (token.text === "|" && before?.text === ":-") return cause("the guard is empty", "write true |, or leave out the bar too");
+  const list = inList(here), hasTail = list?.some(({ text }) => text === "|");
+  if (hasTail && ["|", ","].includes(token.text) && endsTerm(before)) return cause("one tail stands after the bar of a list", "[A,B|C], and not [A|B|C]");
+  if (list !== undefined && token.text === "]" && before.text === "|") return cause("no tail stands after the bar of the list", "write it, as [A|X], or drop the bar");
+  if (token.text === "|" && before?.text === "[") return cause("a term is expected after '['", "write it, or drop the mark");
+  if (token.text === "|" && !isTest(here)) return cause("an expression is no test", OwnGoals.comparedGoal({ here, later }));
+  if (token.text === "|" && before?.kind === "variable") return cause(`${quoted(before)} is no test`, `to wait until it is bound write wait(${before.text})`);
+  if (token.text === "|" && hasBar) return cause(
+    "a second bar in one clause", "a clause is head :- guard | body. with one bar: all tests stand before it");
+  return undefined;
+}
+
+/** An expression and `=` before the bar: a comparison is meant. */
+function equationInGuard(where) {
+  const { token, here, later, depth } = where;
+  if (depth > 0 || Tokens.barOutside(here) >= 0 || Tokens.barOutside(later) < 0) return undefined;
+  const goal = here.slice(here.findLastIndex(({ text }) => [",", ":-"].includes(text)) + 1);
+  if (token.text === "=" ? isTest(here) : !OPERATIONS.has(token.text) || !goal.some(({ text }) => text === "=")) return undefined;
+  return cause("= does not compare", OwnGoals.comparedSides(where));
+}
+
+function comparisonAfterBar({ token, here, later }) {
+  const hasBar = Tokens.barOutside(here) >= 0;
+  if (!COMPARISONS.has(token.text) || !hasBar || !later.some(({ text }) => text === "|")) return undefined;
+  return cause("a comparison stands after the first bar", "a clause has one bar: all tests stand before it, with commas, as true, X > 0 |");
+}
+
+function comparison({ token, before, here, later, isQuery, tokens, place }) {
+  const chained = COMPARISONS.has(token.text) && hasComparison([tokens[place - 2] ?? {}]);
+  if (chained) return cause("a comparison has two sides", OwnGoals.twoComparisons({ here, later }));
+  const isCompared = COMPARISONS.has(token.text) || ([".", ","].includes(token.text) && hasComparison(here)) || (token.kind === "end" && hasComparison(here));
+  if (!isCompared || before === undefined) return undefined;
+  const open = Tokens.openBrackets(here).at(-1), isGrouped = open?.text === "(" && here[here.indexOf(open) - 1]?.kind !== "name";
+  if (isGrouped && COMPARISONS.has(token.text)) return cause("brackets group expressions alone", "write the tests without them, with commas between them");
+  if (isQuery) return cause(
+    "a comparison stands in the query", "comparisons are tests of clauses; to compute write Y := X + 1, and look at it by `show`");
+  const at = COMPARISONS.has(token.text) ? undefined : here.find(({ text }) => COMPARISONS.has(text));
+  const ownAt = at === undefined ? here.length : here.indexOf(at);
+  return { at, ...cause(
+    "a comparison stands in the body", OwnGoals.beforeBar({ here, later }, ownAt), "a clause without a bar has the guard true, and all of it is body") };
+}
+
+function brackets({ token, before, here, depth }) {
+  const open = Tokens.openBrackets(here).at(-1), missing = open?.text === "(" ? ")" : "]";
+  const where = open && `${quoted(open)} of line ${open.line}, column ${open.column}`;
+  const isClosing = token.text === ")" || token.text === "]";
+  const ends = token.text === "." || token.text === ":-" || (token.text === "|" && open?.text === "(");
+  if (ends && depth > 0) return cause(`${where} is not closed`, `missing: ${missing}`);
+  if (isClosing && open === undefined) return cause(
+    `${quoted(token)} closes nothing`, "there is one bracket too many, or one before it is missing");
+  if (isClosing && missing !== token.text) return cause(`${quoted(token)} does not close ${where}`, `missing: ${missing}`);
+  if (isClosing && before?.text === "(") return cause(
+    "no arguments stand between the brackets", "an atom, or a goal without arguments, has no brackets");
+  if (token.text === "(" && before?.text === "(") return cause("brackets group expressions alone", "write the term without them");
+  return undefined;
+}
+
+/** What belongs to clauses stands in a query. */
+function clauseInQuery({ token, isQuery, depth, example }) {
+  if (!isQuery || depth > 0 || (token.text !== ":-" && token.text !== "|")) return undefined;
+  return cause(token.text === ":-" ? "a clause stands in the place of a query" : "a query has no guard", goalsAs(example));
+}
+
+/** A second `:-` where a clause has not ended: most often a comma in the place of a full stop. */
+function secondNeck({ token, here, tokens, place }) {
+  if (token.text !== ":-" || !here.some(({ text }) => text === ":-")) return undefined;
+  const at = Tokens.callBefore(tokens, place), head = tokens[at], mark = tokens[at - 1];
+  const cure = mark?.text === "," ? `is a full stop meant in place of the comma before ${quoted(head)} in line ${head.line}?` : "a clause ends with a full stop: is one missing?";
+  return cause("a second :- in one clause", cure);
+}
+
+/** A head is one call, and then comes `:-` or the full stop. */
+function afterHead({ token, here, isQuery, depth, before }) {
+  if (isQuery || depth > 0 || here.some(({ text }) => text === ":-") || !endsTerm(before)) return undefined;
+  if (![",", "|", "=", ":=", ...COMPARISONS].includes(token.text)) return undefined;
+  return cause(`${quoted(token)} cannot follow the head of a clause`, "is :- missing? " + CLAUSE);
+}
+
+/** What stands within brackets is terms with commas between them. */
+function withinBrackets({ token, before, here, depth }) {
+  if (depth === 0) return undefined;
+  const callee = here[here.indexOf(Tokens.openBrackets(here).at(-1)) - 1]?.text;
+  if (callee === "not" && ["=", ":="].includes(token.text)) return cause(...Habits.WORDS.not);
+  if (["=", ":="].includes(token.text) || COMPARISONS.has(token.text)) return cause("an argument is a term, and no goal or test", "write the goal before or after this one, with a comma between them");
+  if (["(", "["].includes(before?.text) && [",", "|"].includes(token.text)) return cause(`a term is expected after ${quoted(before)}`, "write it, or drop the mark");
+  if (before?.text === "(" && token.kind === "name") return cause("brackets group expressions alone", "write goals and terms without them");
+  return undefined;
+}
+
+function streams({ token, isQuery }) {
+  if (token.text !== "instream") return undefined;
+  if (isQuery) return cause("instream takes a variable", "write instream(S), and feed it by `in 1 TERM`");
+  return cause("instream stands in queries alone", "give the process a variable, and write instream(S) in the query");
+}
+
+/** A name that is written with a hyphen, as my-pred. */
+function hyphen({ token, before, next }) {
+  if (token.text !== "-" || before?.kind !== "name" || next.kind !== "name" || !touches(before, token) || !touches(token, next)) return undefined;
+  return cause("a name has no hyphen", `write ${before.text}_${next.text}`);
+}
+
+function neighbours({ token, before, isQuery, here, later, tokens, place }) {
+  if (token.kind === "variable" && before?.kind === "name" && before.line === token.line) return cause(
+    `${quoted(token)} cannot follow ${quoted(before)}`, `arguments stand in brackets: ${before.text}(${token.text})`);
+  if (token.text === "(" && before?.kind === "variable") return cause(`${before.text} is a variable, and names nothing that has arguments`, `names begin with a small letter: ${before.text[0].toLowerCase()}${before.text.slice(1)}(..)`);
+  if (!endsTerm(before) || !(["name", "variable", "integer"].includes(token.kind) || ["(", "["].includes(token.text))) return undefined;
+  return cause(`${quoted(token)} cannot follow ${quoted(before)}`, missingBetween({ token, before, isQuery, here, later, tokens, place }));
+}
+
+/** What is missing between two tokens: the bar after a comparison; in a new line a comma where it is indented and begins no clause, else a full stop. */
+function missingBetween({ token, before, isQuery, here, later, tokens, place }) {
+  const last = here.slice(here.findLastIndex(({ text }) => [",", ":-"].includes(text)) + 1), hasBar = Tokens.barOutside(here) >= 0 || Tokens.barOutside(later) >= 0;
+  if (!isQuery && !hasBar && Tokens.depthOf(here) === 0 && hasComparison(last)) return `is the bar missing after ${quoted(before)}? ${CLAUSE}`;
+  if (before.line === token.line || isQuery) return "a comma or an operator is missing";
+  const isGoal = token.column > here[0].column && tokens[Tokens.endOfCall(tokens, place) + 1]?.text !== ":-";
+  return `is there a ${isGoal ? "comma" : "full stop"} missing after ${quoted(before)} in line ${before.line}?`;
+}
+
+function variableAsGoal({ token, before, tokens, place, depth }) {
+  const isEnd = token.text === "." || token.text === "," || token.kind === "end";
+  if (depth > 0 || before?.kind !== "variable" || !isEnd) return undefined;
+  if (![",", "|", ":-", undefined].includes(tokens[place - 2]?.text)) return undefined;
+  return cause(`the variable ${before.text} is no goal`, "goals are calls, as p(X), and X = Y, X := E; there is no call of a term");
+}
+
+/** The tokens of a goal, of which the first ones are given: up to the comma after it. */
+function goalOf(tokens) {
+  const end = tokens.findIndex(({ text }, place) => text === "," && Tokens.depthOf(tokens.slice(0, place)) === 0);
+  return end < 0 ? tokens : tokens.slice(0, end);
+}
+
+function afterMark(where) {
+  const { token, before, isQuery, later, example } = where;
+  if (before?.text === ",") return cause(
+    `a goal or a term is expected after the comma, and ${quoted(token)} is none`, "drop the comma, or write what is missing");
+  if (token.text === "(" && hasArrow(later)) return cause(NO_IF, OwnGoals.twoClauses(where));
+  if (token.text === "(" && before?.text === "=" && goalOf(later).some(({ text }) => OPERATIONS.has(text))) return cause(NO_SUM, OwnGoals.computed(where));
+  if (token.text === "(" && [":-", "|"].includes(before?.text)) return cause("brackets group expressions alone", "write the goals without them, with commas between them");
+  if (token.text === "(" && before?.text === "=") return cause("brackets group expressions alone", "a pair is a structure, as pair(1,2)");
+  if (["=", ":="].includes(before?.text)) return cause(
+    `${quoted(token)} cannot stand after ${quoted(before)}`, before.text === "=" ? "a term stands there, as [A|X]" : "an expression stands there, as X + 1; to name a term write =");
+  if ([":-", "|"].includes(before?.text)) return cause(`no goal begins with ${quoted(token)}`, isQuery ? goalsAs(example) : CLAUSE);
+  return undefined;
+}
+
+function anything({ token, before, isQuery, example }) {
+  return cause(`${quoted(token)} cannot stand here${before === undefined ? "" : `, after ${quoted(before)}`}`, isQuery ? goalsAs(example) : CLAUSE);
+}
+
+const RULES = [
+  declaration, blockComment, badToken, splitMark, semicolon, markInPlace, foreignMark, arrow, foreignPair, hyphen,
+  commentInExpression, numbers, equationInGuard, comparisonAfterBar, comparison, variableAsGoal, endOfText, streams,
+  beginning, foreignWord,
+  clauseInQuery, secondNeck, bars, arithmetic, brackets, afterHead, withinBrackets, neighbours, afterMark, anything,
+];
+
+/** The cause of a refusal at a place of a text: its title, its hints, and the token at which it stands. */
+function causeOf(text, at, isQuery, program = text) {
+  const where = surroundings(text, at, isQuery, program);
+  for (const rule of RULES) {
+    const found = rule(where);
+    if (found === undefined) continue;
+    const { after, at: meant, title, hints } = found, clause = [...where.here, ...where.later];
+    const told = { title, hints: hints.map((hint) => OwnWords.fill(hint, clause, where.here.length)) };
+    if (after === undefined) return { ...told, token: meant ?? where.token };
+    return { ...told, token: { line: after.line, column: after.column + after.text.length, text: " " } };
   }
+  return undefined;
+}
 
-  /** Lines that declare something elsewhere: directives, modules, modes. */
-  function declaration({ token, next, here, isQuery }) {
-    const [first, second] = [...here, token, next];
-    if (isQuery || second === first) return undefined;
-    if (first.text === "mode" && second.kind === "name") return { ...cause("there are no mode declarations", "drop this line: heads and guards tell what is read"), at: first };
-    const isDirective = (first.text === ":-" && here.length > 0) || (first.text === "-" && second.kind === "name");
-    return isDirective ? { ...cause("there are no directives and modules", "drop this line"), at: first } : undefined;
-  }
-
-  const hasArrow = (tokens) => tokens.some((token, place) => token.text === "-" && tokens[place + 1]?.text === ">" && touches(token, tokens[place + 1]));
-
-  /** A semicolon, which is "or" in a body, the end of a clause elsewhere, or what stands before an else. */
-  function semicolon(where) {
-    const { token, next, here, isQuery } = where;
-    if (token.text !== ";") return undefined;
-    const isAfterNeck = here.some(({ text }) => text === ":-"), ends = next.kind === "end" || next.line > token.line;
-    if (isQuery) return cause("there is no \"or\"", "a query is one row of goals: separate them by commas");
-    if (hasArrow(here)) return isAfterNeck ? cause(NO_IF, OwnGoals.twoClauses(where)) : cause("-> is written :-, and a clause ends with a full stop", CLAUSE);
-    return ends && isAfterNeck ? cause("there is no \"or\"", "write two clauses", "a clause ends with a full stop") : undefined;
-  }
-
-  /** Marks of other languages that have two meanings. */
-  function markInPlace({ token, before, next, here, depth, isQuery }) {
-    if (token.text === "?" && endsTerm(before) && touches(before, token)) return cause("there are no read-only marks", "drop the ?: heads and guards wait for what they look at");
-    const isCommit = token.text === ":" && !touches(before, token) && !touches(token, next) && depth === 0 && Tokens.barOutside(here) < 0;
-    if (isCommit && !isQuery && here.length > 0) return cause("the bar of a clause is written |", CLAUSE);
-    return undefined;
-  }
-
-  function foreignMark({ rest, text, token, before }) {
-    if (text.startsWith("\ufeff") && token.at <= 1) return cause(
-      Habits.MARKS.find(([pattern]) => pattern.test("\ufeff"))[1], "save it as UTF-8 without BOM");
-    if (token.text === "\\" && before?.text === "/" && touches(before, token)) return cause(...Habits.PAIRS["/\\"]);
-    const found = Habits.MARKS.find(([pattern]) => pattern.test(rest)), isMark = token.kind === "wrong" || rest.startsWith("//");
-    return found === undefined || !isMark ? undefined : cause(found[1], found[2]);
-  }
-
-  /** A comment of another language, in which the place is: it begins before the place, and does not end there. */
-  function blockComment({ text, tokens, place }) {
-    const opens = (token, at) => token.text === "/" && tokens[at + 1]?.text === "*" && touches(token, tokens[at + 1]);
-    const first = tokens.slice(0, place + 1).findLast(opens);
-    if (first === undefined || text.slice(first.end + 1, tokens[place].at).includes("*/")) return undefined;
-    return { ...cause(...Habits.COMMENT), at: { ...first, text: "/*" } };
-  }
-
-  function badToken({ token }) {
-    if (token.kind === "variable" && /^_\d+_\d+$/.test(token.text)) return cause(
-      `${token.text} is a name of the running state`, "name the variable otherwise; such names may stand in `ask` and `show` alone");
-    if (token.kind !== "integer") return undefined;
-    const value = BigInt(token.text);
-    if (value <= 2n ** 63n - 1n && value >= -(2n ** 63n)) return undefined;
-    return cause("the integer does not fit into 64 bits", "integers go from -9223372036854775808 to 9223372036854775807");
-  }
-
-  /** Arrows, which mean one thing after a head and another in a body. */
-  function arrow({ token, before, next, here, depth, isQuery }) {
-    const mark = [touches(before, token) ? before.text + token.text : "", touches(token, next) ? token.text + next.text : ""].find((pair) => ["=>", "<-", "--", "->"].includes(pair));
-    if (mark === undefined || depth > 0 || isQuery) return undefined;
-    const hasNeck = here.some(({ text }) => text === ":-"), isHead = here.length > 0 && !hasNeck;
-    if (isHead) return mark === "--" ? cause("there are no grammars with -->", CLAUSE) : cause(`${mark} is written :-`, CLAUSE);
-    return mark === "<-" ? cause("there is no <-", "to bind a variable write =, as {X} = {Y}; to compute :=, as {X} := {Y}") : undefined;
-  }
-
-  const MARKS = new Set([":-", ":=", "=<", ">="]);
-
-  /** A mark that a blank stands in. */
-  function splitMark({ token, before, next }) {
-    const joined = [[before, token], [token, next]].filter(([left, right]) => left !== undefined && left.line === right.line && !touches(left, right)).map(([left, right]) => left.text + right.text);
-    const mark = joined.find((pair) => MARKS.has(pair));
-    return mark === undefined ? undefined : cause(`a blank stands within ${mark}`, `write ${mark} in one piece`);
-  }
-
-  function foreignPair({ token, before, next }) {
-    const pairs = [touches(before, token) ? before.text + token.text : "", touches(token, next) ? token.text + next.text : ""];
-    const found = pairs.find((pair) => Object.hasOwn(Habits.PAIRS, pair));
-    return found === undefined ? undefined : cause(...Habits.PAIRS[found]);
-  }
-
-  /** Where a comment took the rest of an expression's line: % is no operator. */
-  function commentInExpression({ text, token, before, here }) {
-    const isExpression = here.some((other) => other.text === ":=" || COMPARISONS.has(other.text));
-    if (!isExpression || !endsTerm(before) || before.line === token.line) return undefined;
-    const rest = text.slice(before.end).split("\n")[0];
-    if (!/^[ \t]*%/.test(rest)) return undefined;
-    const [, right = "2"] = /^[ \t]*%[ \t]*(\w+)/.exec(rest) ?? [];
-    return { ...cause("% begins a comment, and is no operator", `the remainder is mod, as ${before.kind === "variable" ? before.text : "X"} mod ${right}`), after: before };
-  }
-
-  const OPERATORS = ["+", "-", "*", "/", "mod", "=", ":="];
-
-  function endOfText({ token, here, isQuery, before, example }) {
-    if (token.kind !== "end") return undefined;
-    const open = Tokens.openBrackets(here).at(-1), where = open && `${quoted(open)} of line ${open.line}, column ${open.column} is not closed`;
-    if (isQuery && open !== undefined) return cause("the query ends within brackets", where);
-    if (isQuery) return cause(
-      here.length > 0 ? "the query ends too early" : "the query is empty",
-      OPERATORS.includes(before?.text) ? `something is missing after ${quoted(before)}` : `write goals, as ${example}; for none: true`);
-    return { ...cause("the text ends within a clause", where ?? `write a full stop after ${quoted(before)}`), after: before };
-  }
-
-  function beginning({ token, here, next, isQuery, before, example }) {
-    if (here.length > 0) return undefined;
-    if (isQuery && before?.text === ".") return cause("a query is one row of goals", "separate goals by commas");
-    if (token.text === ":-") return isQuery ? cause("a query is given without :-", "drop the :-") : cause("a clause begins with a name", "there are no directives and modules: drop this line");
-    if (next.text === "." && ["otherwise", "alternatively"].includes(token.text)) return cause(...Habits.TESTS[token.text]);
-    if (["true", "otherwise", "alternatively", "instream"].includes(token.text)) return cause(
-      `no clause is for ${token.text}`, "it has a meaning of its own: give the predicate another name");
-    if (token.text === "." && before?.text === ".") return cause("there is a full stop too many", "drop it");
-    if (token.kind === "variable" && !isQuery && (next.text === "=" || next.text === ":=")) return cause(
-      `a clause begins with a name, and not with ${quoted(token)}`, "goals stand in a clause's body, or in the query");
-    if (token.kind === "variable") return cause(
-      `${token.text} is a variable, and no ${isQuery ? "goal" : "clause"} begins with one`, `names of predicates begin with a small letter: ${token.text[0].toLowerCase()}${token.text.slice(1)}`);
-    if (isQuery) return cause(`no goal begins with ${quoted(token)}`, `write goals, as ${example}`);
-    return cause(`no clause begins with ${quoted(token)}`, token.kind === "integer" ? "names of predicates begin with a small letter" : CLAUSE);
-  }
-
-  function foreignWord({ token, before, next, later }) {
-    const [X, Y] = token.text === "mod" ? Cures.argumentsOf(later).map(Cures.textOf) : [];
-    if (token.text === "mod" && next.text === "(") return cause("mod is an operator", `${X ?? "X"} mod ${Y ?? "2"}, and not mod(${X ?? "X"},${Y ?? "2"})`);
-    if (token.text === "is" && before?.kind === "variable") return cause("`is` is written :=", endsTerm(next) || next.text === "(" ? "{X} := {Y}" : `${before.text} := ..`, ...(next.text === "[" ? [`a term is given by =, as ${before.text} = [A|X]`] : []));
-    if (token.kind === "name" && Object.hasOwn(Habits.WORDS, token.text) && endsTerm(before)) return cause(...Habits.WORDS[token.text]);
-    if (before?.kind === "name" && Object.hasOwn(Habits.WORDS, before.text) && before.text !== "is") return cause(...Habits.WORDS[before.text]);
-    return undefined;
-  }
-
-  const isFraction = (left, point, right) => left?.kind === "integer" && point?.text === "." && right?.kind === "integer" && touches(left, point) && touches(point, right);
-
-  function numbers({ token, before, next, tokens, place }) {
-    const first = tokens[place - 2];
-    if (isFraction(first, before, token) || isFraction(before, token, next)) return cause("there are no fractions", "numbers are integers of 64 bits");
-    if (before?.kind === "integer" && touches(before, token) && (token.kind === "name" || token.kind === "variable")) return cause(
-      `${quoted(token)} cannot follow ${quoted(before)}`, BEHIND_NUMBER);
-    if (token.text === "+" && next.kind === "integer" && !endsTerm(before)) return cause("there is no + before a number", `write ${next.text}`);
-    if (token.text === "-" && next.kind === "integer" && !touches(token, next) && !endsTerm(before)) return cause(
-      "a space stands between the sign and the number", `write -${next.text}`);
-    return undefined;
-  }
-
-  /** An expression in the place of a term: in a head, or in an argument of a body. */
-  function expressionWithin({ token, before, next, here, later, isHead }) {
-    const isNumber = [token, before, next].some(({ kind }) => kind === "integer") && before.kind !== "name";
-    if (isHead) return cause("a head has terms, and computes nothing", ...(isNumber ? [OwnGoals.computedInBody({ here, later })] : [PAIR]));
-    if (before.kind === "name" || next.kind === "name" || next.text === "[") return cause(ARGUMENT, PAIR);
-    const mayBePair = !isNumber && endsTerm(before) && ["-", "/"].includes(token.text);
-    return cause(ARGUMENT, Cures.computeFirst([...here, ...later], here.length), ...(mayBePair ? [PAIR] : []));
-  }
-
-  const BEFORE_OPERAND = new Set([":=", "<", ">", "=<", ">=", "=:=", "=\\=", "+", "-", "*", "/", "mod", "(", "|"]);
-
-  /** Is what stands at the end of a clause's beginning a side of a comparison? */
-  function isCompared(here) {
-    const from = here.findLastIndex(({ text }) => [",", "|", ":-"].includes(text)), goal = here.slice(from + 1);
-    return hasComparison(goal) && (COMPARISONS.has(goal.at(-1).text) || BEFORE_OPERAND.has(goal.at(-1).text));
-  }
-
-  function arithmetic(where) {
-    const { token, before, next, depth, here, later, isQuery } = where;
-    const isOperator = OPERATIONS.has(token.text);
-    if (token.text === "-" && before?.text !== "(" && BEFORE_OPERAND.has(before?.text)) return cause(
-      "there is no minus before a variable or a bracket", next.kind === "variable" ? `write 0 - ${next.text}` : "write 0 - (..)");
-    const isSigned = token.text.startsWith("-") && token.kind === "integer", isHead = !isQuery && !here.some(({ text }) => text === ":-");
-    if (depth > 0 && (isOperator || isSigned)) return expressionWithin({ token, before, next, here, later, isHead });
-    if (isOperator && [...here, ...later].some(({ text }) => text === "=")) return cause(NO_SUM, OwnGoals.computed(where));
-    if (token.text === ":=") return cause("only a variable stands before :=", OwnGoals.turnedRound(where));
-    if (token.kind === "name" && isCompared(here)) return cause(
-      `${quoted(token)} is no number, and only numbers are compared`, OwnGoals.comparedTerm(where));
-    if (token.kind === "name" && next.text === "(" && BEFORE_OPERAND.has(before?.text) && here.at(-1)?.text !== "|" && here.some(({ text }) => text === ":=" || COMPARISONS.has(text))) return cause(
-      `${token.text} is no operator, and nothing computes it`, `let a process give the value: ${token.text}(..,V), and then X := V`, "to name a term write =");
-    if (token.kind === "name" && BEFORE_OPERAND.has(before?.text) && here.some(({ text }) => text === ":=" || COMPARISONS.has(text))) return cause(
-      `${quoted(token)} is no number`, "an expression has variables, integers, + - * / mod and brackets; to name a term write =");
-    return undefined;
-  }
-
-  /** What stands in the list that is open, outside of brackets within it; undefined where none is. */
-  function inList(here) {
-    const open = Tokens.openBrackets(here).at(-1);
-    if (open?.text !== "[") return undefined;
-    let depth = 0;
-    return here.slice(here.indexOf(open) + 1).filter((token) => {
-      const isOutside = depth === 0;
-      depth += Tokens.depthOf([token]);
-      return isOutside;
-    });
-  }
-
-  /** May the last goal before a guard's bar be a test? An expression without a comparison is none. */
-  function isTest(here) {
-    const start = here.findLastIndex(({ text }, place) => [",", ":-"].includes(text) && Tokens.depthOf(here.slice(0, place)) === 0), goal = here.slice(start + 1);
-    const isExpression = goal[0]?.kind === "integer" || (goal.length > 1 && goal.some(({ text }) => OPERATIONS.has(text)));
-    return start < 0 || !isExpression || hasComparison(goal) || Tokens.depthOf(here) > 0;
-  }
-
-  function bars({ token, before, here, later }) {
-    const hasBar = Tokens.barOutside(here) >= 0;
-    if (token.text === "|" && before?.text === ":-") return cause("the guard is empty", "write true |, or leave out the bar too");
-    const list = inList(here), hasTail = list?.some(({ text }) => text === "|");
-    if (hasTail && ["|", ","].includes(token.text) && endsTerm(before)) return cause("one tail stands after the bar of a list", "[A,B|C], and not [A|B|C]");
-    if (list !== undefined && token.text === "]" && before.text === "|") return cause("no tail stands after the bar of the list", "write it, as [A|X], or drop the bar");
-    if (token.text === "|" && before?.text === "[") return cause("a term is expected after '['", "write it, or drop the mark");
-    if (token.text === "|" && !isTest(here)) return cause("an expression is no test", OwnGoals.comparedGoal({ here, later }));
-    if (token.text === "|" && before?.kind === "variable") return cause(`${quoted(before)} is no test`, `to wait until it is bound write wait(${before.text})`);
-    if (token.text === "|" && hasBar) return cause(
-      "a second bar in one clause", "a clause is head :- guard | body. with one bar: all tests stand before it");
-    return undefined;
-  }
-
-  /** An expression and `=` before the bar: a comparison is meant. */
-  function equationInGuard(where) {
-    const { token, here, later, depth } = where;
-    if (depth > 0 || Tokens.barOutside(here) >= 0 || Tokens.barOutside(later) < 0) return undefined;
-    const goal = here.slice(here.findLastIndex(({ text }) => [",", ":-"].includes(text)) + 1);
-    if (token.text === "=" ? isTest(here) : !OPERATIONS.has(token.text) || !goal.some(({ text }) => text === "=")) return undefined;
-    return cause("= does not compare", OwnGoals.comparedSides(where));
-  }
-
-  function comparisonAfterBar({ token, here, later }) {
-    const hasBar = Tokens.barOutside(here) >= 0;
-    if (!COMPARISONS.has(token.text) || !hasBar || !later.some(({ text }) => text === "|")) return undefined;
-    return cause("a comparison stands after the first bar", "a clause has one bar: all tests stand before it, with commas, as true, X > 0 |");
-  }
-
-  function comparison({ token, before, here, later, isQuery, tokens, place }) {
-    const chained = COMPARISONS.has(token.text) && hasComparison([tokens[place - 2] ?? {}]);
-    if (chained) return cause("a comparison has two sides", OwnGoals.twoComparisons({ here, later }));
-    const isCompared = COMPARISONS.has(token.text) || ([".", ","].includes(token.text) && hasComparison(here)) || (token.kind === "end" && hasComparison(here));
-    if (!isCompared || before === undefined) return undefined;
-    const open = Tokens.openBrackets(here).at(-1), isGrouped = open?.text === "(" && here[here.indexOf(open) - 1]?.kind !== "name";
-    if (isGrouped && COMPARISONS.has(token.text)) return cause("brackets group expressions alone", "write the tests without them, with commas between them");
-    if (isQuery) return cause(
-      "a comparison stands in the query", "comparisons are tests of clauses; to compute write Y := X + 1, and look at it by `show`");
-    const at = COMPARISONS.has(token.text) ? undefined : here.find(({ text }) => COMPARISONS.has(text));
-    const ownAt = at === undefined ? here.length : here.indexOf(at);
-    return { at, ...cause(
-      "a comparison stands in the body", OwnGoals.beforeBar({ here, later }, ownAt), "a clause without a bar has the guard true, and all of it is body") };
-  }
-
-  function brackets({ token, before, here, depth }) {
-    const open = Tokens.openBrackets(here).at(-1), missing = open?.text === "(" ? ")" : "]";
-    const where = open && `${quoted(open)} of line ${open.line}, column ${open.column}`;
-    const isClosing = token.text === ")" || token.text === "]";
-    const ends = token.text === "." || token.text === ":-" || (token.text === "|" && open?.text === "(");
-    if (ends && depth > 0) return cause(`${where} is not closed`, `missing: ${missing}`);
-    if (isClosing && open === undefined) return cause(
-      `${quoted(token)} closes nothing`, "there is one bracket too many, or one before it is missing");
-    if (isClosing && missing !== token.text) return cause(`${quoted(token)} does not close ${where}`, `missing: ${missing}`);
-    if (isClosing && before?.text === "(") return cause(
-      "no arguments stand between the brackets", "an atom, or a goal without arguments, has no brackets");
-    if (token.text === "(" && before?.text === "(") return cause("brackets group expressions alone", "write the term without them");
-    return undefined;
-  }
-
-  /** What belongs to clauses stands in a query. */
-  function clauseInQuery({ token, isQuery, depth, example }) {
-    if (!isQuery || depth > 0 || (token.text !== ":-" && token.text !== "|")) return undefined;
-    return cause(token.text === ":-" ? "a clause stands in the place of a query" : "a query has no guard", goalsAs(example));
-  }
-
-  /** A second `:-` where a clause has not ended: most often a comma in the place of a full stop. */
-  function secondNeck({ token, here, tokens, place }) {
-    if (token.text !== ":-" || !here.some(({ text }) => text === ":-")) return undefined;
-    const at = Tokens.callBefore(tokens, place), head = tokens[at], mark = tokens[at - 1];
-    const cure = mark?.text === "," ? `is a full stop meant in place of the comma before ${quoted(head)} in line ${head.line}?` : "a clause ends with a full stop: is one missing?";
-    return cause("a second :- in one clause", cure);
-  }
-
-  /** A head is one call, and then comes `:-` or the full stop. */
-  function afterHead({ token, here, isQuery, depth, before }) {
-    if (isQuery || depth > 0 || here.some(({ text }) => text === ":-") || !endsTerm(before)) return undefined;
-    if (![",", "|", "=", ":=", ...COMPARISONS].includes(token.text)) return undefined;
-    return cause(`${quoted(token)} cannot follow the head of a clause`, "is :- missing? " + CLAUSE);
-  }
-
-  /** What stands within brackets is terms with commas between them. */
-  function withinBrackets({ token, before, here, depth }) {
-    if (depth === 0) return undefined;
-    const callee = here[here.indexOf(Tokens.openBrackets(here).at(-1)) - 1]?.text;
-    if (callee === "not" && ["=", ":="].includes(token.text)) return cause(...Habits.WORDS.not);
-    if (["=", ":="].includes(token.text) || COMPARISONS.has(token.text)) return cause("an argument is a term, and no goal or test", "write the goal before or after this one, with a comma between them");
-    if (["(", "["].includes(before?.text) && [",", "|"].includes(token.text)) return cause(`a term is expected after ${quoted(before)}`, "write it, or drop the mark");
-    if (before?.text === "(" && token.kind === "name") return cause("brackets group expressions alone", "write goals and terms without them");
-    return undefined;
-  }
-
-  function streams({ token, isQuery }) {
-    if (token.text !== "instream") return undefined;
-    if (isQuery) return cause("instream takes a variable", "write instream(S), and feed it by `in 1 TERM`");
-    return cause("instream stands in queries alone", "give the process a variable, and write instream(S) in the query");
-  }
-
-  /** A name that is written with a hyphen, as my-pred. */
-  function hyphen({ token, before, next }) {
-    if (token.text !== "-" || before?.kind !== "name" || next.kind !== "name" || !touches(before, token) || !touches(token, next)) return undefined;
-    return cause("a name has no hyphen", `write ${before.text}_${next.text}`);
-  }
-
-  function neighbours({ token, before, isQuery, here, later, tokens, place }) {
-    if (token.kind === "variable" && before?.kind === "name" && before.line === token.line) return cause(
-      `${quoted(token)} cannot follow ${quoted(before)}`, `arguments stand in brackets: ${before.text}(${token.text})`);
-    if (token.text === "(" && before?.kind === "variable") return cause(`${before.text} is a variable, and names nothing that has arguments`, `names begin with a small letter: ${before.text[0].toLowerCase()}${before.text.slice(1)}(..)`);
-    if (!endsTerm(before) || !(["name", "variable", "integer"].includes(token.kind) || ["(", "["].includes(token.text))) return undefined;
-    return cause(`${quoted(token)} cannot follow ${quoted(before)}`, missingBetween({ token, before, isQuery, here, later, tokens, place }));
-  }
-
-  /** What is missing between two tokens: the bar after a comparison; in a new line a comma where it is indented and begins no clause, else a full stop. */
-  function missingBetween({ token, before, isQuery, here, later, tokens, place }) {
-    const last = here.slice(here.findLastIndex(({ text }) => [",", ":-"].includes(text)) + 1), hasBar = Tokens.barOutside(here) >= 0 || Tokens.barOutside(later) >= 0;
-    if (!isQuery && !hasBar && Tokens.depthOf(here) === 0 && hasComparison(last)) return `is the bar missing after ${quoted(before)}? ${CLAUSE}`;
-    if (before.line === token.line || isQuery) return "a comma or an operator is missing";
-    const isGoal = token.column > here[0].column && tokens[Tokens.endOfCall(tokens, place) + 1]?.text !== ":-";
-    return `is there a ${isGoal ? "comma" : "full stop"} missing after ${quoted(before)} in line ${before.line}?`;
-  }
-
-  function variableAsGoal({ token, before, tokens, place, depth }) {
-    const isEnd = token.text === "." || token.text === "," || token.kind === "end";
-    if (depth > 0 || before?.kind !== "variable" || !isEnd) return undefined;
-    if (![",", "|", ":-", undefined].includes(tokens[place - 2]?.text)) return undefined;
-    return cause(`the variable ${before.text} is no goal`, "goals are calls, as p(X), and X = Y, X := E; there is no call of a term");
-  }
-
-  /** The tokens of a goal, of which the first ones are given: up to the comma after it. */
-  function goalOf(tokens) {
-    const end = tokens.findIndex(({ text }, place) => text === "," && Tokens.depthOf(tokens.slice(0, place)) === 0);
-    return end < 0 ? tokens : tokens.slice(0, end);
-  }
-
-  function afterMark(where) {
-    const { token, before, isQuery, later, example } = where;
-    if (before?.text === ",") return cause(
-      `a goal or a term is expected after the comma, and ${quoted(token)} is none`, "drop the comma, or write what is missing");
-    if (token.text === "(" && hasArrow(later)) return cause(NO_IF, OwnGoals.twoClauses(where));
-    if (token.text === "(" && before?.text === "=" && goalOf(later).some(({ text }) => OPERATIONS.has(text))) return cause(NO_SUM, OwnGoals.computed(where));
-    if (token.text === "(" && [":-", "|"].includes(before?.text)) return cause("brackets group expressions alone", "write the goals without them, with commas between them");
-    if (token.text === "(" && before?.text === "=") return cause("brackets group expressions alone", "a pair is a structure, as pair(1,2)");
-    if (["=", ":="].includes(before?.text)) return cause(
-      `${quoted(token)} cannot stand after ${quoted(before)}`, before.text === "=" ? "a term stands there, as [A|X]" : "an expression stands there, as X + 1; to name a term write =");
-    if ([":-", "|"].includes(before?.text)) return cause(`no goal begins with ${quoted(token)}`, isQuery ? goalsAs(example) : CLAUSE);
-    return undefined;
-  }
-
-  function anything({ token, before, isQuery, example }) {
-    return cause(`${quoted(token)} cannot stand here${before === undefined ? "" : `, after ${quoted(before)}`}`, isQuery ? goalsAs(example) : CLAUSE);
-  }
-
-  const RULES = [
-    declaration, blockComment, badToken, splitMark, semicolon, markInPlace, foreignMark, arrow, foreignPair, hyphen,
-    commentInExpression, numbers, equationInGuard, comparisonAfterBar, comparison, variableAsGoal, endOfText, streams,
-    beginning, foreignWord,
-    clauseInQuery, secondNeck, bars, arithmetic, brackets, afterHead, withinBrackets, neighbours, afterMark, anything,
-  ];
-
-  /** The cause of a refusal at a place of a text: its title, its hints, and the token at which it stands. */
-  function causeOf(text, at, isQuery, program = text) {
-    const where = surroundings(text, at, isQuery, program);
-    for (const rule of RULES) {
-      const found = rule(where);
-      if (found === undefined) continue;
-      const { after, at: meant, title, hints } = found, clause = [...where.here, ...where.later];
-      const told = { title, hints: hints.map((hint) => OwnWords.fill(hint, clause, where.here.length)) };
-      if (after === undefined) return { ...told, token: meant ?? where.token };
-      return { ...told, token: { line: after.line, column: after.column + after.text.length, text: " " } };
-    }
-    return undefined;
-  }
-
-  return { causeOf };
-})();
-
-export default SyntaxCauses;
+export { causeOf };

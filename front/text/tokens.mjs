@@ -1,150 +1,158 @@
 // The tokens of a text of Flat GHC, each with its place. Pure.
-const Tokens = (() => {
-  const FORM = /[ \t\r\n]+|%[^\n]*|[a-z]\w*|[A-Z_]\w*|\d+|:-|:=|=:=|=\\=|=<|>=|[^]/uy;
+const FORM = /[ \t\r\n]+|%[^\n]*|[a-z]\w*|[A-Z_]\w*|\d+|:-|:=|=:=|=\\=|=<|>=|[^]/uy;
 
-  /** The kind of a word, by its first letter; a lone `:` or `\` is `wrong` as any other letter at which no token starts is. */
-  function kindOf(word) {
-    const [first] = word;
-    if (first >= "a" && first <= "z") return "name";
-    if ((first >= "A" && first <= "Z") || first === "_") return "variable";
-    if (first >= "0" && first <= "9") return "integer";
-    if (" \t\r\n%".includes(first)) return "blank";
-    return "=<>+-*/()[],|.".includes(first) || word === ":-" || word === ":=" ? "mark" : "wrong";
+/** The kind of a word, by its first letter; a lone `:` or `\` is `wrong` as any other letter at which no token starts is. */
+function kindOf(word) {
+  const [first] = word;
+  if (first >= "a" && first <= "z") return "name";
+  if ((first >= "A" && first <= "Z") || first === "_") return "variable";
+  if (first >= "0" && first <= "9") return "integer";
+  if (" \t\r\n%".includes(first)) return "blank";
+  return "=<>+-*/()[],|.".includes(first) || word === ":-" || word === ":=" ? "mark" : "wrong";
+}
+
+/** How many bytes of UTF-8 a letter has, of a pair of surrogates all four for the first. */
+function bytesOf(code) {
+  if (code < 0x80) return 1;
+  if (code < 0x800) return 2;
+  if (code >= 0xd800 && code < 0xdc00) return 4;
+  return code >= 0xdc00 && code < 0xe000 ? 0 : 3;
+}
+
+// Follows lines through a text. The console counts a column in bytes, an editor in letters; both count from 1.
+class Places {
+  constructor(text) {
+    this.text = text;
+    this.line = 1;
+    this.start = 0; // where the line begins
+    this.at = 0;
+    this.bytes = 0; // of the line, up to `at`
   }
 
-  /** How many bytes of UTF-8 a letter has, of a pair of surrogates all four for the first. */
-  function bytesOf(code) {
-    if (code < 0x80) return 1;
-    if (code < 0x800) return 2;
-    if (code >= 0xd800 && code < 0xdc00) return 4;
-    return code >= 0xdc00 && code < 0xe000 ? 0 : 3;
-  }
-
-  // Follows lines through a text. The console counts a column in bytes, an editor in letters; both count from 1.
-  class Places {
-    constructor(text) {
-      this.text = text;
-      this.line = 1;
-      this.start = 0; // where the line begins
-      this.at = 0;
-      this.bytes = 0; // of the line, up to `at`
+  goTo(place) {
+    for (; this.at < place; this.at += 1) {
+      const code = this.text.charCodeAt(this.at);
+      this.bytes += bytesOf(code);
+      if (code !== 10) continue;
+      this.line += 1;
+      this.start = this.at + 1;
+      this.bytes = 0;
     }
-
-    goTo(place) {
-      for (; this.at < place; this.at += 1) {
-        const code = this.text.charCodeAt(this.at);
-        this.bytes += bytesOf(code);
-        if (code !== 10) continue;
-        this.line += 1;
-        this.start = this.at + 1;
-        this.bytes = 0;
-      }
-      return { line: this.line, column: this.bytes + 1, letter: place - this.start + 1 };
-    }
+    return { line: this.line, column: this.bytes + 1, letter: place - this.start + 1 };
   }
+}
 
-  /** A minus directly before digits is their sign, unless a variable, an integer or a closing bracket stands before it. */
-  function takesSign(tokens, start) {
-    const minus = tokens.at(-1), before = tokens.at(-2);
-    if (minus === undefined || minus.text !== "-" || minus.end !== start) return false;
-    return before === undefined || !(before.kind === "variable" || before.kind === "integer" || before.text === ")");
+/** A minus directly before digits is their sign, unless a variable, an integer or a closing bracket stands before it. */
+function takesSign(tokens, start) {
+  const minus = tokens.at(-1), before = tokens.at(-2);
+  if (minus === undefined || minus.text !== "-" || minus.end !== start) return false;
+  return before === undefined || !(before.kind === "variable" || before.kind === "integer" || before.text === ")");
+}
+
+/** The tokens of a text; the last one is its end. A letter at which no token starts is a token `wrong`. */
+function tokensOf(text) {
+  const tokens = [], places = new Places(text);
+  FORM.lastIndex = 0;
+  for (let found = FORM.exec(text); found !== null; found = FORM.exec(text)) {
+    const [word] = found, kind = kindOf(word), start = found.index;
+    if (kind === "blank") continue;
+    if (kind === "integer" && takesSign(tokens, start)) {
+      const minus = tokens.pop();
+      tokens.push({ ...minus, kind, text: `-${word}`, end: start + word.length });
+    } else tokens.push({ kind, text: word, ...places.goTo(start), at: start, end: start + word.length });
   }
+  tokens.push({ kind: "end", text: "", ...places.goTo(text.length), at: text.length, end: text.length });
+  return tokens;
+}
 
-  /** The tokens of a text; the last one is its end. A letter at which no token starts is a token `wrong`. */
-  function tokensOf(text) {
-    const tokens = [], places = new Places(text);
-    FORM.lastIndex = 0;
-    for (let found = FORM.exec(text); found !== null; found = FORM.exec(text)) {
-      const [word] = found, kind = kindOf(word), start = found.index;
-      if (kind === "blank") continue;
-      if (kind === "integer" && takesSign(tokens, start)) {
-        const minus = tokens.pop();
-        tokens.push({ ...minus, kind, text: `-${word}`, end: start + word.length });
-      } else tokens.push({ kind, text: word, ...places.goTo(start), at: start, end: start + word.length });
-    }
-    tokens.push({ kind: "end", text: "", ...places.goTo(text.length), at: text.length, end: text.length });
-    return tokens;
+const OPENING = new Set(["(", "["]), CLOSING = new Set([")", "]"]);
+
+/** How many brackets are open after these tokens; a closing one takes one off. */
+function depthOf(tokens) {
+  let depth = 0;
+  for (const { text } of tokens) depth += OPENING.has(text) ? 1 : CLOSING.has(text) ? -1 : 0;
+  return depth;
+}
+
+/** The brackets that are open after these tokens, the outermost first. */
+function openBrackets(tokens) {
+  const open = [];
+  for (const token of tokens) {
+    if (OPENING.has(token.text)) open.push(token);
+    if (CLOSING.has(token.text)) open.pop();
   }
+  return open;
+}
 
-  const OPENING = new Set(["(", "["]), CLOSING = new Set([")", "]"]);
-
-  /** How many brackets are open after these tokens; a closing one takes one off. */
-  function depthOf(tokens) {
-    let depth = 0;
-    for (const { text } of tokens) depth += OPENING.has(text) ? 1 : CLOSING.has(text) ? -1 : 0;
-    return depth;
+/** The place of the first bar, from a place on, that stands outside of all brackets opened there; -1 where there is none. */
+function barOutside(tokens, start = 0) {
+  let depth = 0;
+  for (let place = start; place < tokens.length; place += 1) {
+    const { text } = tokens[place];
+    if (depth === 0 && text === "|") return place;
+    depth += OPENING.has(text) ? 1 : CLOSING.has(text) ? -1 : 0;
   }
+  return -1;
+}
 
-  /** The brackets that are open after these tokens, the outermost first. */
-  function openBrackets(tokens) {
-    const open = [];
-    for (const token of tokens) {
-      if (OPENING.has(token.text)) open.push(token);
-      if (CLOSING.has(token.text)) open.pop();
-    }
-    return open;
+/** The tokens of each clause, its full stop included; what stands after the last full stop is a clause of its own. */
+function clausesOf(tokens) {
+  const clauses = [];
+  let clause = [];
+  for (const token of tokens) {
+    if (token.kind === "end") break;
+    clause.push(token);
+    if (token.text !== ".") continue;
+    clauses.push(clause);
+    clause = [];
   }
+  return clause.length > 0 ? [...clauses, clause] : clauses;
+}
 
-  /** The place of the first bar, from a place on, that stands outside of all brackets opened there; -1 where there is none. */
-  function barOutside(tokens, start = 0) {
-    let depth = 0;
-    for (let place = start; place < tokens.length; place += 1) {
-      const { text } = tokens[place];
-      if (depth === 0 && text === "|") return place;
-      depth += OPENING.has(text) ? 1 : CLOSING.has(text) ? -1 : 0;
-    }
-    return -1;
+/** How many arguments the call has whose name is the token at a place. */
+function arityAt(tokens, place) {
+  if (tokens[place + 1]?.text !== "(") return 0;
+  let depth = 0, commas = 0;
+  for (const { text } of tokens.slice(place + 1)) {
+    depth += OPENING.has(text) ? 1 : CLOSING.has(text) ? -1 : 0;
+    if (depth === 0) break;
+    if (text === "," && depth === 1) commas += 1;
   }
+  return commas + 1;
+}
 
-  /** The tokens of each clause, its full stop included; what stands after the last full stop is a clause of its own. */
-  function clausesOf(tokens) {
-    const clauses = [];
-    let clause = [];
-    for (const token of tokens) {
-      if (token.kind === "end") break;
-      clause.push(token);
-      if (token.text !== ".") continue;
-      clauses.push(clause);
-      clause = [];
-    }
-    return clause.length > 0 ? [...clauses, clause] : clauses;
+/** The tokens of each clause of a text. */
+const clausesIn = (text) => clausesOf(tokensOf(text));
+
+/** The predicate of the call at a place, as `append/3`. */
+const predicateAt = (tokens, place) => `${tokens[place].text}/${arityAt(tokens, place)}`;
+
+/** The place of the name of the call that ends before a place. */
+function callBefore(tokens, place) {
+  if (tokens[place - 1]?.text !== ")") return place - 1;
+  let at = place - 1;
+  for (let depth = 0; at > 0; at -= 1) {
+    depth += depthOf([tokens[at]]);
+    if (depth === 0) break;
   }
+  return at - 1;
+}
 
-  /** How many arguments the call has whose name is the token at a place. */
-  function arityAt(tokens, place) {
-    if (tokens[place + 1]?.text !== "(") return 0;
-    let depth = 0, commas = 0;
-    for (const { text } of tokens.slice(place + 1)) {
-      depth += OPENING.has(text) ? 1 : CLOSING.has(text) ? -1 : 0;
-      if (depth === 0) break;
-      if (text === "," && depth === 1) commas += 1;
-    }
-    return commas + 1;
+/** The place of the last token of the call that begins at a place. */
+function endOfCall(tokens, place) {
+  if (tokens[place + 1]?.text !== "(") return place;
+  let at = place + 1;
+  for (let depth = 0; at < tokens.length - 1; at += 1) {
+    depth += depthOf([tokens[at]]);
+    if (depth === 0) break;
   }
+  return at;
+}
 
-  /** The place of the name of the call that ends before a place. */
-  function callBefore(tokens, place) {
-    if (tokens[place - 1]?.text !== ")") return place - 1;
-    let at = place - 1;
-    for (let depth = 0; at > 0; at -= 1) {
-      depth += depthOf([tokens[at]]);
-      if (depth === 0) break;
-    }
-    return at - 1;
-  }
+/** The tokens of the call that begins a clause. */
+const headOf = (clause) => clause.slice(0, endOfCall(clause, 0) + 1);
 
-  /** The place of the last token of the call that begins at a place. */
-  function endOfCall(tokens, place) {
-    if (tokens[place + 1]?.text !== "(") return place;
-    let at = place + 1;
-    for (let depth = 0; at < tokens.length - 1; at += 1) {
-      depth += depthOf([tokens[at]]);
-      if (depth === 0) break;
-    }
-    return at;
-  }
-
-  return { tokensOf, clausesOf, arityAt, callBefore, endOfCall, depthOf, openBrackets, barOutside };
-})();
-
-export default Tokens;
+export {
+  tokensOf, clausesOf, clausesIn, arityAt, predicateAt, headOf, callBefore, endOfCall, depthOf, openBrackets,
+  barOutside,
+};

@@ -1,0 +1,140 @@
+// Why goals wait: who has what they wait for, whether anybody can bind it, and who let it go; as `whynot` tells it, in
+// words. Nothing here looks for it.
+import * as Printed from "../text/printed.mjs";
+import * as WhyNotLines from "../protocol/why_not_lines.mjs";
+import { isLong, lostWords, unnamedWords } from "./let_go.mjs";
+
+const NAMED = 12; // goals or variables that a line names
+const TOLD = 200; // goals of which it is told
+const ASKED = 40; // goals about which it is asked: a reply tells of others, too
+
+/** Things by their variables. */
+function byVariable(all) {
+  const by = new Map();
+  for (const one of all) {
+    if (!by.has(one.variable)) by.set(one.variable, []);
+    by.get(one.variable).push(one);
+  }
+  return by;
+}
+
+/** Which goals have a variable, by the variable: as `{ variable, goal }`. */
+const holdersOf = (goals) =>
+  byVariable(goals.flatMap((goal) => Printed.variablesIn(goal.text).map((variable) => ({ variable, goal }))));
+
+/** What a reply to `whynot` tells, by the variable. */
+function gathered(reply) {
+  const { holders, lost, staysUnbound } = WhyNotLines.read(reply);
+  return { holders: byVariable(holders), lost: byVariable(lost), staysUnbound };
+}
+
+// What `whynot` tells of goals. A reply tells of all for which goals wait behind the one asked about, so that where
+// these stay unbound nobody has to ask about those goals.
+class Asking {
+  constructor(session) {
+    this.session = session;
+    this.told = new Map(); // by a variable that is waited for
+    this.asked = 0;
+  }
+
+  /** What is told of a goal that waits; undefined where it was asked about too many others, or nothing was told. */
+  async about({ name, waitsFor: [first] }) {
+    const known = this.told.get(first);
+    if (known?.staysUnbound || this.asked === ASKED) return known;
+    this.asked += 1;
+    const told = gathered(await this.session.ask(`whynot ${name}`));
+    if (told.staysUnbound === undefined) return undefined;
+    for (const variable of told.holders.keys()) this.told.set(variable, told);
+    return told;
+  }
+}
+
+/** The waits of goals: each a goal, a variable for which it waits, the others that have it, and what else is told. */
+async function* eachWait(session, goals) {
+  const asking = new Asking(session);
+  for (const goal of goals.filter(({ status }) => status === "waits").slice(0, TOLD)) {
+    const told = await asking.about(goal);
+    for (const variable of goal.waitsFor) {
+      const others = (told?.holders.get(variable) ?? []).filter((holder) => holder.goal !== goal.name);
+      yield { goal, variable, others, told };
+    }
+  }
+}
+
+async function waitsOf(session, goals) {
+  const waits = [];
+  for await (const wait of eachWait(session, goals)) waits.push(wait);
+  return waits;
+}
+
+/** Those of the goals that have what is waited for which wait for something else, or may go on. */
+const helpersOf = ({ others }) => others.filter(WhyNotLines.mayBind);
+
+/** Does a variable stay unbound, and nobody has it who waits for something else? */
+const isHelpless = (wait) => wait.told?.staysUnbound === true && helpersOf(wait).length === 0;
+
+const named = (all, nameOf) =>
+  [...all.slice(0, NAMED).map(nameOf), ...(all.length > NAMED ? [`.. (${all.length})`] : [])].join(", ");
+
+const inVain = ({ goal, status }) =>
+  `${goal}, which ${status.startsWith("failed") ? "has failed" : "waits for it too"}`;
+const standing = ({ goal, status }) => `${goal} ${status.split(" ")[0]}`;
+
+/** By which clause a variable was made; nothing of one of the query. */
+function makerWords({ clauses, kept }, variable) {
+  const [number] = Printed.numbersOf(variable), clause = clauses[(kept.steps.get(number)?.clause ?? 0) - 1];
+  return clause === undefined ? "" : `; clause ${clause.number} (line ${clause.line}) made it`;
+}
+
+/** Who let go of a variable that nobody binds; else that it is a `_`, or who made it. */
+function lostOf(session, { variable, told }) {
+  const who = lostWords(session, told.lost.get(variable) ?? []);
+  return who === "" ? unnamedWords(session, variable) || makerWords(session, variable) : `; ${who}`;
+}
+
+/** Who has what a wait is for, in words. */
+function holdersIn(session, wait) {
+  const { goal, others, told } = wait, helpers = helpersOf(wait);
+  if (told === undefined) return `whynot ${goal.name} tells who has it`;
+  if (isHelpless(wait)) {
+    const why = others.length === 0 ? "no other goal has it" : `only ${named(others, inVain)}`;
+    return `nobody can bind it (${why})${lostOf(session, wait)}`;
+  }
+  if (others.length === 0) return "no other goal has it";
+  return `held by ${named(helpers.length > 0 ? helpers : others, standing)}`;
+}
+
+const lineOf = (session, wait) =>
+  `${wait.goal.name} waits for ${session.run.labelOf(wait.variable)}: ${holdersIn(session, wait)}`;
+
+/** Where goals have what others wait for, and it stays unbound all the same: which variables. */
+function vainLines(session, waits) {
+  const vain = waits.filter((wait) => wait.told?.staysUnbound && !isHelpless(wait));
+  const variables = [...new Set(vain.flatMap(({ told }) => [...told.holders.keys()]))];
+  const names = named(variables, (variable) => session.run.labelOf(variable));
+  return vain.length === 0 ? [] : [`in vain: these stay unbound: ${names}`];
+}
+
+/** Why nothing goes on, as lines; none where no goal waits. */
+function linesOf(session, goals, waits) {
+  const left = goals.filter(({ status }) => status === "waits").length - TOLD;
+  const more = left > 0 ? [`.. ${left} more goals wait; goals lists all goals`] : [];
+  const goesOn = waits.length > 0 && goals.some(({ status }) => status === "ready");
+  const ready = goesOn ? ["not stuck: some goal is ready"] : [];
+  return [...ready, ...waits.map((wait) => lineOf(session, wait)), ...more, ...vainLines(session, waits)];
+}
+
+/**
+ * The first step that let go of something for which goals wait and which stays unbound, as lines; none where none did,
+ * or the run is so long that nobody who did not ask should wait for that.
+ */
+async function lostLines(session, goals) {
+  if (isLong(session)) return [];
+  for await (const { variable, told } of eachWait(session, goals)) {
+    const lost = told?.staysUnbound ? told.lost.get(variable) : undefined;
+    if (lost !== undefined) return [`${session.run.labelOf(variable)} is never bound: ${lostWords(session, lost)}`];
+  }
+  return [];
+}
+
+export { holdersOf, waitsOf, isHelpless, holdersIn, lineOf, linesOf, lostLines };
