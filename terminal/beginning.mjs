@@ -8,10 +8,11 @@ import { wordsOfQuery } from "../front/protocol/words.mjs";
 import { isNoFile } from "../front/session/files.mjs";
 import { Ended } from "../front/session/program.mjs";
 import { Session } from "../front/session/session.mjs";
+import { part } from "./part.mjs";
 
 const ASK_AGAIN = { quit: "quit again ends", restart: "restart again begins anew", query: "query again begins anew" };
 
-const Beginning = {
+const Beginning = part({
   /** Warns once that steps would be lost; true where it does so now. */
   warnsOfLoss(name) {
     const { session } = this, state = `${name} ${session.kept.changes}`;
@@ -59,6 +60,6 @@ const Beginning = {
     Object.assign(this, { patterns: new Patterns(), displayed: [] });
     return this.note(`begun anew with the query ${rest}`);
   },
-};
+});
 
 export default Beginning;

@@ -1,10 +1,11 @@
 // What the terminal does for `display X`: X is shown after each line that changed the run, by a line of the console.
-import Replies from "../front/protocol/replies.mjs";
+import * as Replies from "../front/protocol/replies.mjs";
 import * as Own from "../front/run/own.mjs";
+import { part } from "./part.mjs";
 
 const NONE = "nothing is displayed; display X shows X after each run and step";
 
-const Displaying = {
+const Displaying = part({
   async on_display({ words: [word] }) {
     if (word === undefined) return this.tellDisplayed();
     const name = Own.signOf(this.session, word), line = `show ${name}`;
@@ -33,6 +34,6 @@ const Displaying = {
       await this.show(reply, { name: "show", words: [name], line });
     }
   },
-};
+});
 
 export default Displaying;

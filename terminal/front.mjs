@@ -1,11 +1,13 @@
 // The terminal in front of ghcdb's console: it hands lines on, and adds what a person needs. Each added line begins with the mark; all
 // others are the console's own, as it told them.
-import Causes from "../front/text/causes.mjs";
+import { setTimeout as after } from "node:timers/promises";
+import * as Causes from "../front/text/causes.mjs";
 import { Blaming } from "../front/run/blaming.mjs";
 import { Ended } from "../front/session/program.mjs";
 import { NotTold, Session } from "../front/session/session.mjs";
 import { helpLines, meaningOf, suggestionFor, usageOf, whyNoCommand } from "../front/protocol/commands.mjs";
 import Beginning from "./beginning.mjs";
+import Choosing from "./choosing.mjs";
 import Displaying from "./displaying.mjs";
 import Judging from "./judging.mjs";
 import * as Own from "../front/run/own.mjs";
@@ -13,6 +15,7 @@ import { Patterns } from "../front/run/patterns.mjs";
 import { MARK, plain } from "./plain.mjs";
 import { whyRefused } from "../front/session/refused.mjs";
 import { everyRefusal } from "../front/session/every_refusal.mjs";
+import { whyNoName } from "../front/session/files.mjs";
 import Reloading from "./reloading.mjs";
 import Running from "./running.mjs";
 import { Showing, withoutAll } from "./showing.mjs";
@@ -22,7 +25,7 @@ import { plural } from "../front/run/reasons.mjs";
 import { notesAfter } from "../front/run/telling.mjs";
 import * as Unsaved from "./unsaved.mjs";
 import Watching from "./watching.mjs";
-import Replies from "../front/protocol/replies.mjs";
+import * as Replies from "../front/protocol/replies.mjs";
 
 const MOST_NOTES = 6; // on a program that are shown
 const HEARD_LATE = 300; // milliseconds after ^C in which a line that is no long run may still answer
@@ -33,6 +36,7 @@ const RUN_ENDED = "the run was ended; the session stands as before it";
 const LINE_ENDED = "the line was ended; the session stands as before it";
 const ASKING_ENDED = "the line was ended; the session stands";
 
+const PROMPTS = /^(> )+/;
 const isYes = (typed) => /^y(es)?$/.test(typed.trim()), isNo = (typed) => /^no?$/.test(typed.trim());
 const sliceEnded = (count) => (count === 0 ? RUN_ENDED : `the run was ended where it did not answer; the ${plural(count, "step")} before stand`);
 
@@ -54,6 +58,7 @@ class Front {
     this.patterns = new Patterns(); // to which spied goals are narrowed
     this.question = undefined; // what is done after `y`
     this.displayed = []; // the variables that are shown after each run and step
+    this.trying = undefined; // what tries other choices
   }
 
   note(...lines) {
@@ -117,13 +122,13 @@ class Front {
   tellRefusal({ errors }, session, tell) {
     for (const line of errors.trimEnd().split("\n")) {
       tell(line);
-      whyRefused(line, session).lines.forEach((told) => tell(MARK + told));
+      whyRefused(line, session.texts).lines.forEach((told) => tell(MARK + told));
     }
   }
 
   /** What else a program and a query are refused for. */
-  async tellOthers({ errors }, { text, given, native }, tell) {
-    const [, ...others] = await everyRefusal({ text, ...given }, native, errors.trim());
+  async tellOthers({ errors }, { texts, native }, tell) {
+    const [, ...others] = await everyRefusal(texts, native, errors.trim());
     for (const { said, lines } of others) [said, ...lines].forEach((line) => tell(MARK + line));
   }
 
@@ -131,8 +136,8 @@ class Front {
   async leave() {
     this.isInterrupted = true;
     if (this.session.isSaved) return undefined;
-    const { session } = this, wait = new Promise((resolve) => { setTimeout(resolve, LEFT_LATE).unref(); });
-    const whole = await Promise.race([session.history(), wait]).catch(() => undefined);
+    const { session } = this, late = after(LEFT_LATE, undefined, { ref: false });
+    const whole = await Promise.race([session.history(), late]).catch(() => undefined);
     const history = whole ?? session.way?.history;
     const place = history === undefined ? undefined : Unsaved.leave(session.given, history);
     if (place === undefined) return this.note("what was not saved is lost");
@@ -147,8 +152,9 @@ class Front {
     if (Unsaved.isLeft(load)) Unsaved.forget(load);
   }
 
-  /** Does what a typed line asks for. One line at a time. */
-  async answer(typed) {
+  /** Does what a typed line asks for, one line at a time. A line that was copied with its prompt is taken without that. */
+  async answer(line) {
+    const typed = line.replace(PROMPTS, "");
     if (typed.trim() === "") return;
     this.isBusy = true;
     this.isInterrupted = false;
@@ -210,6 +216,7 @@ class Front {
     } else {
       await this.show(reply, meaning);
       await this.noteAll(await notesAfter(this.session, meaning, reply));
+      if (meaning.name === "skip") await this.tellFree(reply.at(-1));
     }
     return reply;
   }
@@ -247,6 +254,7 @@ class Front {
 
   /** Ends the line that the program is at, if it is at one. */
   endLine() {
+    this.trying?.stop();
     if (this.ending !== undefined || !this.session.program.isBusy) return;
     const told = this.whatEnds;
     this.ending = this.session.endRun().then(() => told, (error) => {
@@ -275,8 +283,13 @@ class Front {
     const goals = await this.session.goalsTold(), ready = goals?.find(({ status }) => status === "ready");
     if (goals === undefined) await this.send({ name: "leap", words: ["1"], line: "leap 1" });
     else if (ready !== undefined) await this.send({ name: "step", words: [ready.name], line: `step ${ready.name}` });
-    else this.note(goals.length === 0 ? "no goal is ready: all is done" : "no goal is ready", ...(goals.length === 0 ? [] : await Own.stuck(this.session)));
+    else await this.tellNoneReady(goals);
     return true;
+  }
+
+  async tellNoneReady(goals) {
+    const [first, ...others] = await Own.stuck(this.session);
+    this.note(...(goals.length === 0 ? [`no goal is ready: ${first}`] : ["no goal is ready", first]), ...others);
   }
 
   async takeBack() {
@@ -331,6 +344,10 @@ class Front {
     return this.send({ ...meaning, words, line: [meaning.name, ...words].join(" ") }, typed);
   }
 
+  async on_whynot(meaning, typed) {
+    return this.on_explain(meaning, typed);
+  }
+
   async on_keep(meaning, typed) {
     return this.on_explain(meaning, typed);
   }
@@ -338,6 +355,7 @@ class Front {
   async on_save({ words }) {
     const version = words[0] === "1" ? "1" : "", file = words.slice(version === "" ? 0 : 1).join(" ");
     if (file === "") return false;
+    if (whyNoName(file) !== undefined) return this.note(whyNoName(file));
     if (Saving.isOtherFile(file)) return this.note(`${file} is there and is no history: name another file`);
     let refusal;
     try {
@@ -362,6 +380,6 @@ class Front {
   }
 }
 
-Object.assign(Front.prototype, Beginning, Displaying, Judging, Reloading, Running, Showing, Spying, Watching);
+Object.assign(Front.prototype, Beginning, Choosing, Displaying, Judging, Reloading, Running, Showing, Spying, Watching);
 
 export { Front };

@@ -2,10 +2,11 @@
 import { usageOf } from "../front/protocol/commands.mjs";
 import * as Own from "../front/run/own.mjs";
 import { afterBlame } from "../front/run/blame_words.mjs";
-import Replies from "../front/protocol/replies.mjs";
+import * as Replies from "../front/protocol/replies.mjs";
 import { notesAfter } from "../front/run/telling.mjs";
+import { part } from "./part.mjs";
 
-const Judging = {
+const Judging = part({
   /** Alone it asks the open question again. */
   async on_blame({ words }, typed) {
     if (words.length === 0 && this.blaming.isOpen) return this.blame(this.blaming.line, typed);
@@ -36,6 +37,6 @@ const Judging = {
     this.note(...this.blaming.trustLines(word));
     return this.blaming.isTrusted ? this.blame(this.blaming.line, "") : undefined;
   },
-};
+});
 
 export default Judging;

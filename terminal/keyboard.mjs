@@ -1,14 +1,13 @@
 // The keyboard: lines are edited, kept for later sessions, and completed by Tab; ^C and ^D go to those who know what they mean.
 import fs from "node:fs";
-import os from "node:os";
-import path from "node:path";
 import readline from "node:readline";
 import tty from "node:tty";
 import { EventEmitter } from "node:events";
 import { isFile, tried, writeWhole } from "../front/session/files.mjs";
+import { inHome } from "./home.mjs";
 import { plain } from "./plain.mjs";
 
-const HISTORY = path.join(os.homedir(), ".ghcdb_history");
+const HISTORY = inHome(".ghcdb_history");
 const MOST_LINES = 1000;
 const STANDARD_INPUT = 0;
 

@@ -15,7 +15,11 @@ const INDENT = " ".repeat(9);
 class Lesson {
   /** `folder` is the lesson's, `draw(history, program, query)` gives a picture's text, `native` plays sessions. */
   constructor({ folder, draw, native }) {
-    Object.assign(this, { folder, draw, native, out: [] });
+    this.folder = folder;
+    this.draw = draw;
+    this.native = native;
+    this.out = [];
+    this.file = this.name = this.query = undefined; // of the session that is meant
     this.own = fs.mkdtempSync(path.join(os.tmpdir(), "ghcdb-lesson-"));
   }
 
@@ -76,8 +80,10 @@ class Lesson {
   }
 
   /** From here on another session is meant, which begins when something is typed. */
-  take(meant) {
-    Object.assign(this, meant, { isBegun: false });
+  take({ name, query }) {
+    this.name = name;
+    this.query = query;
+    this.isBegun = false;
   }
 
   /** Tells a line; not the greeting, and what a start says after it, of sessions before. */

@@ -1,7 +1,8 @@
 // Replies as objects, for programs that read JSON. Pure.
-import BlameLines from "../front/protocol/blame_lines.mjs";
-import Effects from "../front/protocol/effects.mjs";
-import Replies from "../front/protocol/replies.mjs";
+import * as BlameLines from "../front/protocol/blame_lines.mjs";
+import * as Effects from "../front/protocol/effects.mjs";
+import * as Replies from "../front/protocol/replies.mjs";
+import * as WhyNotLines from "../front/protocol/why_not_lines.mjs";
 
 /** Does a line change the record? */
 const isChange = (line) => ["adds", "takes", "orders"].includes(Effects.effectOf(line));
@@ -22,7 +23,11 @@ function change(reply) {
   return { ports, ...told };
 }
 
-/** A kept step, with the text of the goal that it consumed. */
+/**
+ * A kept step, with the text of the goal that it consumed.
+ * @param {import("../front/types").Step} record
+ * @param {(goal: string) => string} textOf
+ */
 function step({ number, goal, act, clause, reads, binds, makes }, textOf) {
   const bound = Object.fromEntries(binds.map(({ variable, term }) => [variable, term]));
   return { step: number, goal, text: goal === null ? null : textOf(goal), act, ...(clause !== null && { clause }), reads, binds: bound, makes };
@@ -52,11 +57,21 @@ function dependence(line) {
   return { step: number, on, ...how };
 }
 
-/** The goal that a step took, as it was written then. */
-const taken = ({ number, goal: name, act, text }) => ({ step: number, goal: name, act, text });
+/**
+ * The goal that a step took, as it was written then, and the line of the program at which its clause begins.
+ * @param {{ number: number, goal: string | null, act: string, text: string | null, line?: number }} step
+ */
+const taken = ({ number, goal: name, act, text, line }) => ({ step: number, goal: name, act, text, ...(line !== undefined && { line }) });
 
-/** What a clause says to a goal. */
-const choice = ({ number, says, waitsFor }) => ({ clause: number, says, ...(waitsFor.length > 0 && { waitsFor }) });
+/** Why a variable is not bound: its value, or the goal; who reaches what is asked about, which steps let it go. */
+function whyNot(reply) {
+  const [first] = reply, [subject] = Replies.readGoals([first]), { lost, ...told } = WhyNotLines.read(reply);
+  const steps = lost.map((step) => ({ variable: step.variable, ...taken(step) }));
+  return { ...(subject ? { goal: goal(subject) } : Replies.readValue(first)), ...told, lost: steps };
+}
+
+/** What a clause says to a goal, and the line of the program at which it begins. */
+const choice = ({ number, says, waitsFor, line }) => ({ clause: number, says, ...(waitsFor.length > 0 && { waitsFor }), ...(line !== undefined && { line }) });
 
 const binder = ({ variable, number }) => ({ variable, step: number });
 
@@ -84,6 +99,7 @@ const REPLIES = {
   goal: ([line]) => { const found = Replies.readTakenGoal(line); return found === null ? { lines: [line] } : taken(found); },
   clauses: (reply) => ({ clauses: reply.map(Replies.readChoice).filter(Boolean).map(choice) }),
   explain: explanation,
+  whynot: whyNot,
   part: judged,
   blame: judged,
   causes: (reply) => ({ dependences: told(reply).map(dependence) }),
@@ -119,9 +135,13 @@ function refusal({ said, lines, cause }) {
 // The text of a line's object, made as the reply comes: of a change the ports are told at once, of other lines all at
 // the end.
 class ObjectText {
-  /** `line` is null where the program ended at no line. */
-  constructor(line, textOf) {
-    Object.assign(this, { line, textOf, parts: [], told: {}, isOpen: false });
+  /** `line` is null, and no goal has a text, where the program ended at no line. */
+  constructor(line, textOf = undefined) {
+    this.line = line;
+    this.textOf = textOf;
+    this.parts = []; // lines of which nothing is told before the end
+    this.told = {};
+    this.isOpen = this.hasPorts = false;
   }
 
   /** What can be told of the first lines of a reply, or of others that come after them. */

@@ -4,7 +4,7 @@ import { plural } from "../front/run/reasons.mjs";
 import { notesAfter } from "../front/run/telling.mjs";
 import { readExpected, whyOther } from "../front/protocol/expected.mjs";
 import { readRun } from "../front/protocol/words.mjs";
-import Replies from "../front/protocol/replies.mjs";
+import * as Replies from "../front/protocol/replies.mjs";
 import { NotTold } from "../front/session/session.mjs";
 import { withQuery } from "../front/session/words_with_query.mjs";
 import { addLines, endWith, statusOfGoals, withSession, write, STATUS } from "./scripted.mjs";
@@ -35,6 +35,9 @@ async function notesOn(session, name, line, isDone) {
   return Replies.isRefusal(line) ? [`${name}: ${line}`, ...notes] : notes;
 }
 
+/** Is no goal left? */
+const hasEnded = (status) => [STATUS.done, STATUS.letGo].includes(status);
+
 /** Why goals are left. */
 async function notesOnEnd(session, stop) {
   if (stop === "stopped limit") return [TOO_LONG];
@@ -46,8 +49,8 @@ async function notesOnEnd(session, stop) {
 
 /** All that is to be said of how it went. */
 async function notesOnAll(session, stop, answers, status) {
-  const notes = status === STATUS.done ? [] : await notesOnEnd(session, stop);
-  for (const [name, line] of answers) notes.push(...await notesOn(session, name, line, status === STATUS.done));
+  const notes = hasEnded(status) ? [] : await notesOnEnd(session, stop);
+  for (const [name, line] of answers) notes.push(...await notesOn(session, name, line, hasEnded(status)));
   return notes;
 }
 

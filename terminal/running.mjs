@@ -2,10 +2,11 @@
 // past goals that fit no pattern, and until a goal or a step is there. What is sent are lines of the console: `leap K`
 // and `step G`.
 import { usageOf } from "../front/protocol/commands.mjs";
-import Replies from "../front/protocol/replies.mjs";
+import * as Replies from "../front/protocol/replies.mjs";
 import { plural, some } from "../front/run/reasons.mjs";
 import { notesAfter } from "../front/run/telling.mjs";
 import { Ended } from "../front/session/program.mjs";
+import { part } from "./part.mjs";
 
 const SLICE = 1000; // steps between which ^C is heard
 const MOST = 1_000_000; // steps of a run, where no number is said
@@ -22,7 +23,7 @@ const noMore = (number) => `no step gets the number ${number} any more; shelf li
  */
 const sliceOf = (session) => (session.isByMany ? Math.max(SLICE, Math.floor(session.kept.steps.size / 4)) : SLICE);
 
-const Running = {
+const Running = part({
   async on_leap(meaning, typed) {
     const [word = String(MOST), ...more] = meaning.words, most = NUMBER.test(word) ? Number(word) : 0;
     if (most === 0 || more.length > 0) return false;
@@ -113,7 +114,8 @@ const Running = {
     if (passed.length > 0) this.note(`passed ${plural(passed.length, "goal")} that no pattern fits; sent: ${sent}`);
     await this.show(reply, meaning);
     if (isEnded) return this.note(`ended by ^C after ${plural(reply.length - 1, "step")}, which stand; leap goes on`);
-    return this.noteAll(await notesAfter(this.session, meaning, reply));
+    await this.noteAll(await notesAfter(this.session, meaning, reply));
+    return this.tellFree(reply.at(-1));
   },
 
   async on_until({ words: [word, ...more] }) {
@@ -144,7 +146,7 @@ const Running = {
    * Runs until a step of a number is made: by one step, whose number tells how many are left. It is told as one run.
    */
   async runToStep(number) {
-    const sent = [], run = { reply: ["stopped limit"], passed: [] };
+    const sent = [], run = { reply: ["stopped limit"], passed: [], isEnded: false };
     const part = async (most) => {
       const { reply, passed, isEnded } = await this.runOn(most);
       sent.push(`leap ${most}`);
@@ -157,6 +159,6 @@ const Running = {
     if (sent.length > 0) await this.tellRun(run, { name: "leap", words: [], line: "leap" });
     if (last > number) this.note(noMore(number));
   },
-};
+});
 
 export default Running;

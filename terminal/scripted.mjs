@@ -5,12 +5,18 @@ import { whyRefused } from "../front/session/refused.mjs";
 import { ScriptSession } from "../front/session/script_session.mjs";
 import { everyRefusal } from "../front/session/every_refusal.mjs";
 import { withQuery } from "../front/session/words_with_query.mjs";
+import { isLetGo } from "../front/run/let_go.mjs";
 import { isWhole } from "../front/session/way_back.mjs";
 import { readWords, isSession } from "../front/protocol/words.mjs";
-import Replies from "../front/protocol/replies.mjs";
+import * as Replies from "../front/protocol/replies.mjs";
 import { MARK, plain } from "./plain.mjs";
 
-const STATUS = { done: 0, commandLine: 2, device: 3, refusedLine: 4, failed: 5, waits: 6, unfinished: 7, otherValue: 8, untold: 9 };
+/** @typedef {import("../front/types").Refusal} Refusal */
+
+const STATUS = {
+  done: 0, commandLine: 2, device: 3, refusedLine: 4, failed: 5, waits: 6, unfinished: 7, otherValue: 8, untold: 9,
+  letGo: 10,
+};
 
 const LINE_FEED = 10, RETURN = 13;
 const MOST_BYTES = 1_048_576; // of a line
@@ -112,7 +118,10 @@ async function playLines(session, input, teller) {
   return course;
 }
 
-/** The status of what is left at the end. Goals that are too long to be told are left, whatever they are. */
+/**
+ * The status of what is left at the end: goals, or else a variable of the query that a step let go. Goals that are too
+ * long to be told are left, whatever they are.
+ */
 async function statusOfGoals(session) {
   const course = new Course(), statuses = new Set();
   const learn = (lines) => {
@@ -124,7 +133,8 @@ async function statusOfGoals(session) {
   if (course.hasHole) return STATUS.untold;
   if (statuses.has("failed")) return STATUS.failed;
   if (statuses.has("ready") || statuses.has("stream") || Replies.isRefused(last)) return STATUS.unfinished;
-  return statuses.size === 0 ? STATUS.done : STATUS.waits;
+  if (statuses.size > 0) return STATUS.waits;
+  return await isLetGo(session) ? STATUS.letGo : STATUS.done;
 }
 
 /** Plays the lines of the input to their end: the exit status. */
@@ -136,16 +146,21 @@ async function statusOf(session, input, teller) {
 
 /** All that a program and a query are refused for, or a history, where ghcdb has ended before the session began; else none. */
 async function refusalsOf({ errors }, session) {
-  const { kept, text, given, native } = session, said = errors.trim();
+  const { kept, texts, native } = session, said = errors.trim();
   if (kept !== undefined) return [];
-  return text === undefined ? [{ said, ...whyRefused(said, session) }] : everyRefusal({ text, ...given }, native, said);
+  return texts.text === undefined ? [{ said, ...whyRefused(said, texts) }] : everyRefusal(texts, native, said);
 }
 
 /** Tells lines that are added to what the console says. */
 const addLines = (errors, lines) => lines.forEach((line) => errors(`${MARK}${plain(line)}\n`));
 
-/** Tells why texts are refused. What ghcdb says first stands there already. */
-function tellWhy([first, ...others], errors) {
+/**
+ * Tells why texts are refused. What ghcdb says first stands there already.
+ * @param {Refusal[]} refusals
+ * @param {(text: string) => void} errors
+ */
+function tellWhy(refusals, errors) {
+  const [first, ...others] = refusals;
   addLines(errors, [...first?.lines ?? [], ...others.flatMap(({ said, lines }) => [said, ...lines])]);
 }
 
@@ -153,8 +168,13 @@ function tellWhy([first, ...others], errors) {
  * Begins a session for the words of a command line, and gives the exit status that comes of `plays(session)`. Where the
  * program ends by itself, `errors` takes texts that say why, and `ended(error, refusals)` hears of it, with all that it
  * refuses of its texts.
+ * @param {string[]} words
+ * @param {{
+ *   plays: (session: ScriptSession) => Promise<number>, errors: (text: string) => void,
+ *   ended?: (error: Ended, refusals: Refusal[]) => unknown,
+ * }} takers
  */
-async function withSession(words, { plays, errors, ended = () => {} }) {
+async function withSession(words, { plays, errors, ended }) {
   if (!isSession(readWords(words))) {
     errors("PROGRAM --query QUERY and the options of a session are wanted\n");
     return STATUS.commandLine;
@@ -170,7 +190,7 @@ async function withSession(words, { plays, errors, ended = () => {} }) {
     const refusals = await refusalsOf(error, session);
     errors(error.errors);
     tellWhy(refusals, errors);
-    await ended(error, refusals);
+    await ended?.(error, refusals);
     return error.status;
   } finally {
     await session.program?.kill(); // whatever it is at

@@ -1,7 +1,9 @@
 // How much the terminal shows of a reply: of long runs and listings the first and the last lines, of long terms the
 // beginning. `all` as the last word shows a listing or a value whole.
-import Short from "../front/protocol/short.mjs";
+import { setImmediate as nextTurn } from "node:timers/promises";
+import * as Short from "../front/protocol/short.mjs";
 import { plural } from "../front/run/reasons.mjs";
+import { part } from "./part.mjs";
 import { MARK } from "./plain.mjs";
 
 const FIRST = 20, LAST = 10; // lines that are shown of a long run or listing
@@ -11,7 +13,7 @@ const AT_ONCE = 500; // lines that are shown before keys are heard again
 
 const LISTINGS = new Set([
   "records", "since", "goal", "goals", "show", "causes", "why", "who", "explain", "shelf", "clauses", "part", "list",
-  "holders",
+  "holders", "whynot",
 ]);
 const OF_STEPS = { tail: 1, what: "step" }, OF_LINES = { tail: 0, what: "line" }; // the last line of steps tells of all
 
@@ -22,14 +24,21 @@ function withoutAll(meaning) {
   return { ...meaning, words, line: [meaning.name, ...words].join(" "), isWhole: true };
 }
 
-/** The line that shows whole what is cut. */
+/**
+ * The line that shows whole what is cut.
+ * @param {Partial<import("../front/types").Meaning>} meaning
+ */
 function wordForAll({ name, line }, isRun) {
   if (isRun) return "records all";
   return LISTINGS.has(name) ? `${line} all` : "goals all";
 }
 
-const Showing = {
-  /** Tells a reply, of which a part may be left out; then a note tells which line shows it. */
+const Showing = part({
+  /**
+   * Tells a reply, of which a part may be left out; then a note tells which line shows it.
+   * @param {import("../front/types").Reply} reply
+   * @param {Partial<import("../front/types").Meaning>} meaning
+   */
   async show(reply, meaning = {}) {
     const { name, isWhole } = meaning, last = reply.at(-1) ?? "", isRun = last.startsWith("stopped ");
     if (isWhole || name === undefined || name === "save") return this.showAll(reply);
@@ -53,7 +62,7 @@ const Showing = {
   /** Tells lines, of which there may be many: between pieces of them keys are heard, and ^C ends it. */
   async showAll(lines) {
     for (let at = 0; at < lines.length; at += AT_ONCE) {
-      if (at > 0) await new Promise((resolve) => { setImmediate(resolve); });
+      if (at > 0) await nextTurn();
       if (at > 0 && this.isInterrupted) return this.note(`.. ${plural(lines.length - at, "line")} more ..`);
       lines.slice(at, at + AT_ONCE).forEach((line) => this.out(line));
     }
@@ -69,6 +78,6 @@ const Showing = {
     const notes = lines.map((told) => MARK + told);
     return isWhole ? this.showAll(notes) : this.showEnds(notes, { all: `${line} all`, ...OF_LINES });
   },
-};
+});
 
 export { Showing, withoutAll };

@@ -1,10 +1,11 @@
 // What the terminal does for `spy` and `nospy`: predicates without the number of their arguments, patterns of goals,
 // and which are spied.
 import { usageOf } from "../front/protocol/commands.mjs";
-import Histories from "../front/protocol/histories.mjs";
-import Replies from "../front/protocol/replies.mjs";
+import * as Histories from "../front/protocol/histories.mjs";
+import * as Replies from "../front/protocol/replies.mjs";
 import { predicateOf, repeatedIn, whyRepeated } from "../front/run/patterns.mjs";
-import Reader from "../front/text/reader.mjs";
+import * as Reader from "../front/text/reader.mjs";
+import { part } from "./part.mjs";
 
 const IS_PATTERN = /\(/;
 const NONE = "nothing is spied; spy F/N stops runs at calls of F/N, spy F(T,..) at goals that fit that";
@@ -16,7 +17,7 @@ function readPattern(text, name) {
   return repeated === undefined ? { pattern } : { why: whyRepeated(repeated) };
 }
 
-const Spying = {
+const Spying = part({
   /** The predicates that are spied, as a history of the session tells them. */
   async spied() {
     const saved = await this.session.ask("save");
@@ -95,6 +96,6 @@ const Spying = {
     this.stoppedAt = undefined;
     return this.sendSpy("nospy", predicate);
   },
-};
+});
 
 export default Spying;

@@ -1,11 +1,11 @@
 // Sessions that were not saved when their terminal was closed: each is left as a history in the home folder, and told
 // at the next start. Beside a history stands a file that says of which program and query it is.
 import fs from "node:fs";
-import os from "node:os";
 import path from "node:path";
 import { tried, writeWhole } from "../front/session/files.mjs";
+import { inHome } from "./home.mjs";
 
-const BEGINNING = path.join(os.homedir(), ".ghcdb_unsaved.");
+const BEGINNING = inHome(".ghcdb_unsaved.");
 const MOST = 4; // sessions that are kept so: a further one takes the place of the oldest
 const OWN = 0o600; // nobody else may read them
 
@@ -36,7 +36,11 @@ function freePlace() {
   }
 }
 
-/** Leaves the history of a program's file and a query. Where it stands now; undefined where none can be written. */
+/**
+ * Leaves the history of a program's file and a query. Where it stands now; undefined where none can be written.
+ * @param {import("../front/types").WordsRead} words
+ * @param {string} history
+ */
 function leave({ file, query }, history) {
   let place;
   try {

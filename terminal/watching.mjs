@@ -1,14 +1,15 @@
 // What the terminal does for `watch X`: a run, step by step, until X is bound.
 import { usageOf } from "../front/protocol/commands.mjs";
 import { plural } from "../front/run/reasons.mjs";
-import Replies from "../front/protocol/replies.mjs";
+import * as Replies from "../front/protocol/replies.mjs";
+import { part } from "./part.mjs";
 
 const MOST_WATCHED = 1_000_000;
 
 /** Does a reply to `show` tell a variable that nothing has bound? */
 const isUnbound = ([line]) => / = _\d+_\d+$/.test(line);
 
-const Watching = {
+const Watching = part({
   async on_watch({ words: [name] }) {
     if (name === undefined) return this.note(usageOf("watch"));
     const line = `show ${name}`, was = await this.session.ask(line);
@@ -25,6 +26,6 @@ const Watching = {
     if (isUnbound(now)) return this.note(this.isInterrupted ? "ended: it is not bound" : `it is not bound: ${last}`);
     return this.note(isUnbound(was) ? `bound by step ${this.session.kept.last}; sent: leap 1, ${plural(taken, "time")}` : "it is bound already");
   },
-};
+});
 
 export default Watching;

@@ -73,13 +73,14 @@ test("a mended program is taken, and the steps by clauses that are still there s
   const rows = [
     ["T", "% sent: show T", "T = 990"],
     ["spy bill/3", "spying bill/3"],
+    ["spy bill(1,_,_)", "% sent: spy bill/3", "spying bill/3", "% runs stop at calls of bill/3, at goals that fit bill(1,_,_)"],
     ["reload", ...PROPOSED],
     ["n", "% the session stands"],
     ["show T", "T = 990"],
     ["reload", ...PROPOSED],
-    ["y", RELOADED, "% sent: spy bill/3"],
+    ["y", RELOADED],
     ["records", "1 0.1 by 1 reads - binds - makes 1.1,1.2,1.3", "4 1.2 by 2 reads - binds - makes 4.1", "5 4.1 is reads - binds _1_2=30 makes -"],
-    ["spy", "% bill/3"],
+    ["spy", "% bill/3, at goals that fit bill(1,_,_)"],
     ["leap", "REDU 7 1.1 by 3", "REDU 8 7.1 is", "REDU 9 1.3 is", "stopped quiet", "% all is done"],
     ["show T", "T = 126"],
     ["reload", "% the program's file is as it was; the session stands"],
@@ -93,22 +94,41 @@ test("where no step goes nothing is asked, and clauses have their new numbers", 
   fileWith(`free(0).\n${text(BILL)}% a comment\n`, "bill.ghc");
   const rows = [
     ["reload", "% new: clause 1 (line 1) free(0).", "% reloaded: 6 of 6 steps stay, and nothing is on the shelf"],
-    ["goal 2", "2 1.1 by 4 price(12,_1_1)", "% by clause 4: price(N,P) :- N >= 10 | P := N * 80.", "% with N = 12, P = 960"],
+    ["goal 2", "2 1.1 by 4 price(12,_1_1) line 4", "% by clause 4: price(N,P) :- N >= 10 | P := N * 80.", "% with N = 12, P = 960"],
     ["undo", "% sent: undo 6", "undone 6"],
     ["step", "% sent: step 1.3", "REDU 7 1.3 is"],
   ];
   assert.deepStrictEqual(await played(session, rows), rows);
 });
 
+test("the steps of the shelf stay that the console can take after the others", async () => {
+  const { session } = await billed();
+  for (const line of ["roll 4", "undo 3", "ask T = 5", "undo 7"]) await session.type(line);
+  fileWith(text(MENDED), "bill.ghc");
+  const rows = [
+    ["shelf", "3 2.1 is", "4 1.2 by 2", "5 4.1 is", "6 1.3 is", "7 - ask _0_1 = 5"],
+    ["reload", ...PROPOSED.slice(0, 3),
+      "% goes from the shelf: step 3, goal 2.1 is", "% goes from the shelf: step 6, goal 1.3 is", "% goes from the shelf: step 7, ask _0_1 = 5",
+      "% y reloads and keeps 1 of 2 steps; any other line leaves the session as it is"],
+    ["y", "% reloaded: 1 of 2 steps stay, and 2 are on the shelf"],
+    ["shelf", "4 1.2 by 2", "5 4.1 is"],
+    ["redo 4", "REDU 4 1.2 by 2", "CALL 4.1 _1_2 := 3 * 10"],
+    ["step 1.1", "REDU 8 1.1 by 3", "CALL 8.1 _1_1 := 12 * 8"],
+    ["save", "ghc-history 2", "opening 3 8", "1 0.1 by 1", "4 1.2 by 2", "5 4.1 is", "entries 4", "undo 5", "undo 4", "redo 4", "8 1.1 by 3", "spies 0", "end 9"],
+  ];
+  assert.deepStrictEqual(await played(session, rows), rows);
+});
+
 test("where a step asked for goals the steps are numbered anew", async () => {
   const { session } = await billed();
-  await session.type("ask bill(1,T,Q)");
+  for (const line of ["ask bill(1,T,Q)", "display _7_1", "display T"]) await session.type(line);
   fileWith(text(MENDED), "bill.ghc");
   const shown = await session.type("reload");
   assert.deepStrictEqual(shown.slice(-1), ["% y reloads and keeps 4 of 7 steps; any other line leaves the session as it is"]);
   const rows = [
     ["y", "% reloaded: 4 of 7 steps stay, and nothing is on the shelf", "% one of them asked for goals, so they are numbered anew, from 1 on"],
     ["records", "1 0.1 by 1 reads - binds - makes 1.1,1.2,1.3", "2 1.2 by 2 reads - binds - makes 2.1", "3 2.1 is reads - binds _1_2=30 makes -", "4 - ask bill(1,_0_1,_4_1) reads - binds - makes 4.1"],
+    ["display", "% displayed: _4_1, T"],
   ];
   assert.deepStrictEqual(await played(session, rows), rows);
 });

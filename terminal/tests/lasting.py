@@ -168,6 +168,13 @@ def test_lines_are_kept_in_a_file_alone(home):
         os.rmdir(place) if place.is_dir() else os.unlink(place)
 
 
+def test_without_a_home_nothing_is_kept(home):
+    terminal = start("", BILL, "--query", QUERY, folder=home)
+    wants(is_met("=REDU 1 0.1 by 1", terminal.type("step")), "no step")
+    terminal.hang_up()
+    wants(os.listdir(home) == [], f"{os.listdir(home)} is written where one stands")
+
+
 def test_what_is_no_file_is_not_written(home):
     pipe = str(Path(home, "pipe"))
     os.mkfifo(pipe)

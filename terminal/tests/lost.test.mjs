@@ -206,7 +206,7 @@ test("a program that a signal ended is begun again", AT_MOST, async () => {
     ["ghcdb was ended by SIGKILL", "% the program was started again; the session stands as before the last line"]);
   assert.deepStrictEqual([await type("records"), front.hasEnded], [before, false]);
   has(NONE);
-  assert.strictEqual((await type("leap")).at(-1), "% all is done");
+  assert.ok((await type("leap")).includes("% all is done"));
 });
 
 test("where it cannot be begun again, what is known of the session is left", AT_MOST, async () => {

@@ -63,5 +63,5 @@ test("the man page tells the launcher's words, its variables and each status", (
   for (const word of ["--test", "--prove", "--check", "--json", "GHCDB_QUIET"]) assert.ok(text.includes(word), word);
   const [, alone, checked] = /\.SH EXIT STATUS\n([^]*?)\.PP\nWith([^]*?)\.SH/.exec(text);
   for (const status of [0, 1, 2, 3, 70, 127]) assert.match(alone, new RegExp(`\\b${status} `));
-  for (const status of [0, 4, 5, 6, 7, 70]) assert.match(checked, new RegExp(`\\b${status} `));
+  for (const status of [0, 4, 5, 6, 7, 8, 9, 10, 70]) assert.match(checked, new RegExp(`\\b${status} `));
 });

@@ -1,7 +1,9 @@
 #!/usr/bin/env python3
 """Breaks sessions off at random moments of runs and saves: by ^C, TERM, HUP, a closed window, and KILL.
 
-    python3 terminal/tests/moments.py [N]      N moments; else as many as MOMENTS says, or 20; several at once
+    python3 terminal/tests/moments.py [N]      N moments, or 20; several at once
+
+With GHCDB_LONG=1 ^C comes at 200 moments of runs, too.
 
 Whatever is broken off: the file that was saved before loads, the native program ends with the front, and what was
 left for the next start loads and has the steps that were told. A session that goes on after ^C has all steps that
@@ -36,16 +38,20 @@ COUNTING = ("p(N,_) :- true | M := N + 1, p(M,_).\n", "p(0,X)", "leap 3000",
 DOUBLED = ("d(0,T,S) :- true | T = S.\nd(N,T,S) :- N > 0 | M := N - 1, d(M,f(T,T),f(S,S)).\n", "d(40,a,a), W = 1", "leap 79",
            ["leap 900", "step", "leap", "stat", "save {file}"])
 WAYS: list = ["^C", "^C", "^C", "close", signal.SIGTERM, signal.SIGHUP, signal.SIGKILL]
+RUNS = ("leap", "watch")  # what a run begins with
+LONG = 200 if os.environ.get("GHCDB_LONG") == "1" else 0  # moments of runs at which ^C comes
 MOST_WAIT = 0.25  # seconds from a line to the moment
 
 
 class Moment:
-    def __init__(self, home, number):
+    def __init__(self, home, number, runs_only=False):
         chance = random.Random(number)
         text, self.query, self.first, begun = chance.choice([COUNTING, COUNTING, DOUBLED])
+        ways = ["^C"] if runs_only else WAYS
+        begun = [line for line in begun if not runs_only or line.startswith(RUNS)]
         self.home, self.file, self.program = home, str(Path(home, "saved")), str(Path(home, "program.ghc"))
         Path(self.program).write_text(text)
-        self.line, self.way = chance.choice(begun).format(file=self.file), chance.choice(WAYS)
+        self.line, self.way = chance.choice(begun).format(file=self.file), chance.choice(ways)
         self.wait = chance.random() * MOST_WAIT
         self.more: tuple = chance.choice([(), (), ("--workers", "3")])
         self.told = set()  # the steps that were told, and not taken back
@@ -119,5 +125,8 @@ def child_of(number):
 
 
 if __name__ == "__main__":
-    count = int(sys.argv.pop(1)) if len(sys.argv) > 1 else int(os.environ.get("MOMENTS", "20"))
-    trying.main([(f"moment {n}", lambda home, n=n: Moment(home, n).play()) for n in range(1, count + 1)])
+    count = int(sys.argv.pop(1)) if len(sys.argv) > 1 else 20
+    trying.main(
+        [(f"moment {n}", lambda home, n=n: Moment(home, n).play()) for n in range(1, count + 1)]
+        + [(f"moment {n} of a run", lambda home, n=n: Moment(home, n, True).play()) for n in range(1, LONG + 1)]
+    )

@@ -15,8 +15,6 @@ const folder = fs.mkdtempSync(path.join(os.tmpdir(), "ghcdb-test-"));
 test.after(() => fs.rmSync(folder, { recursive: true }));
 
 const BILL = path.join(EXAMPLES, "bill.ghc"), DEADLOCK = path.join(EXAMPLES, "deadlock.ghc"), SUM = path.join(EXAMPLES, "sum.ghc");
-const LOST = path.join(folder, "lost.ghc"); // a program that ends without binding its result
-fs.writeFileSync(LOST, "sum([],A,S) :- true | true.\nsum([X|Xs],A,S) :- true | B := A + X, sum(Xs,B,S).\n% Query: sum([1,2],0,S)\n");
 
 /** What a command of terminal/ tells of words: output, errors, status. */
 function told(command, words, input = "") {
@@ -39,7 +37,8 @@ const RUNS = [
   [[DEADLOCK, "--run", "--query", "after(A,B)"], "A = _0_1\nB = _0_2\n", "% 0.1 waits for _0_1 (A of the query): nobody can bind it (no other goal has it)\n", 6],
   [[SUM, "--run", "--query", "instream(S), sum(S,0,R)"], "S = _0_1\nR = _0_2\n",
     "% 0.2 waits for _0_1 (S of the query): held by 0.1 stream\n% open at the end: 1 input stream\n", 7],
-  [[LOST, "--run"], "S = _0_1\n", "% _0_1 (S of the query) is unbound; no goal has it\n", 0],
+  [[BILL, "--run", "--query", "A = B"], "A = _0_2\nB = _0_2\n",
+    "% _0_2 (B of the query) is unbound; no goal has it\n".repeat(2), 0],
   [[BILL, "--run", "--query", "q(1)"], "", "query: F5 undefined q/1\n% undefined: no clause has the head q with 1 argument\n%  --> query:1:1\n%   |\n% 1 | q(1)\n%   | ^\n%   = defined are: bill/3, price/2\n", 1],
   [["nosuch.ghc", "--run", "--query", "true"], "", "program: F26 device\n% nosuch.ghc: no such file\n", 3],
 ];

@@ -36,7 +36,7 @@ test("on the rows output and errors are the program's, and lines are added where
       assert.strictEqual(out, row.output, row.name);
       assert.strictEqual(errors.replace(ADDED, ""), row.errors, row.name);
       assert.ok(errors === row.errors || (/^(program|query|history): F/.test(errors) && errors.startsWith(row.errors)), `${row.name}: ${errors}`);
-      assert.ok(row.status === 0 ? [0, 4, 5, 6, 7].includes(status) : status === row.status, `${row.name}: ${status}`);
+      assert.ok(row.status === 0 ? [0, 4, 5, 6, 7, 10].includes(status) : status === row.status, `${row.name}: ${status}`);
     } finally {
       process.chdir(home);
       fs.rmSync(folder, { recursive: true });

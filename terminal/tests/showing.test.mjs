@@ -4,7 +4,7 @@ import fs from "node:fs";
 import os from "node:os";
 import path from "node:path";
 import test from "node:test";
-import Short from "../../front/protocol/short.mjs";
+import * as Short from "../../front/protocol/short.mjs";
 import { begin, endAll, played } from "./lib/fronts.mjs";
 
 const folder = fs.mkdtempSync(path.join(os.tmpdir(), "ghcdb-test-"));

@@ -4,13 +4,14 @@ import path from "node:path";
 import test from "node:test";
 import { fileURLToPath } from "node:url";
 import { Patterns, fits } from "../../front/run/patterns.mjs";
-import Reader from "../../front/text/reader.mjs";
-import Histories from "../../front/protocol/histories.mjs";
+import * as Reader from "../../front/text/reader.mjs";
+import * as Histories from "../../front/protocol/histories.mjs";
 import { begin, endAll, played } from "./lib/fronts.mjs";
 
 const BILL = path.join(path.dirname(fileURLToPath(import.meta.url)), "..", "..", "examples", "bill.ghc");
 const NONE = "% nothing is spied; spy F/N stops runs at calls of F/N, spy F(T,..) at goals that fit that";
 const USAGE = "% usage: spy F/N          stop runs at calls of F/N, or no longer; alone: which are spied; F(T,..): at goals that fit it";
+const FREE = "% 1 step could have gone by another clause: choices T tells";
 const NOTHING = "% nothing is displayed; display X shows X after each run and step";
 
 test.afterEach(endAll);
@@ -21,7 +22,7 @@ const SESSIONS = {
     ["spy", NONE],
     ["spy price(3, _)", "% sent: spy price/2", "spying price/2", "% runs stop at calls of price/2, at goals that fit price(3,_)"],
     ["leap", "% passed 1 goal that no pattern fits; sent: step 1.1", "REDU 1 0.1 by 1", "REDU 2 1.1 by 2", "stopped spied 1.2", "% next is price(3,_1_2): step 1.2 takes it"],
-    ["c", "% sent: step 1.2", "REDU 3 1.2 by 2", "CALL 3.1 _1_2 := 3 * 10", "% sent: leap", "REDU 4 3.1 is", "REDU 5 2.1 is", "REDU 6 1.3 is", "stopped quiet", "% all is done"],
+    ["c", "% sent: step 1.2", "REDU 3 1.2 by 2", "CALL 3.1 _1_2 := 3 * 10", "% sent: leap", "REDU 4 3.1 is", "REDU 5 2.1 is", "REDU 6 1.3 is", "stopped quiet", "% all is done", FREE],
   ],
   "a run of some steps counts those that pass a goal": [
     ["spy price(3,_)", "% sent: spy price/2", "spying price/2", "% runs stop at calls of price/2, at goals that fit price(3,_)"],
@@ -63,10 +64,10 @@ const SESSIONS = {
     ["until 2", "% step 2 is kept"],
     ["until 3", "% sent: leap 1", "REDU 3 2.1 is", "stopped limit", "% leap goes on"],
     ["until 5.2", "% sent: leap 1, leap 1", "REDU 4 1.1 by 2", "REDU 5 4.1 is", "stopped limit", "% leap goes on", "% step 5 made no goal 5.2"],
-    ["until 9", "% sent: leap 1", "REDU 6 1.3 is", "stopped quiet", "% all is done"],
+    ["until 9", "% sent: leap 1", "REDU 6 1.3 is", "stopped quiet", "% all is done", FREE],
     ["until x", "% usage: until G or N     run until goal G is there, or step N is made"],
     ["undo", "% sent: undo 6", "undone 6"],
-    ["until 6", "% sent: leap 1", "REDU 7 1.3 is", "stopped quiet", "% all is done", "% no step gets the number 6 any more; shelf lists what was taken back"],
+    ["until 6", "% sent: leap 1", "REDU 7 1.3 is", "stopped quiet", "% all is done", FREE, "% no step gets the number 6 any more; shelf lists what was taken back"],
     ["until 6", "% no step gets the number 6 any more; shelf lists what was taken back"],
     ["until 5.2", "% step 5 is kept, and made no such goal"],
   ],
@@ -83,7 +84,7 @@ const SESSIONS = {
     ["display P", "% sent: show _1_1", "_1_1 = _1_1", "% _1_1 (P of step 1) is unbound; held by 1.1, 1.3"],
     ["display", "% displayed: T, _1_1"],
     ["goals", "1.1 ready price(12,_1_1)", "1.2 ready price(3,_1_2)", "1.3 waits _1_1,_1_2 _0_1 := _1_1 + _1_2", "% waited for: _1_1 (P of step 1), _1_2 (Q of step 1)"],
-    ["leap", "REDU 2 1.2 by 2", "REDU 3 2.1 is", "REDU 4 1.1 by 2", "REDU 5 4.1 is", "REDU 6 1.3 is", "stopped quiet", "% all is done",
+    ["leap", "REDU 2 1.2 by 2", "REDU 3 2.1 is", "REDU 4 1.1 by 2", "REDU 5 4.1 is", "REDU 6 1.3 is", "stopped quiet", "% all is done", FREE,
       "% sent: show T", "T = 150", "% sent: show _1_1", "_1_1 = 120"],
     ["undo 9", "F16 not a kept step", "% records lists the kept steps"],
     ["undisplay T", "% displayed: _1_1"],

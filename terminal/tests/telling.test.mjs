@@ -44,17 +44,18 @@ async function begin() {
 
 test("the console answers, and the terminal adds what helps", async () => {
   const { front, type } = await begin();
-  await type("leap");
+  assert.deepStrictEqual((await type("> > leap")).slice(0, 2), ["REDU 1 0.1 by 1", "REDU 2 1.1 by 2"]);
+  assert.deepStrictEqual(await type("save 2"), ["% 2 is no version: save tells the whole session, save 1 the kept steps; a file of that name is ./2"]);
   assert.deepStrictEqual(await type("explain T"), [...EXPLAINED, "% rests on 2 of 3 clauses: 1, 2", ...TREE, "% another clause than step 2 took: roll 2, step 1.1 3"]);
   assert.deepStrictEqual((await type("explain P")).slice(0, 2), ["% sent: explain _1_1", "_1_1 = 120"]);
-  assert.deepStrictEqual(await type("goal 2."), ["% sent: goal 2", "2 1.1 by 2 price(12,_1_1)", "% by clause 2: price(N,P) :- N > 0 | P := N * 10.", "% with N = 12, P = 120"]);
+  assert.deepStrictEqual(await type("goal 2."), ["% sent: goal 2", "2 1.1 by 2 price(12,_1_1) line 7", "% by clause 2: price(N,P) :- N > 0 | P := N * 10.", "% with N = 12, P = 120"]);
   assert.deepStrictEqual(await type("goal 99"), ["F16 not a kept step", "% records lists the kept steps"]);
   assert.match((await type("goal x")).join("\n"), /^F25 command\n% usage: goal N +tell which goal step N took, as written then; with its clause$/);
   assert.deepStrictEqual(await type("clauses 0.1"), ["F7 no goal", "% 0.1 was taken by step 1; goals lists those that are there"]);
   assert.deepStrictEqual(await type("causes"), CAUSES);
   assert.deepStrictEqual(await type("keep P"), ["% sent: keep _1_1", "undone 4,5,6", "kept 3", "% 3 steps left; shelf lists what was taken back, redo N puts a step there again"]);
   assert.deepStrictEqual([...front.session.kept.steps.keys()], [1, 2, 3]);
-  assert.deepStrictEqual(await type("clauses 1.2"), ["2 yes", "3 no", "% clause 3: N >= 10 says no (N = 3)"]);
+  assert.deepStrictEqual(await type("clauses 1.2"), ["2 yes line 7", "3 no test 1 line 8", "% clause 3: N >= 10 says no (N = 3)"]);
   assert.deepStrictEqual((await type("keep 1.2")).slice(0, 1), ["undone 2,3"]);
   await front.session.end();
 });
@@ -117,9 +118,9 @@ test("their replies as objects", () => {
   const goal = objectOf("explain 1.3", ["1.3 waits _1_1 _0_1 := _1_1 + 30", "_1_1 in 1.1 ready", RECORDS[0], "steps 1 of 3"], textOf);
   assert.deepStrictEqual([goal.goal.goal, goal.goal.waitsFor, goal.steps.length], ["1.3", ["_1_1"], 1]);
   assert.deepStrictEqual(objectOf("causes", CAUSES, textOf).dependences.slice(5), [{ step: 6, on: 3, kind: "read", variable: "_1_1" }, { step: 6, on: 5, kind: "read", variable: "_1_2", woke: true }]);
-  assert.deepStrictEqual(objectOf("goal 2", ["2 1.1 by 2 price(12,_1_1)"], textOf), { command: "goal 2", ok: true, step: 2, goal: "1.1", act: "by 2", text: "price(12,_1_1)" });
+  assert.deepStrictEqual(objectOf("goal 2", ["2 1.1 by 2 price(12,_1_1) line 34"], textOf), { command: "goal 2", ok: true, step: 2, goal: "1.1", act: "by 2", text: "price(12,_1_1)", line: 34 });
   assert.deepStrictEqual(objectOf("goal 7", ["7 - ask p(X)"], textOf), { command: "goal 7", ok: true, step: 7, goal: null, act: "ask p(X)", text: null });
-  assert.deepStrictEqual(objectOf("clauses 1.2", ["2 waits _1_1,_1_2", "3 no"], textOf).clauses, [{ clause: 2, says: "waits", waitsFor: ["_1_1", "_1_2"] }, { clause: 3, says: "no" }]);
+  assert.deepStrictEqual(objectOf("clauses 1.2", ["2 waits _1_1,_1_2 line 34", "3 no test 1 line 35"], textOf).clauses, [{ clause: 2, says: "waits", waitsFor: ["_1_1", "_1_2"], line: 34 }, { clause: 3, says: "no", line: 35 }]);
   assert.deepStrictEqual(objectOf("since 5", RECORDS.slice(4), textOf).steps.map(({ step }) => step), [5, 6]);
   assert.deepStrictEqual(objectOf("keep T", ["undone 1,2", "kept 4"], textOf), { command: "keep T", ok: true, ports: [], undone: [1, 2], told: "kept 4" });
 });

@@ -83,7 +83,7 @@ REFUSED = [
     ("ask price(0,T)", "REDU 9"),
     ("step 9.1", "=F10 no clause matches", "% clause 2: N > 0 says no (N = 0)", "% clause 3: N >= 10 says no (N = 0)"),
     ("ask price(a,T)", "REDU 10"),
-    ("step 10.1 2", "=F10 no clause matches", "% clause 2: N > 0 says no: a is no integer"),
+    ("step 10.1 2", "=F10 no clause matches", "% clause 2: N > 0 has no value (N = a)"),
     ("ask prize(1,T)", "=F5 undefined prize/2", "there is price/2: is it that?"),
     ("ask T = ", "F2 syntax", "the query ends too early"),
     ("in 1 a", "=F14 no open stream", "% no input stream is open; instream(S) in the query makes one"),
@@ -199,7 +199,7 @@ SESSIONS = {
             (
                 "stuck",
                 "% 0.1 waits for _0_1 (A of the query): held by 0.3 waits",
-                "% a circle: 0.1 waits for 0.3 waits for 0.2 waits for 0.1",
+                "% in vain: these stay unbound: _0_1 (A of the query), _0_2 (B of the query)",
             ),
             ("goals", "% waited for: _0_1 (A of the query)"),
         ],
