@@ -5,14 +5,14 @@ import path from "node:path";
 
 // The forms of import and export that a release knows, each in a line of its own; others are refused.
 const IMPORTS = /^import (?:(\w+)|\* as (\w+)|(?:(\w+), )?\{ ([^}]+) \}) from "([^"]+)";$/gm;
-const DEFAULT = /^export default /m, NAMES = /^export \{ ([^}]+) \};$/gm, LATER = /\bimport\("(\.[^"]+\.mjs)"\)/g;
+const DEFAULT = /^export default /m, NAMES = /^export \{\s+([^}]+?),?\s+\};$/gm, LATER = /\bimport\("(\.[^"]+\.mjs)"\)/g;
 const LEFT = /^(import|export|await)\b/m;
 
 const isOwn = (word) => word.startsWith(".");
 
 /** Names as an object has them: `a as b` is `a: b` where they come in, `b: a` where they go out. */
 const comingIn = (names) => names.replaceAll(" as ", ": ");
-const goingOut = (names) => names.split(", ").map((name) => name.split(" as ").reverse().join(": ")).join(", ");
+const goingOut = (names) => names.split(/,\s+/).map((name) => name.split(" as ").reverse().join(": ")).join(", ");
 
 /** The declaration that stands for an import: alone, all, first and names are the parts of its form. */
 function declared(it, own, { alone, all, first, names }) {

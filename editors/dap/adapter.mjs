@@ -1,23 +1,27 @@
 // The debug adapter: it answers an editor's requests, in the Debug Adapter Protocol, by lines of ghcdb's console and nothing else. So
 // every state that an editor sees is one that a session has.
 //
-// The requests stand in files by what they are for: beginning.mjs, setting.mjs (breakpoints), looking.mjs, stepping.mjs,
-// changing.mjs, cancelling.mjs; runs are in running.mjs.
-import Beginning from "./beginning.mjs";
+// The requests stand in files by what they are for: beginning.mjs, restarting.mjs, setting.mjs (breakpoints),
+// looking.mjs, stepping.mjs, changing.mjs, cancelling.mjs; runs are in running.mjs.
+import { Beginning } from "./beginning.mjs";
 import { Breakpoints } from "./breakpoints.mjs";
 import Cancelling from "./cancelling.mjs";
 import Changing from "./changing.mjs";
 import Judging from "./judging.mjs";
 import Looking from "./looking.mjs";
+import { Inside } from "./inside.mjs";
+import { Processes } from "./processes.mjs";
 import { Cancelled, Refused } from "./refused.mjs";
+import Restarting from "./restarting.mjs";
 import Running from "./running.mjs";
 import Setting from "./setting.mjs";
 import Stepping from "./stepping.mjs";
 import { clauseTaken, failedText } from "./told.mjs";
 import { Ended } from "../../front/session/program.mjs";
 import { NotTold } from "../../front/session/session.mjs";
+import { Blaming } from "../../front/run/blaming.mjs";
 import { notesAfter } from "../../front/run/telling.mjs";
-import Replies from "../../front/protocol/replies.mjs";
+import * as Replies from "../../front/protocol/replies.mjs";
 
 const MOST_THREAD_EVENTS = 200; // of one stop; an editor asks for all threads in any case
 
@@ -35,8 +39,36 @@ class Adapter {
     this.inbox = [];
     this.first = 1; // how the editor counts its first line
     this.breakpoints = new Breakpoints();
+    this.live = new Set(); // the processes that the editor knows
+    this.isBusy = this.isRunning = this.wantsPause = this.isSkipping = false;
+    /** @type {Promise<void> | undefined} */
+    this.ending = undefined; // of a run in one piece, after a pause
+    this.runner = undefined; // the request that made the run
+    this.hearsProgress = false;
+    this.hasToldEnd = false;
+    /** @type {import("./session.mjs").EditorSession | undefined} */
+    this.session = undefined;
+  }
+
+  /** The session that the editor sees from now on, by the launch configuration `given`. */
+  show(session, places, given) {
+    this.session = session;
+    this.places = places;
+    this.given = given;
+    this.inside = new Inside(session);
+    this.blaming = new Blaming(session);
+    this.judged = undefined; // what was told last of who is to blame, and the line
+    this.slice = Number(given.slice ?? 1000); // steps of a run, after which a pause is heard
+    this.failed = new Set(); // the goals that had failed at the last stop
+    this.hasToldEnd = false;
+    this.frameTexts = new Map();
+    this.textsNow = this.textsBefore = this.notedAt = undefined;
+  }
+
+  /** The processes are numbered anew. */
+  countProcesses() {
+    this.processes = new Processes(this.session);
     this.live = new Set();
-    this.isBusy = this.isRunning = this.wantsPause = false;
   }
 
   send(message) {
@@ -100,7 +132,8 @@ class Adapter {
     } catch (error) {
       this.event("output", { category: "stderr", output: `${this.wordsOf(error, request.command)}\n` });
     }
-    Object.assign(this, { laters: outer, handling });
+    this.laters = outer;
+    this.handling = handling;
   }
 
   async answer(request) {
@@ -198,7 +231,12 @@ class Adapter {
     return anew;
   }
 
-  /** Tells a stop: why, in words, and at which process where that is known. A step by which a goal fails stops at it. */
+  /**
+   * Tells a stop: why, in words, and at which process where that is known. A step by which a goal fails stops at it.
+   * @param {string} reason
+   * @param {string} text
+   * @param {import("./types").Where} where
+   */
   async stopped(reason, text = reason, { thread, hit } = {}) {
     const goals = await this.look(), failed = this.failedAnew(goals);
     this.inside.forget();
@@ -208,7 +246,7 @@ class Adapter {
     return this.tellStop(goals, { reason: "exception", text: failedText(failed), thread: its });
   }
 
-  tellStop(goals, { reason, text, thread, hit }) {
+  tellStop(goals, { reason, text, thread, hit = undefined }) {
     const shown = goals.find(({ status }) => status === "failed") ?? goals.find(({ status }) => status === "ready") ?? goals[0];
     const isThere = thread !== undefined && (this.live.has(thread) || this.isJudged(thread));
     this.shown = isThere ? thread : shown === undefined ? 1 : this.processes.of(shown.name);
@@ -230,7 +268,7 @@ const WITHOUT_SESSION = new Set(["initialize", "launch", "attach", "disconnect",
 const RUNS = new Set(["continue", "next", "stepIn", "stepOut", "stepBack", "reverseContinue", "goto", "restartFrame", "setVariable", "setExpression", "evaluate",
   "ghcdb/undo", "ghcdb/roll", "ghcdb/redo"]);
 
-for (const requests of [Beginning, Setting, Looking, Stepping, Changing, Running, Judging, Cancelling]) {
+for (const requests of [Beginning, Restarting, Setting, Looking, Stepping, Changing, Running, Judging, Cancelling]) {
   Object.defineProperties(Adapter.prototype, Object.getOwnPropertyDescriptors(requests));
 }
 

@@ -1,15 +1,15 @@
 // Requests with which a session begins and ends.
 import fs from "node:fs";
 import path from "node:path";
-import { Blaming } from "../../front/run/blaming.mjs";
-import Causes from "../../front/text/causes.mjs";
+import * as Causes from "../../front/text/causes.mjs";
+import { plural } from "../../front/run/reasons.mjs";
+import { everyRefusal } from "../../front/session/every_refusal.mjs";
 import { Ended } from "../../front/session/program.mjs";
-import { whyNotRead, whyRefused } from "../../front/session/refused.mjs";
+import { whyNotRead } from "../../front/session/refused.mjs";
 import { FILTERS } from "./breakpoints.mjs";
-import { Inside } from "./inside.mjs";
 import { Places, queryOf } from "./places.mjs";
-import { Processes } from "./processes.mjs";
 import { refused } from "./refused.mjs";
+import { requests } from "./requests.mjs";
 import { EditorSession } from "./session.mjs";
 
 const CAN = ["ConfigurationDoneRequest", "FunctionBreakpoints", "ConditionalBreakpoints", "HitConditionalBreakpoints", "LogPoints", "DataBreakpoints", "EvaluateForHovers",
@@ -18,6 +18,7 @@ const CAN = ["ConfigurationDoneRequest", "FunctionBreakpoints", "ConditionalBrea
   "CancelRequest"];
 
 const MOST_NOTES = 6; // on a program that it tells
+const NO_QUERY = "no query: give `query` in the launch configuration, or a comment `% Query: ..` in the program";
 
 /** The words of ghcdb's command line for a launch configuration. */
 function wordsOf({ load, workers }, program, query) {
@@ -47,7 +48,16 @@ function textOf(file) {
   return fs.readFileSync(file, "utf8");
 }
 
-export default {
+/** What a launch configuration asks for: the program's file and text, the query, the words of ghcdb's command line. */
+function askedBy(given) {
+  if (typeof given.program !== "string") throw refused("no program: give `program` in the launch configuration");
+  const file = path.resolve(given.program), text = textOf(file), query = given.query || queryOf(text);
+  if (query === undefined) throw refused(NO_QUERY);
+  if (given.load) refuseEndless(given.load);
+  return { given, file, text, query, words: wordsOf(given, file, query) };
+}
+
+const Beginning = requests({
   on_initialize({ linesStartAt1 = true, supportsProgressReporting = false }) {
     this.first = linesStartAt1 ? 1 : 0;
     this.hearsProgress = supportsProgressReporting;
@@ -55,45 +65,57 @@ export default {
   },
 
   async on_launch(given) {
-    await this.launch(given);
+    await this.launch(askedBy(given));
     this.later(() => this.event("initialized"));
   },
 
-  /** Begins a session; where it is refused, the one before stands. */
-  async launch(given) {
-    if (typeof given.program !== "string") throw refused("no program: give `program` in the launch configuration");
-    const file = path.resolve(given.program), program = textOf(file), query = given.query || queryOf(program);
-    if (query === undefined) throw refused("no query: give `query` in the launch configuration, or a comment `% Query: ..` in the program");
-    if (given.load) refuseEndless(given.load);
-    const session = new EditorSession(wordsOf(given, file, query), this.native);
-    const places = new Places(file, program, query, this.first);
+  /** Begins anew; where that is refused, the session before stands. */
+  async launch(asked) {
+    await this.goOnWith(new EditorSession(asked.words, this.native), asked);
+    this.breakpoints.spied = new Set();
+    this.countProcesses();
+  },
+
+  /** A session takes the place of the one before, which stands where it is refused. */
+  async goOnWith(session, asked) {
+    const { given, text } = asked, places = this.placesOf(asked);
+    await this.accepted(session, places);
+    await this.session?.end();
+    this.show(session, places, given);
+    const notes = Causes.notesOn(text, places.source().name).slice(0, MOST_NOTES);
+    this.later(() => notes.forEach((cause) => this.tellCause(cause, Causes.linesOf(cause, text), places, "important")));
+  },
+
+  placesOf({ file, text, query }) {
+    return new Places(file, text, query, this.first);
+  },
+
+  /** Begins a session. Where ghcdb refuses it, all that it is refused for is told, and the first in the answer. */
+  async accepted(session, places) {
     try {
       await session.begin();
       await session.keepWayBack(); // any line can be ended
     } catch (error) {
-      throw error instanceof Ended ? refused(this.tellRefusal(error, session, places)) : error;
+      if (!(error instanceof Ended)) throw error;
+      throw refused(await this.tellRefusals(error, session, places), true);
     }
-    await this.session?.end();
-    Object.assign(this, { given, session, places, slice: Number(given.slice ?? 1000), processes: new Processes(session), inside: new Inside(session), blaming: new Blaming(session) });
-    Object.assign(this, { live: new Set(), failed: new Set(), hasToldEnd: false });
-    Object.assign(this, { frameTexts: new Map(), textsNow: undefined, textsBefore: undefined, notedAt: undefined });
-    this.breakpoints.spied = new Set();
-    const notes = Causes.notesOn(program, path.basename(file)).slice(0, MOST_NOTES);
-    this.later(() => notes.forEach((cause) => this.tellCause(cause, Causes.linesOf(cause, program), places, "important")));
   },
 
-  /** Tells why ghcdb refused what was to begin, at its place; the same in words for the answer. */
-  tellRefusal({ errors }, session, places) {
-    const said = errors.trim(), { lines, cause } = whyRefused(said, session, path.basename(places.file)), told = [said, ...lines];
-    if (cause !== undefined) this.tellCause(cause, told, places, "stderr");
-    return told.join("\n");
+  /** Tells all refusals of what was to begin, each at its place. The first in words, and how many more there are. */
+  async tellRefusals({ errors }, { texts, native }, places) {
+    const refusals = await everyRefusal({ ...texts, file: places.source().name }, native, errors.trim());
+    const told = refusals.map(({ said, lines }) => [said, ...lines]), more = refusals.length - 1;
+    refusals.forEach(({ cause }, at) => this.tellCause(cause, told[at], places, "stderr"));
+    return [...told[0], ...(more > 0 ? [`and ${plural(more, "refusal")} more, in the console`] : [])].join("\n");
   },
 
-  /** Tells lines about a cause in the editor's console, so that they lead to its place. */
+  /** Tells lines in the editor's console, so that they lead to the place of their cause where there is one. */
   tellCause(cause, lines, places, category) {
+    if (cause === undefined) return this.tell(lines, category);
     const letter = Causes.letterOf(cause, cause.isQuery ? places.queryText : places.program), place = { line: cause.line, letter, endLine: cause.line, endLetter: letter };
     const { source, line, column } = places.spotOf({ clause: cause.isQuery ? 0 : 1, ...place });
-    this.event("output", { category, output: `${lines.join("\n")}\n`, ...(source.path && { source, line, column }) });
+    const output = `${lines.join("\n")}\n`;
+    return this.event("output", { category, output, ...(source.path && { source, line, column }) });
   },
 
   on_attach() {
@@ -102,12 +124,6 @@ export default {
 
   on_configurationDone() {
     this.later(() => (this.given.stopOnEntry === false ? this.forward() : this.stopped("entry", "before the first step")));
-  },
-
-  async on_restart({ arguments: given }) {
-    await this.launch(given ?? this.given);
-    await this.setAgain();
-    this.later(() => this.stopped("entry", "begun anew"));
   },
 
   async on_disconnect() {
@@ -127,4 +143,6 @@ export default {
     for (const { number, goal } of this.session.kept.steps.values()) texts[number] = run.textOf(goal);
     return { records, goals, shelf, texts };
   },
-};
+});
+
+export { Beginning, askedBy };

@@ -1,8 +1,10 @@
 // The request `cancel`, which is heard at once, whatever goes on. A request that waits for its turn is not begun, a run
 // pauses, and a line of the editor's console is ended: the session is as before it. All else is soon done, and goes on.
+import { requests } from "./requests.mjs";
+
 const LONG = 1000; // milliseconds of a line, after which an editor is told that it goes on
 
-export default {
+export default requests({
   /** Cancels a request, which is named by its number, or by the progress that was told of it. */
   async hearCancel(message) {
     const { requestId, progressId } = message.arguments ?? {};
@@ -35,4 +37,4 @@ export default {
       if (isTold) this.event("progressEnd", { progressId });
     };
   },
-};
+});

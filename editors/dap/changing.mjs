@@ -2,15 +2,16 @@
 import { notesAfter } from "../../front/run/telling.mjs";
 import { suggestionFor, NAMES } from "../../front/protocol/commands.mjs";
 import { termOf } from "./options.mjs";
+import { requests } from "./requests.mjs";
 import { goalsMade } from "./told.mjs";
 import { refused } from "./refused.mjs";
-import Replies from "../../front/protocol/replies.mjs";
+import * as Replies from "../../front/protocol/replies.mjs";
 
-const TELLS_MORE = new Set(["explain", "part"]); // lines of which the reply alone tells no goals, or no names
+const TELLS_MORE = new Set(["explain", "part", "whynot"]); // lines of which the reply alone tells no goals, or no names
 
 const NO_VALUE = ": a value is one term, as 3, red or [1,2]; nothing is computed";
 
-export default {
+export default requests({
   /** A line of the console as it was typed; where it changed the session, the editor hears of a stop. `explain X all` asks for `explain X`. */
   async typed(given, word) {
     const isWhole = word === "explain" && / all$/.test(given), line = isWhole ? given.replace(/ +all$/, "") : given;
@@ -73,4 +74,4 @@ export default {
     this.event("continued", { threadId: this.shown, allThreadsContinued: true });
     return this.stopped("step", text, { thread });
   },
-};
+});

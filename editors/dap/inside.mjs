@@ -1,7 +1,7 @@
 // What an editor shows of a stop: the frames of a process, their scopes, and the variables in them. Terms unfold as they are opened.
-import Print from "../../front/text/print.mjs";
-import Reader from "../../front/text/reader.mjs";
-import Stuck from "../../front/run/stuck.mjs";
+import * as Print from "../../front/text/print.mjs";
+import * as Reader from "../../front/text/reader.mjs";
+import { holdersIn, waitsOf } from "../../front/run/waits.mjs";
 import { readLines } from "./told.mjs";
 
 const LONGEST = 1000; // letters of a value
@@ -79,6 +79,7 @@ class Inside {
   /**
    * A variable or a part of a term, which unfolds where it has parts. Of its list so many elements as `before` says are
    * shown elsewhere.
+   * @returns {import("./types").Variable}
    */
   variable(name, term, store = this.session.run.shown, before = 0) {
     const end = store.endOf(term), unfolds = end.arguments?.length > 0 && !Print.isOperation(end);
@@ -109,6 +110,8 @@ class Inside {
   /**
    * The variables in a scope or a term, from `start` to `end`. A list's elements and the goals are indexed: `filter`
    * takes these or the named ones alone. Undefined where the reference counts no more.
+   * @param {number} reference
+   * @param {{ filter?: string, start?: number, end?: number }} page
    */
   async variablesOf(reference, { filter, start = 0, end } = {}) {
     const found = this.referred(reference);
@@ -136,8 +139,8 @@ class Inside {
   }
 
   async in_waits(goal) {
-    const { run } = this.session, lines = Stuck.linesOfGoal(await this.session.goals(), goal.name, (variable) => run.labelOf(variable));
-    return goal.waitsFor.map((variable, place) => flat(run.labelOf(variable), lines[place].slice(lines[place].indexOf(": ") + 2)));
+    const waits = await waitsOf(this.session, [goal]);
+    return waits.map((wait) => flat(this.session.run.labelOf(wait.variable), holdersIn(this.session, wait)));
   }
 
   async in_environment(number) {

@@ -1,15 +1,16 @@
 // The editor's console asks who is to blame, and hears the answers. The call asked about is shown as a process of its own, and at the end
 // the one at fault.
 import { afterBlame, callWords } from "../../front/run/blame_words.mjs";
-import BlameLines from "../../front/protocol/blame_lines.mjs";
+import * as BlameLines from "../../front/protocol/blame_lines.mjs";
 import { usageOf } from "../../front/protocol/commands.mjs";
 import * as Own from "../../front/run/own.mjs";
-import Replies from "../../front/protocol/replies.mjs";
+import { requests } from "./requests.mjs";
+import * as Replies from "../../front/protocol/replies.mjs";
 
 const JUDGED = 0x7fffffff; // the number of the process that is none: the call asked about
 const LONGEST = 300;
 
-export default {
+export default requests({
   /** The lines for `blame`, an answer to its question, or `trust`; undefined where a line is none of these. */
   async judge(line) {
     const [word, ...words] = line.split(/ +/);
@@ -66,4 +67,4 @@ export default {
     const clause = this.session.clauses[fault?.clause - 1], place = clause === undefined ? this.session.run.placeOf(goal) : { clause: clause.number, ...this.places.placeOf(clause) };
     return { id, name: this.judgedName(), ...(step !== undefined && { canRestart: true }), ...this.places.spotOf(place) };
   },
-};
+});

@@ -1,18 +1,18 @@
 // Requests that look at a stop and change nothing: threads, frames, scopes, variables, texts, values.
 import path from "node:path";
 import * as Own from "../../front/run/own.mjs";
-import Stuck from "../../front/run/stuck.mjs";
 import { NAMES, commandOf, helpLines } from "../../front/protocol/commands.mjs";
 import { completionsOf } from "../../front/protocol/complete.mjs";
 import { plural, whyNoClause } from "../../front/run/reasons.mjs";
 import { QUERY, STEPS, SHELF } from "./places.mjs";
 import { refused } from "./refused.mjs";
+import { requests } from "./requests.mjs";
 
 const MOST_THREADS = 1000, MOST_FRAMES = 200, LONGEST_NAME = 300;
 
 const statusOf = ({ status, waitsFor, refusal }) => `${status}${waitsFor.length > 0 ? ` for ${waitsFor.join(", ")}` : ""}${refusal ? ` ${refusal}` : ""}`;
 
-export default {
+export default requests({
   async on_threads() {
     const threads = new Map();
     for (const goal of await this.look()) {
@@ -80,8 +80,7 @@ export default {
   async on_exceptionInfo({ threadId }) {
     const goals = await this.session.goals(), allFailed = goals.filter(({ status }) => status === "failed");
     const failed = allFailed.find(({ name }) => this.processes.of(name) === threadId) ?? allFailed[0];
-    const labelOf = (variable) => this.session.run.labelOf(variable);
-    if (failed === undefined) return { exceptionId: "stuck", description: Stuck.linesOf(goals, labelOf).join("\n"), breakMode: "always" };
+    if (failed === undefined) return { exceptionId: "stuck", description: (await Own.stuck(this.session)).join("\n"), breakMode: "always" };
     const why = failed.refusal === "F10" ? await whyNoClause(this.session, failed.name) : [];
     return { exceptionId: `failed ${failed.refusal}`, description: [`${failed.name} ${failed.text}`, ...why].join("\n"), breakMode: "always" };
   },
@@ -140,4 +139,4 @@ export default {
     if (name === "save" && file !== "") return this.session.saveInto(file, version);
     return this.typed(line, word);
   },
-};
+});

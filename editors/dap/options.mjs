@@ -1,9 +1,12 @@
 // What an editor's options of a breakpoint say: a condition, a count of hits, a log text. Each is read whole; what
 // cannot be read is refused, with words that say what would be.
-import Print from "../../front/text/print.mjs";
-import Reader from "../../front/text/reader.mjs";
+import * as Print from "../../front/text/print.mjs";
+import * as Reader from "../../front/text/reader.mjs";
+import Run from "../../front/run/run.mjs";
 import { fits, formOf, predicateOf, repeatedIn, whyRepeated } from "../../front/run/patterns.mjs";
 import { refused } from "./refused.mjs";
+
+/** @typedef {import("../../front/types").Clause} Clause */
 
 const isGiven = (text) => text !== undefined && text !== null && String(text).trim() !== "";
 
@@ -46,11 +49,7 @@ const LONGEST = 200; // letters of a value in a text
 const valueOf = (term, run) => Print.term(term, { store: run.shown, most: LONGEST });
 
 /** What the variables of a clause's head stand for where a goal meets it. */
-function headOf(clause, run, name) {
-  const values = new Map();
-  run.match(clause.head, run.goalOf(name).call, values);
-  return values;
-}
+const headOf = (clause, run, name) => Run.bindingsOf(clause.head, run.goalOf(name).call, run);
 
 /**
  * What stands for a word in braces of a log text: a function of the run and the goal's name. A name of the clause means
@@ -87,7 +86,11 @@ function readMessage(text, clause, query) {
   return (run, name) => String(text).replace(IN_BRACES, (all, word) => meant(word)(run, name));
 }
 
-/** The options of a breakpoint at a predicate, and at a clause where one is given; `query` has the query's names. */
+/**
+ * The options of a breakpoint at a predicate, and at a clause where one is given; `query` has the query's names.
+ * @param {{ condition?: string, hitCondition?: string, logMessage?: string }} given
+ * @param {{ predicate: string, clause?: Clause, query: string[] }} place
+ */
 function readOptions({ condition, hitCondition, logMessage }, { predicate, clause, query }) {
   const pattern = readCondition(condition, predicate), least = readHits(hitCondition);
   return { pattern, least, messageOf: readMessage(logMessage, clause, query) };

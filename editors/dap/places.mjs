@@ -8,7 +8,9 @@ const NAMES = { [QUERY]: "query", [STEPS]: "kept steps", [SHELF]: "taken back" }
 
 class Places {
   constructor(file, program, query, first) {
-    Object.assign(this, { file, program, queryText: query });
+    this.file = file;
+    this.program = program;
+    this.queryText = query;
     this.first = first; // the number of the first line, 0 or 1
     const found = COMMENT.exec(program);
     if (found === null || found[1] !== query) return;

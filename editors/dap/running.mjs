@@ -1,14 +1,29 @@
 // Runs: forwards in slices, so that a pause is heard between two of them, and backwards to a breakpoint.
-import Stuck from "../../front/run/stuck.mjs";
+import * as Own from "../../front/run/own.mjs";
+import { requests } from "./requests.mjs";
 import { failedText } from "./told.mjs";
 import { Ended } from "../../front/session/program.mjs";
 import { plural } from "../../front/run/reasons.mjs";
-import Replies from "../../front/protocol/replies.mjs";
+import * as Replies from "../../front/protocol/replies.mjs";
+
+/** @typedef {import("./types").Stop} Stop */
 
 const MOST_TOLD = 200; // steps of a run that it tells in the editor's console
 
-export default {
-  /** Runs something during which other requests are answered; a pause ends it. */
+/**
+ * The stop where a breakpoint could not be looked at, as where a value is too long.
+ * @returns {Stop}
+ */
+function stopOf(error) {
+  if (error instanceof Ended) throw error;
+  return ["pause", error.message];
+}
+
+export default requests({
+  /**
+   * Runs something during which other requests are answered; a pause ends it.
+   * @param {() => Promise<Stop>} what
+   */
   async running(what) {
     this.isRunning = true;
     this.runner = this.handling;
@@ -23,13 +38,10 @@ export default {
 
   /** Runs on to a reason to stop. */
   async forward() {
-    const stop = await this.running(() => this.runSlices()).catch((error) => {
-      if (error instanceof Ended) throw error;
-      return ["pause", error.message]; // a breakpoint could not be looked at, as where a value is too long
-    });
-    await this.stopped(...stop);
+    await this.stopped(...await this.running(() => this.runSlices()).catch(stopOf));
   },
 
+  /** @returns {Promise<Stop>} */
   async runSlices() {
     const watched = await this.watchedValues();
     for (let steps = 0; ;) {
@@ -70,7 +82,10 @@ export default {
     return undefined;
   },
 
-  /** What stops a run before a spied goal; undefined where it goes on, and then the goal was stepped. */
+  /**
+   * What stops a run before a spied goal; undefined where it goes on, and then the goal was stepped.
+   * @returns {Promise<Stop | undefined>}
+   */
   async atSpied(name) {
     const hit = await this.breakpoints.met(this.session, name, (text) => this.tell([text]));
     const thread = this.processes.of(name);
@@ -80,6 +95,7 @@ export default {
     return Replies.isRefused(reply) ? ["pause", reply[0], { thread }] : undefined;
   },
 
+  /** @returns {Promise<Stop>} */
   async atEnd(reason, name) {
     const goals = await this.goalsTold();
     if (goals.length === 0 && await this.session.goalsTold() === undefined) return ["pause", `stopped ${reason}`];
@@ -91,7 +107,7 @@ export default {
     const waiting = goals.filter(({ status }) => status === "waits");
     if (waiting.length > 0) {
       const isFed = goals.some(({ status }) => status === "stream");
-      this.tell(Stuck.linesOf(goals, (variable) => this.session.run.labelOf(variable)), "important");
+      this.tell(await Own.stuck(this.session), "important");
       const wait = waiting.length === 1 ? "waits" : "wait", help = isFed ? "; `in 1 TERM` feeds the input stream" : "";
       const text = `${plural(waiting.length, "goal")} ${wait}, and none is ready${help}`;
       return [this.breakpoints.reasonOf("stuck"), text];
@@ -109,22 +125,24 @@ export default {
 
   /** Runs what comes of a goal. Such a run cannot be cut into slices: a pause ends it, and the session is as before it. */
   async skip(name, thread) {
-    const stop = await this.running(async () => {
-      this.isSkipping = true;
-      try {
-        const reply = await this.session.ask(`skip ${name}`);
-        this.tellRun(reply, 0);
-        return Replies.isRefused(reply) ? ["pause", reply[0], { thread }] : ["step", reply.at(-1), { thread }];
-      } catch (error) {
-        if (!(error instanceof Ended) || this.ending === undefined) throw error;
-        await this.ending;
-        return ["pause", "the run was ended; the session stands as before it", { thread }];
-      } finally {
-        this.isSkipping = false;
-        this.ending = undefined;
-      }
-    });
-    await this.stopped(...stop);
+    await this.stopped(...await this.running(() => this.skipNow(name, thread)));
+  },
+
+  /** @returns {Promise<Stop>} */
+  async skipNow(name, thread) {
+    this.isSkipping = true;
+    try {
+      const reply = await this.session.ask(`skip ${name}`);
+      this.tellRun(reply, 0);
+      return Replies.isRefused(reply) ? ["pause", reply[0], { thread }] : ["step", reply.at(-1), { thread }];
+    } catch (error) {
+      if (!(error instanceof Ended) || this.ending === undefined) throw error;
+      await this.ending;
+      return ["pause", "the run was ended; the session stands as before it", { thread }];
+    } finally {
+      this.isSkipping = false;
+      this.ending = undefined;
+    }
   },
 
   /** Asks a run to stop: in slices it does so after one, in one piece it is ended. */
@@ -157,4 +175,4 @@ export default {
     while (this.session.kept.steps.size > 0) await this.session.ask(`roll ${this.session.kept.steps.keys().next().value}`);
     return this.stopped("entry", "before the first step");
   },
-};
+});

@@ -2,6 +2,7 @@
 // writes is whole.
 import fs from "node:fs";
 import path from "node:path";
+import { whyNoName } from "../../front/session/files.mjs";
 import { Ended } from "../../front/session/program.mjs";
 import { Session } from "../../front/session/session.mjs";
 import { isWhole } from "../../front/session/way_back.mjs";
@@ -47,7 +48,8 @@ class EditorSession extends Session {
 
   /** Writes the session into a file beside the program, and tells so. No file is written over but its own. */
   async saveInto(name, version) {
-    const file = path.resolve(path.dirname(this.given.file), name);
+    const file = path.resolve(path.dirname(this.given.file), name), why = whyNoName(name);
+    if (why !== undefined) throw refused(why);
     if (this.savedInto !== file && fs.existsSync(file)) throw refused(`${file} is there: name another file`);
     const refusal = await this.saved(file, version);
     if (refusal !== undefined) throw refused(`${refusal}; nothing was saved`);

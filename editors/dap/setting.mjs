@@ -1,9 +1,10 @@
 // Requests that set breakpoints. One that cannot be read, or never be met, is answered as not verified, with words.
 import path from "node:path";
-import Reader from "../../front/text/reader.mjs";
+import * as Reader from "../../front/text/reader.mjs";
 import { FILTERS } from "./breakpoints.mjs";
 import { readFunction, readOptions } from "./options.mjs";
 import { Refused, refused } from "./refused.mjs";
+import { requests } from "./requests.mjs";
 
 const KNOWN_FILTERS = FILTERS.map(({ filter }) => filter);
 const NO_CONDITION = "no condition is read here: a run stops where the variable is bound";
@@ -26,7 +27,7 @@ async function answers(adapter, list, numbers, make) {
   return answered;
 }
 
-export default {
+export default requests({
   clauseAt(line) {
     return this.session.clauses.find((clause) => clause.line <= line && line <= clause.endLine);
   },
@@ -137,4 +138,4 @@ export default {
   async isVariable(name) {
     return Reader.isState(name) && !(await this.session.ask(`show ${name}`))[0].startsWith("F23 ");
   },
-};
+});

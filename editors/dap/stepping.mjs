@@ -1,8 +1,9 @@
 // Requests that take steps, forwards and back.
+import { requests } from "./requests.mjs";
 import { goalsMade } from "./told.mjs";
 import { refused } from "./refused.mjs";
 
-export default {
+export default requests({
   /** The process that goes on after a step: that of the goal stepped where it goes on, else of the first ready goal that was made. */
   async into(made, thread) {
     const goals = (await this.goalsTold()).filter(({ name }) => made.includes(name));
@@ -70,7 +71,12 @@ export default {
     this.later(() => this.backward());
   },
 
-  /** Takes a step back with all that depends on it, and stops before it. */
+  /**
+   * Takes a step back with all that depends on it, and stops before it.
+   * @param {number} number
+   * @param {string} reason
+   * @param {import("./types").Where & { text?: string }} told
+   */
   async rollTo(number, reason, { hit, text = `before step ${number}` } = {}) {
     const { goal } = this.session.kept.steps.get(number);
     this.tell(await this.session.ask(`roll ${number}`));
@@ -87,4 +93,4 @@ export default {
     if (!this.session.kept.steps.has(targetId)) throw refused(`step ${targetId} is not kept`);
     this.later(() => this.rollTo(targetId, "goto"));
   },
-};
+});

@@ -1,5 +1,5 @@
 // Reads single lines of the console's replies. Pure.
-import Replies from "../../front/protocol/replies.mjs";
+import * as Replies from "../../front/protocol/replies.mjs";
 
 /** Lines that begin with a step's number: the number, and what stands after it. */
 function readLines(lines) {

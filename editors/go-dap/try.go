@@ -1,5 +1,5 @@
 // Sessions of the adapter by go-dap: forwards and back through examples/bill.ghc, then a goal that fails and a line
-// that is cancelled. They need Debian's golang-go and golang-github-google-go-dap-dev. From the repository:
+// that is cancelled, and a program that is mended in between. They need Debian's golang-go and golang-github-google-go-dap-dev. From the repository:
 //
 //	GO111MODULE=off GOPATH=/usr/share/gocode go run editors/go-dap/*.go
 //
@@ -21,6 +21,9 @@ import (
 const (
 	bill    = "examples/bill.ghc"
 	endless = "p(N) :- true | M := N + 1, p(M).\nq(1).\n"
+	sum     = "total(A,B,T) :- true | price(A,P), price(B,Q), T := P + Q.\n"
+	wrong   = sum + "price(N,P) :- N < 10 | P := N * 10.\nprice(N,P) :- N >= 10 | P := N * 80.\n"
+	mended  = sum + "price(N,P) :- N < 10 | P := N * 10.\nprice(N,P) :- N >= 10 | P := N * 8.\n"
 	soon    = 300 * time.Millisecond // in which a million steps are not taken
 )
 
@@ -160,6 +163,12 @@ func (c *client) cancelled(expression string) {
 	fmt.Printf("%s: %s\n", expression, c.answer(line.Seq).GetResponse().Message)
 }
 
+// Restarts, and tells where the session goes on.
+func (c *client) restart(what string) {
+	ask[*dap.RestartResponse](c, &dap.RestartRequest{Request: c.request("restart")})
+	c.tellStop(what)
+}
+
 // Ends the adapter, and tells what of its messages go-dap did not know.
 func (c *client) end() {
 	ask[*dap.DisconnectResponse](c, &dap.DisconnectRequest{Request: c.request("disconnect")})
@@ -202,12 +211,8 @@ func playBill() {
 }
 
 // A goal that fails, a page of a list, and a line that is cancelled.
-func playEndless() {
-	folder, err := os.MkdirTemp("", "ghcdb-test-")
-	check(err)
-	defer os.RemoveAll(folder)
-	file := filepath.Join(folder, "endless.ghc")
-	check(os.WriteFile(file, []byte(endless), 0o600))
+func playEndless(file string) {
+	write(file, endless)
 	c := start("node", "editors/ghcdb-adapter")
 	c.initialize()
 	c.begin(map[string]string{"program": file, "query": "L = [a,b,c,d], X = 0, q(X)"}, func() {})
@@ -220,7 +225,32 @@ func playEndless() {
 	c.end()
 }
 
+// The steps by clauses that are still there stay; where nothing has changed a session begins anew.
+func playMended(file string) {
+	write(file, wrong)
+	c := start("node", "editors/ghcdb-adapter")
+	c.initialize()
+	c.begin(map[string]string{"program": file, "query": "total(12,3,T)"}, func() {})
+	c.goOn("continue to the end")
+	fmt.Printf("T = %s\n", c.evaluate("T").Result)
+	write(file, mended)
+	c.restart("restart with a clause mended")
+	fmt.Println(c.evaluate("records").Result)
+	c.goOn("continue to the end")
+	fmt.Printf("T = %s\n", c.evaluate("T").Result)
+	c.restart("restart with nothing changed")
+	c.end()
+}
+
+func write(file, text string) {
+	check(os.WriteFile(file, []byte(text), 0o600))
+}
+
 func main() {
+	folder, err := os.MkdirTemp("", "ghcdb-test-")
+	check(err)
+	defer os.RemoveAll(folder)
 	playBill()
-	playEndless()
+	playEndless(filepath.Join(folder, "endless.ghc"))
+	playMended(filepath.Join(folder, "mended.ghc"))
 }

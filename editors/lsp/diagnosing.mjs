@@ -1,5 +1,5 @@
 // What is wrong with a program: ghcdb itself reads it, and all its refusals are told with their causes; else the notes.
-import Causes from "../../front/text/causes.mjs";
+import * as Causes from "../../front/text/causes.mjs";
 import { everyRefusal } from "../../front/session/every_refusal.mjs";
 import { Places, queryOf } from "../dap/places.mjs";
 
@@ -14,9 +14,17 @@ function rangeOf(cause, text, places) {
   return { start: { line: spot.line, character: spot.column }, end: { line: spot.endLine, character: spot.endColumn } };
 }
 
+/** @typedef {import("../../front/types").Refusal} Refusal */
+
+/** @param {Refusal["cause"]} cause */
 const messageOf = ({ title, hints, isQuery }) => [`${isQuery ? "query: " : ""}${title.replace(/^note: /, "")}`, ...hints].join("\n");
 
-/** The diagnostic of a refusal. */
+/**
+ * The diagnostic of a refusal.
+ * @param {Refusal} refusal
+ * @param {string} text
+ * @param {Places} places
+ */
 function refusedFor({ said, lines, cause }, text, places) {
   const [code] = /F\d+/.exec(said) ?? [], told = { severity: ERROR, source: "ghcdb", ...(code && { code }) };
   if (cause === undefined) return { ...told, range: START, message: [said, ...lines].join("\n") };

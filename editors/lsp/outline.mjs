@@ -1,7 +1,7 @@
 // What stands in a program that may be half typed: its clauses, as far as they can be told apart, and what a place is about. Pure.
 //
 // Places are those of the Language Server Protocol: lines from 0, and letters from 0 as JavaScript counts them.
-import Tokens from "../../front/text/tokens.mjs";
+import * as Tokens from "../../front/text/tokens.mjs";
 
 const placeOf = ({ line, letter }, more = 0) => ({ line: line - 1, character: letter - 1 + more });
 
@@ -10,11 +10,10 @@ const rangeOf = (first, last = first) => ({ start: placeOf(first), end: placeOf(
 
 /** The clauses that begin with a name: their tokens, predicate and text, numbered as ghcdb does. */
 function clausesIn(text) {
-  return Tokens.clausesOf(Tokens.tokensOf(text)).map((tokens, place) => {
-    const [first] = tokens, last = tokens.at(-1), end = tokens[Tokens.endOfCall(tokens, 0)];
-    const name = first.kind === "name" ? first.text : undefined;
+  return Tokens.clausesIn(text).map((tokens, place) => {
+    const [first] = tokens, last = tokens.at(-1), end = Tokens.headOf(tokens).at(-1);
     return {
-      tokens, number: place + 1, predicate: name && `${name}/${Tokens.arityAt(tokens, 0)}`,
+      tokens, number: place + 1, predicate: first.kind === "name" ? Tokens.predicateAt(tokens, 0) : undefined,
       range: rangeOf(first, last), nameRange: rangeOf(first), head: text.slice(first.at, end.end), text: text.slice(first.at, last.end),
     };
   }).filter(({ predicate }) => predicate !== undefined);
@@ -43,7 +42,7 @@ function aboutOf(clauses, place) {
     if (at < 0) continue;
     const token = tokens[at];
     if (token.kind === "variable") return token.text === "_" ? undefined : { token, first: tokens.find(({ text }) => text === token.text) };
-    return Tokens.depthOf(tokens.slice(0, at)) === 0 ? { token, predicate: `${token.text}/${Tokens.arityAt(tokens, at)}` } : undefined;
+    return Tokens.depthOf(tokens.slice(0, at)) === 0 ? { token, predicate: Tokens.predicateAt(tokens, at) } : undefined;
   }
   return undefined;
 }

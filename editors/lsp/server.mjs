@@ -1,6 +1,7 @@
 // The language server: it answers an editor's messages, in the Language Server Protocol, about the programs that are open there.
 import { diagnosticsOf } from "./diagnosing.mjs";
 import { aboutOf, clausesIn, groupsOf, rangeOf } from "./outline.mjs";
+import { plural } from "../../front/text/plural.mjs";
 
 const NOT_BEGUN = -32002, INVALID = -32600, UNKNOWN = -32601, WRONG_WORDS = -32602, BROKEN = -32603; // of the protocol's errors
 const WHOLE_TEXTS = 1, FUNCTION = 12, CLAUSE = 6; // how texts are sent; kinds of symbols
@@ -18,7 +19,10 @@ class Told extends Error {
 class Server {
   /** `send` takes messages; `leave` ends the server with a status; `native` is the program to use, or undefined for the page's engine. */
   constructor({ send, leave, native, pause = PAUSE }) {
-    Object.assign(this, { sendMessage: send, leave, native, pause });
+    this.sendMessage = send;
+    this.leave = leave;
+    this.native = native;
+    this.pause = pause;
     this.programs = new Map(); // that are open, by their addresses
     this.isBegun = this.isEnding = false;
     this.reading = Promise.resolve(); // the last text that is read, or was
@@ -64,6 +68,7 @@ class Server {
 
   // ---- beginning and end
 
+  /** @param {{ capabilities?: { textDocument?: { hover?: { contentFormat?: string[] } } } }} about */
   asked_initialize({ capabilities = {} } = {}) {
     this.isBegun = true;
     this.format = capabilities.textDocument?.hover?.contentFormat?.includes("markdown") ? "markdown" : "plaintext";
@@ -121,7 +126,7 @@ class Server {
   /** The predicates in their order, each with its clauses. */
   "asked_textDocument/documentSymbol"(given) {
     return groupsOf(this.programOf(given).clauses).map((group) => ({
-      name: group[0].predicate, detail: `${group.length} clause${group.length === 1 ? "" : "s"}`, kind: FUNCTION,
+      name: group[0].predicate, detail: plural(group.length, "clause"), kind: FUNCTION,
       range: { start: group[0].range.start, end: group.at(-1).range.end }, selectionRange: group[0].nameRange,
       children: group.map(({ head, range, nameRange }) => ({ name: head, kind: CLAUSE, range, selectionRange: nameRange })),
     }));

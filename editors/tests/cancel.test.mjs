@@ -8,16 +8,20 @@ import { Adapter } from "../dap/adapter.mjs";
 import { Client } from "./lib/client.mjs";
 
 const LIMIT = { timeout: 120000 };
-const SOON = 300; // milliseconds, in which a million steps are not taken
+const SOON = 300; // milliseconds, in which no leap of the program below ends
+
+// A run ends at a million kept steps, and a quick processor takes a million short ones in a second. An assignment of 800
+// operations makes each second step long, so that a leap lasts most of a minute.
+const LONG_SUM = `N + 1${" + 1 - 1".repeat(400)}`;
 
 test.afterEach(Client.endAll);
 
 const pass = (milliseconds) => new Promise((resolve) => { setTimeout(resolve, milliseconds); });
 
-/** A file with a program that has no end. */
+/** A file with a program that has no end, and goes slowly. */
 function endless() {
   const file = path.join(fs.mkdtempSync(path.join(os.tmpdir(), "ghcdb-test-")), "endless.ghc");
-  fs.writeFileSync(file, "p(N) :- true | M := N + 1, p(M).\n");
+  fs.writeFileSync(file, `p(N) :- true | M := ${LONG_SUM}, p(M).\n`);
   return file;
 }
 
@@ -99,7 +103,7 @@ test("to cancel what is done, or what there never was, does nothing", LIMIT, asy
 
 test("who hears of progress is told where a line goes on for long, and cancels it by that", LIMIT, async () => {
   const client = await begun({ supportsProgressReporting: true }), line = typed(client, "leap"), { requestId } = line;
-  const begin = await client.event("progressStart"), progressId = String(requestId);
+  const begin = await Promise.race([client.event("progressStart"), said(line)]), progressId = String(requestId);
   assert.deepStrictEqual(begin, { progressId, title: "leap", requestId, cancellable: true });
   await client.ask("cancel", { progressId });
   assert.deepStrictEqual(await said(line), CANCELLED);
@@ -123,7 +127,7 @@ async function adapterBegun(wants) {
 test("where a line cannot be ended it goes on to its end, and the answer to cancel says why", LIMIT, async () => {
   const { adapter, put, answerTo } = await adapterBegun({}), passOn = adapter.session.endRun;
   adapter.session.endRun = async () => { throw new Error("no folder can be written"); };
-  const line = put(3, "evaluate", { expression: "leap 200000", context: "repl" });
+  const line = put(3, "evaluate", { expression: "leap 20000", context: "repl" });
   await pass(1);
   await put(4, "cancel", { requestId: 3 });
   assert.strictEqual(answerTo(4).body.error.format, "cancel: no folder can be written");

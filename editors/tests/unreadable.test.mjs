@@ -314,6 +314,8 @@ test("a history is written whole or not at all", async () => {
   assert.strictEqual(await typed("save run.history"), none);
   assert.strictEqual(fs.readFileSync(file, "utf8"), kept);
   engine.ask = passOn;
+  const noVersion = "2 is no version: save tells the whole session, save 1 the kept steps; a file of that name is ./2";
+  for (const line of ["save 2", "save 1 2"]) assert.strictEqual(await typed(line), noVersion);
   assert.match(await typed("save nosuch/run.history"), /ENOENT.*; nothing was saved$/);
   await ask("disconnect", {});
 });

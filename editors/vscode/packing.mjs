@@ -16,7 +16,10 @@ const scriptsIn = (folder) => fs.readdirSync(path.join(ROOT, folder)).filter((na
 /** The extension's files by their names, each as bytes. */
 function packedFiles() {
   const inside = [...FOLDERS.flatMap(scriptsIn), ...SINGLE];
-  return new Map([...OWN.map((name) => [name, read(path.join(HERE, name))]), ...inside.map((name) => [`inside/${name}`, read(path.join(ROOT, name))])]);
+  const files = new Map();
+  for (const name of OWN) files.set(name, read(path.join(HERE, name)));
+  for (const name of inside) files.set(`inside/${name}`, read(path.join(ROOT, name)));
+  return files;
 }
 
 const TYPES = `<?xml version="1.0" encoding="utf-8"?>
@@ -43,8 +46,10 @@ function manifest({ name, publisher, version, displayName, description, engines 
 /** The files of the archive that VS Code installs. */
 function vsixFiles(files) {
   const about = JSON.parse(files.get("package.json"));
-  const heads = [["[Content_Types].xml", Buffer.from(TYPES)], ["extension.vsixmanifest", Buffer.from(manifest(about))]];
-  return new Map([...heads, ...[...files].map(([name, bytes]) => [`extension/${name}`, bytes])]);
+  const packed = new Map([["[Content_Types].xml", Buffer.from(TYPES)]]);
+  packed.set("extension.vsixmanifest", Buffer.from(manifest(about)));
+  for (const [name, bytes] of files) packed.set(`extension/${name}`, bytes);
+  return packed;
 }
 
 export { packedFiles, vsixFiles };
