@@ -1,302 +1,298 @@
 // The place "Why?": what a call was given and gave, side by side, with two buttons that answer `blame`'s question; and its verdict, the wrong clause.
-import BlameLines from "../front/protocol/blame_lines.mjs";
-import Effects from "../front/protocol/effects.mjs";
-import Replies from "../front/protocol/replies.mjs";
-import Graph from "../front/run/graph.mjs";
-import Terms from "../front/run/terms.mjs";
-import Printed from "../front/text/printed.mjs";
+import * as BlameLines from "../front/protocol/blame_lines.mjs";
+import * as Effects from "../front/protocol/effects.mjs";
+import * as Replies from "../front/protocol/replies.mjs";
+import * as Graph from "../front/run/graph.mjs";
+import * as Terms from "../front/run/terms.mjs";
+import * as Printed from "../front/text/printed.mjs";
 import Canvas from "./canvas.mjs";
 import Deeds from "./deeds.mjs";
-import Elements from "./elements.mjs";
-import Guide from "./guide.mjs";
-import Menus from "./menus.mjs";
-import Names from "./names.mjs";
-import Parts from "./parts.mjs";
+import { find, make, goTo, goToGoal } from "./elements.mjs";
+import * as Guide from "./guide.mjs";
+import * as Menus from "./menus.mjs";
+import * as Names from "./names.mjs";
+import * as Parts from "./parts.mjs";
 import Shown from "./shown.mjs";
-import Talk from "./talk.mjs";
+import State from "./state.mjs";
+import * as Talk from "./talk.mjs";
+import { plural } from "../front/text/plural.mjs";
 
-const Blaming = (() => {
-  const { find, make, goTo, goToGoal } = Elements;
-  const MOST_LETTERS = 2000, MOST_IN_LINE = 400; // of an argument that is shown on a side; of what stands within a line
-  const MOST_ASKS = 12; // that are named
-  const SLICE = 8; // milliseconds that the part of a call is looked for without a pause
-  const plural = (count, word) => `${count} ${word}${count === 1 ? "" : "s"}`;
-  let seen = 0; // lines of the console that were looked at
-  let asked = null; // the last question or verdict: its line, what its reply tells, and whether the verdict's step was rolled back
-  let leaving = null, left = null; // the session that is left to try a call alone; the one that was
-  let sought = 0; // how often a part was looked for
+const MOST_LETTERS = 2000, MOST_IN_LINE = 400; // of an argument that is shown on a side; of what stands within a line
+const MOST_ASKS = 12; // that are named
+const SLICE = 8; // milliseconds that the part of a call is looked for without a pause
+let seen = 0; // lines of the console that were looked at
+let asked = null; // the last question or verdict: its line, what its reply tells, and whether the verdict's step was rolled back
+let leaving = null, left = null; // the session that is left to try a call alone; the one that was
+let sought = 0; // how often a part was looked for
 
-  const isRefused = (entry) => entry.length === 1 && Replies.isRefusal(entry.reply[0]);
+const isRefused = (entry) => entry.length === 1 && Replies.isRefusal(entry.reply[0]);
 
-  /** What is asked after a line: another question, the same one, or none where the run has changed. */
-  function askedAfter(entry) {
-    if (entry.note) return asked;
-    if (BlameLines.isBlame(entry.line)) {
-      const { line, reply } = entry, isTold = BlameLines.isQuestion(reply) || BlameLines.isVerdict(reply);
-      return isTold ? { line, told: BlameLines.read(reply), isRolled: false } : asked;
-    }
-    if (Effects.effectOf(entry.line) === "looks" || isRefused(entry)) return asked;
-    const isRoll = asked !== null && asked.told.fault !== null && entry.line.trim() === `roll ${asked.told.fault.step}`;
-    return isRoll ? { ...asked, isRolled: true } : null;
+/** What is asked after a line: another question, the same one, or none where the run has changed. */
+function askedAfter(entry) {
+  if (entry.note) return asked;
+  if (BlameLines.isBlame(entry.line)) {
+    const { line, reply } = entry, isTold = BlameLines.isQuestion(reply) || BlameLines.isVerdict(reply);
+    return isTold ? { line, told: BlameLines.read(reply), isRolled: false } : asked;
   }
+  if (Effects.effectOf(entry.line) === "looks" || isRefused(entry)) return asked;
+  const isRoll = asked !== null && asked.told.fault !== null && entry.line.trim() === `roll ${asked.told.fault.step}`;
+  return isRoll ? { ...asked, isRolled: true } : null;
+}
 
-  /** After lines: shows the last question or verdict; a line that changes the run closes it, but for the one that rolls back the wrong step. */
-  function show(what) {
-    const fresh = what === "lines" ? Talk.entries.slice(seen) : [], before = asked;
-    seen = Talk.entries.length;
-    if (what !== "lines") asked = null;
-    if (what === "start") {
-      left = leaving;
-      leaving = null;
-    }
-    for (const entry of fresh) asked = askedAfter(entry);
-    if (asked !== before || what !== "lines") fill();
-    if (asked !== null && asked !== before) point();
-    else if (asked !== null && Shown.chosen === null) light();
+/** After lines: shows the last question or verdict; a line that changes the run closes it, but for the one that rolls back the wrong step. */
+function show(what) {
+  const fresh = what === "lines" ? State.entries.slice(seen) : [], before = asked;
+  seen = State.entries.length;
+  if (what !== "lines") asked = null;
+  if (what === "start") {
+    left = leaving;
+    leaving = null;
   }
+  for (const entry of fresh) asked = askedAfter(entry);
+  if (asked !== before || what !== "lines") fill();
+  if (asked !== null && asked !== before) point();
+  else if (asked !== null && Shown.chosen === null) light();
+}
 
-  /** Fills the place anew; what had the focus in it has it afterwards, or the first button. */
-  function fill() {
-    const area = find("blame"), had = area.contains(document.activeElement) ? document.activeElement.id : null;
-    const parts = asked !== null ? askedParts() : left !== null ? aloneParts() : [];
-    area.hidden = parts.length === 0;
-    area.replaceChildren(...parts);
-    Names.dress(area);
-    if (had === null || area.hidden) return;
-    const same = had === "" ? null : find(had);
-    (same && !same.disabled ? same : area.querySelector("button:not([disabled])")).focus({ preventScroll: true });
+/** Fills the place anew; what had the focus in it has it afterwards, or the first button. */
+function fill() {
+  const area = find("blame"), had = area.contains(document.activeElement) ? document.activeElement.id : null;
+  const parts = asked !== null ? askedParts() : left !== null ? aloneParts() : [];
+  area.hidden = parts.length === 0;
+  area.replaceChildren(...parts);
+  Names.dress(area);
+  if (had === null || area.hidden) return;
+  const same = /** @type {HTMLButtonElement | null} */ (had === "" ? null : find(had));
+  (same && !same.disabled ? same : area.querySelector("button:not([disabled])")).focus({ preventScroll: true });
+}
+
+const closeButton = () => make("button", { class: "small", id: "blame-close", title: "Closes this", "aria-label": "Close the question" }, "×");
+const titleRow = (...words) => make("div", { class: "blame-title" }, make("span", { role: "status" }, ...words), closeButton());
+const buttons = (...all) => make("div", { class: "buttons", role: "group", "aria-label": "Your answer" }, ...all.filter(Boolean));
+const inCode = (text) => make("code", null, Terms.cut(text, MOST_IN_LINE));
+
+function askedParts() {
+  const { told, isRolled } = asked;
+  if (isRolled) return rolledParts(told.fault);
+  return told.ask !== null ? questionParts(told) : verdictParts(told);
+}
+
+/** The name of a call and its arguments. */
+function apart(call) {
+  const open = call.indexOf("(");
+  return open < 0 ? { name: call, terms: [] } : { name: call.slice(0, open), terms: Printed.splitOutside(call.slice(open + 1, -1), ",") };
+}
+
+/** A call as one of two sides: an argument in which the other side differs stands out. */
+function side(words, text, other) {
+  const { name, terms } = apart(text), others = apart(other).terms, mark = (term, at) => make(term === others[at] ? "span" : "mark", null, Terms.cut(term, MOST_LETTERS));
+  const inner = terms.flatMap((term, at) => [at > 0 ? "," : "(", mark(term, at)]);
+  return make("div", { class: "side" }, make("b", null, words), make("div", { class: "call" }, name, ...inner, terms.length > 0 ? ")" : ""));
+}
+
+/** What a call was given and gave, side by side; of one that no step took how it stands. */
+function sides({ given, gave, left: goal }) {
+  if (given === null) return null;
+  const right = gave !== null ? side("It gave", gave, given) : make("div", { class: "side" }, make("b", null, "It stands so"), make("div", { class: "call" }, goal === null ? "no step took it" : standing(goal)));
+  return make("div", { class: "sides" }, side("The call was given", given, gave === null ? given : gave), right);
+}
+
+const standing = ({ status, waitsFor, refusal }) => (status === "failed" ? `it has failed (${refusal})` : status === "waits" ? `it waits for ${waitsFor.join(", ")}` : status);
+
+/** What makes a question harder than its two sides tell: an order, goals that were asked for, a goal that is left. */
+function warnings({ asked: asks, inTurns, left: goal, ask, fault }) {
+  const own = ask !== null ? ask.goal : fault.goal;
+  const named = asks.slice(0, MOST_ASKS).flatMap((step, at) => [at > 0 ? ", " : "", goTo(step)]);
+  return [
+    goal !== null && goal.goal !== own ? make("p", null, "Goal ", goToGoal(goal.goal), ` came of it, and ${standing(goal)}.`) : null,
+    inTurns ? make("p", null, "Some of what it was given came of what it gave before: judge by the order, too.") : null,
+    asks.length > 0 ? make("p", null, "A goal that was asked for names a variable made within: step ", ...named, asks.length > MOST_ASKS ? ", …" : "", ".") : null,
+  ].filter(Boolean);
+}
+
+/** The step that took a goal; undefined where none did. */
+function takerOf(goal) {
+  const index = State.run.graph.consumerOf(goal);
+  return index === undefined || index === Graph.NONE ? undefined : State.run.graph.stepAt(index);
+}
+
+/** What the two answers mean for this call. */
+function hintFor({ ask, gave, left: goal }) {
+  if (gave === null) return goal !== null && goal.status === "failed" ? "Right: no clause should answer this call. Wrong: one should." : "Right: it should wait. Wrong: a clause should have answered.";
+  if (goal !== null && goal.goal !== ask.goal) return `Right: for what it was given, goal ${goal.goal} should stand so. Wrong: it should not.`;
+  return "Right: it gave what it should, for what it was given. Wrong: it gave something else.";
+}
+
+/** About how many questions are left where so many calls can be wrong: each answer leaves about half of them. */
+const questionsLeft = (of) => Math.ceil(Math.log2(of + 1));
+
+function questionParts(told) {
+  const { line } = asked, { goal, of } = told.ask, count = BlameLines.answersOn(line).length, taker = takerOf(goal);
+  const answer = (isRight, id, key, words) => make("button", { id, "data-line": BlameLines.answered(line, goal, isRight), title: `${BlameLines.answered(line, goal, isRight)} (key ${key})` }, words);
+  const by = taker === undefined ? "" : [", which step ", goTo(taker.number), ` took${taker.clause ? ` by clause ${taker.clause}` : ""}`];
+  return [
+    titleRow(make("b", null, "Is this right?"), ` Question ${count + 1} of about ${count + questionsLeft(of)}: call `, make("button", { class: "link", id: "blame-light", title: "lights the part of this call" }, goal), ...by, ". ",
+      make("span", { class: "dim" }, `Of ${plural(of, "call")} it is not known yet.`)),
+    sides(told), ...warnings(told),
+    buttons(answer(true, "blame-right", "y", "Right"), answer(false, "blame-wrong", "n", "Wrong"), backButton(), make("span", { class: "dim" }, hintFor(told))),
+  ].filter(Boolean);
+}
+
+/** Takes back the last answer. */
+function backButton() {
+  const line = BlameLines.unanswered(asked.line);
+  return make("button", { id: "blame-back", "data-line": line, disabled: line === asked.line, title: `${line} (key b)` }, "Take back");
+}
+
+/** The clauses of a call's predicate, as a part of the program, where they stand one after the other; else null. */
+function clausesOf(call) {
+  const predicate = Printed.predicateOf(call), all = State.run.clauses, first = all.findIndex((clause) => clause.predicate === predicate);
+  const last = all.findLastIndex((clause) => clause.predicate === predicate);
+  const isOne = first >= 0 && all.slice(first, last + 1).every((clause) => clause.predicate === predicate);
+  return isOne ? { from: all[first].from, to: all[last].to } : null;
+}
+
+/** What is said of the verdict: what is wrong, and how one sees it. */
+function verdictWords({ fault, left: goal, made }) {
+  if (fault.step !== null) {
+    const clause = State.run.clauses[fault.clause - 1], all = made.some(({ how }) => how === "gave") ? "all that its own calls gave is right" : "none of its own calls gave that";
+    return [make("b", null, `Clause ${fault.clause} is wrong.`), " Step ", goTo(fault.step), ` took call ${fault.goal} by it. What the call gave is wrong, and ${all}.`,
+      clause === undefined ? "" : make("div", null, make("code", null, Terms.cut(clause.text, MOST_IN_LINE)))];
   }
+  if (fault.goal === null) return [make("b", null, "No clause is wrong by these answers."), " All that the query's calls gave is right: look at the query, and at the order in which they went."];
+  const should = goal !== null && goal.status === "waits" ? "waits, and a clause should have answered it" : "is answered by no clause, and one should";
+  return [make("b", null, "A clause is missing or says no wrongly."), " Call ", goToGoal(fault.goal), ` ${should}.`];
+}
 
-  const closeButton = () => make("button", { class: "small", id: "blame-close", title: "Closes this", "aria-label": "Close the question" }, "×");
-  const titleRow = (...words) => make("div", { class: "blame-title" }, make("span", { role: "status" }, ...words), closeButton());
-  const buttons = (...all) => make("div", { class: "buttons", role: "group", "aria-label": "Your answer" }, ...all.filter(Boolean));
-  const inCode = (text) => make("code", null, Terms.cut(text, MOST_IN_LINE));
+const MADE = { gave: " gave ", left: " is left: ", stands: " stands: ", written: " " };
 
-  function askedParts() {
-    const { told, isRolled } = asked;
-    if (isRolled) return rolledParts(told.fault);
-    return told.ask !== null ? questionParts(told) : verdictParts(told);
-  }
+/** What the goals gave that the step at fault made, or the query has. */
+function madeList({ made }) {
+  if (made.length === 0) return null;
+  return make("ul", { class: "made", "aria-label": "What its goals gave" }, ...made.map(({ goal, how, text }) => make("li", null, goToGoal(goal), make("span", { class: "dim" }, MADE[how]), inCode(text))));
+}
 
-  /** The name of a call and its arguments. */
-  function apart(call) {
-    const open = call.indexOf("(");
-    return open < 0 ? { name: call, terms: [] } : { name: call.slice(0, open), terms: Printed.splitOutside(call.slice(open + 1, -1), ",") };
-  }
+/** Takes back the wrong step; where one points at it, all that goes is ringed. */
+function rollButton({ step }) {
+  if (step === null) return null;
+  const gone = Menus.goneWith(step), button = make("button", { class: "danger", id: "blame-roll", "data-line": `roll ${step}`, title: `roll ${step}: all other steps stay` },
+    gone.size > 1 ? `Roll back step ${step}, with ${plural(gone.size - 1, "consequence")}` : `Roll back step ${step}`);
+  button.addEventListener("mouseenter", () => Canvas.ring(gone));
+  button.addEventListener("mouseleave", () => Canvas.ring(new Set()));
+  return button;
+}
 
-  /** A call as one of two sides: an argument in which the other side differs stands out. */
-  function side(words, text, other) {
-    const { name, terms } = apart(text), others = apart(other).terms, mark = (term, at) => make(term === others[at] ? "span" : "mark", null, Terms.cut(term, MOST_LETTERS));
-    const inner = terms.flatMap((term, at) => [at > 0 ? "," : "(", mark(term, at)]);
-    return make("div", { class: "side" }, make("b", null, words), make("div", { class: "call" }, name, ...inner, terms.length > 0 ? ")" : ""));
-  }
+/** Tries the call alone, where what it gave rests on what it was given and on no order. */
+function aloneButton({ given, asked: asks, inTurns }) {
+  if (given === null || asks.length > 0 || inTurns) return null;
+  return make("button", { id: "blame-alone", title: "A new session with this call as its query; one click leads back" }, "Try alone");
+}
 
-  /** What a call was given and gave, side by side; of one that no step took how it stands. */
-  function sides({ given, gave, left: goal }) {
-    if (given === null) return null;
-    const right = gave !== null ? side("It gave", gave, given) : make("div", { class: "side" }, make("b", null, "It stands so"), make("div", { class: "call" }, goal === null ? "no step took it" : standing(goal)));
-    return make("div", { class: "sides" }, side("The call was given", given, gave === null ? given : gave), right);
-  }
+function verdictParts(told) {
+  return [
+    titleRow(...verdictWords(told)), sides(told), ...warnings(told), madeList(told),
+    buttons(rollButton(told.fault), aloneButton(told), backButton()),
+  ].filter(Boolean);
+}
 
-  const standing = ({ status, waitsFor, refusal }) => (status === "failed" ? `it has failed (${refusal})` : status === "waits" ? `it waits for ${waitsFor.join(", ")}` : status);
+/** After the wrong step was rolled back: what to do now. */
+const rolledParts = ({ step, goal, clause }) => [titleRow(`Step ${step} is taken back, with all that depended on it; all other steps stay. Call `, goToGoal(goal),
+  ` is there again: choose another clause for it, or mend clause ${clause} in the program and press Start.`)];
 
-  /** What makes a question harder than its two sides tell: an order, goals that were asked for, a goal that is left. */
-  function warnings({ asked: asks, inTurns, left: goal, ask, fault }) {
-    const own = ask !== null ? ask.goal : fault.goal;
-    const named = asks.slice(0, MOST_ASKS).flatMap((step, at) => [at > 0 ? ", " : "", goTo(step)]);
-    return [
-      goal !== null && goal.goal !== own ? make("p", null, "Goal ", goToGoal(goal.goal), ` came of it, and ${standing(goal)}.`) : null,
-      inTurns ? make("p", null, "Some of what it was given came of what it gave before: judge by the order, too.") : null,
-      asks.length > 0 ? make("p", null, "A goal that was asked for names a variable made within: step ", ...named, asks.length > MOST_ASKS ? ", …" : "", ".") : null,
-    ].filter(Boolean);
-  }
+/** In the session of a call alone: what it is, and the way back. */
+const aloneParts = () => [titleRow("This is that call alone, with what it was given: ", make("code", null, Terms.cut(State.given.query, MOST_IN_LINE)), ". Run it, and see what it gives."),
+  make("div", { class: "buttons" }, make("button", { id: "blame-return", class: "main-button" }, "Back to the whole run"))];
 
-  /** The step that took a goal; undefined where none did. */
-  function takerOf(goal) {
-    const index = Talk.run.graph.consumerOf(goal);
-    return index === undefined || index === Graph.NONE ? undefined : Talk.run.graph.stepAt(index);
-  }
-
-  /** What the two answers mean for this call. */
-  function hintFor({ ask, gave, left: goal }) {
-    if (gave === null) return goal !== null && goal.status === "failed" ? "Right: no clause should answer this call. Wrong: one should." : "Right: it should wait. Wrong: a clause should have answered.";
-    if (goal !== null && goal.goal !== ask.goal) return `Right: for what it was given, goal ${goal.goal} should stand so. Wrong: it should not.`;
-    return "Right: it gave what it should, for what it was given. Wrong: it gave something else.";
-  }
-
-  /** About how many questions are left where so many calls can be wrong: each answer leaves about half of them. */
-  const questionsLeft = (of) => Math.ceil(Math.log2(of + 1));
-
-  function questionParts(told) {
-    const { line } = asked, { goal, of } = told.ask, count = BlameLines.answersOn(line).length, taker = takerOf(goal);
-    const answer = (isRight, id, key, words) => make("button", { id, "data-line": BlameLines.answered(line, goal, isRight), title: `${BlameLines.answered(line, goal, isRight)} (key ${key})` }, words);
-    const by = taker === undefined ? "" : [", which step ", goTo(taker.number), ` took${taker.clause ? ` by clause ${taker.clause}` : ""}`];
-    return [
-      titleRow(make("b", null, "Is this right?"), ` Question ${count + 1} of about ${count + questionsLeft(of)}: call `, make("button", { class: "link", id: "blame-light", title: "lights the part of this call" }, goal), ...by, ". ",
-        make("span", { class: "dim" }, `Of ${plural(of, "call")} it is not known yet.`)),
-      sides(told), ...warnings(told),
-      buttons(answer(true, "blame-right", "y", "Right"), answer(false, "blame-wrong", "n", "Wrong"), backButton(), make("span", { class: "dim" }, hintFor(told))),
-    ].filter(Boolean);
-  }
-
-  /** Takes back the last answer. */
-  function backButton() {
-    const line = BlameLines.unanswered(asked.line);
-    return make("button", { id: "blame-back", "data-line": line, disabled: line === asked.line, title: `${line} (key b)` }, "Take back");
-  }
-
-  /** The clauses of a call's predicate, as a part of the program, where they stand one after the other; else null. */
-  function clausesOf(call) {
-    const predicate = Printed.predicateOf(call), all = Talk.run.clauses, first = all.findIndex((clause) => clause.predicate === predicate);
-    const last = all.findLastIndex((clause) => clause.predicate === predicate);
-    const isOne = first >= 0 && all.slice(first, last + 1).every((clause) => clause.predicate === predicate);
-    return isOne ? { from: all[first].from, to: all[last].to } : null;
-  }
-
-  /** What is said of the verdict: what is wrong, and how one sees it. */
-  function verdictWords({ fault, left: goal, made }) {
-    if (fault.step !== null) {
-      const clause = Talk.run.clauses[fault.clause - 1], all = made.some(({ how }) => how === "gave") ? "all that its own calls gave is right" : "none of its own calls gave that";
-      return [make("b", null, `Clause ${fault.clause} is wrong.`), " Step ", goTo(fault.step), ` took call ${fault.goal} by it. What the call gave is wrong, and ${all}.`,
-        clause === undefined ? "" : make("div", null, make("code", null, Terms.cut(clause.text, MOST_IN_LINE)))];
-    }
-    if (fault.goal === null) return [make("b", null, "No clause is wrong by these answers."), " All that the query's calls gave is right: look at the query, and at the order in which they went."];
-    const should = goal !== null && goal.status === "waits" ? "waits, and a clause should have answered it" : "is answered by no clause, and one should";
-    return [make("b", null, "A clause is missing or says no wrongly."), " Call ", goToGoal(fault.goal), ` ${should}.`];
-  }
-
-  const MADE = { gave: " gave ", left: " is left: ", stands: " stands: ", written: " " };
-
-  /** What the goals gave that the step at fault made, or the query has. */
-  function madeList({ made }) {
-    if (made.length === 0) return null;
-    return make("ul", { class: "made", "aria-label": "What its goals gave" }, ...made.map(({ goal, how, text }) => make("li", null, goToGoal(goal), make("span", { class: "dim" }, MADE[how]), inCode(text))));
-  }
-
-  /** Takes back the wrong step; where one points at it, all that goes is ringed. */
-  function rollButton({ step }) {
-    if (step === null) return null;
-    const gone = Menus.goneWith(step), button = make("button", { class: "danger", id: "blame-roll", "data-line": `roll ${step}`, title: `roll ${step}: all other steps stay` },
-      gone.size > 1 ? `Roll back step ${step}, with ${plural(gone.size - 1, "consequence")}` : `Roll back step ${step}`);
-    button.addEventListener("mouseenter", () => Canvas.ring(gone));
-    button.addEventListener("mouseleave", () => Canvas.ring(new Set()));
-    return button;
-  }
-
-  /** Tries the call alone, where what it gave rests on what it was given and on no order. */
-  function aloneButton({ given, asked: asks, inTurns }) {
-    if (given === null || asks.length > 0 || inTurns) return null;
-    return make("button", { id: "blame-alone", title: "A new session with this call as its query; one click leads back" }, "Try alone");
-  }
-
-  function verdictParts(told) {
-    return [
-      titleRow(...verdictWords(told)), sides(told), ...warnings(told), madeList(told),
-      buttons(rollButton(told.fault), aloneButton(told), backButton()),
-    ].filter(Boolean);
-  }
-
-  /** After the wrong step was rolled back: what to do now. */
-  const rolledParts = ({ step, goal, clause }) => [titleRow(`Step ${step} is taken back, with all that depended on it; all other steps stay. Call `, goToGoal(goal),
-    ` is there again: choose another clause for it, or mend clause ${clause} in the program and press Start.`)];
-
-  /** In the session of a call alone: what it is, and the way back. */
-  const aloneParts = () => [titleRow("This is that call alone, with what it was given: ", make("code", null, Terms.cut(Talk.given.query, MOST_IN_LINE)), ". Run it, and see what it gives."),
-    make("div", { class: "buttons" }, make("button", { id: "blame-return", class: "main-button" }, "Back to the whole run"))];
-
-  /** Chooses what a new question or verdict is about, and marks its clause. */
-  function point() {
-    const { told, isRolled } = asked, { ask, fault } = told, step = fault === null ? undefined : fault.step;
-    if (isRolled) return;
-    if (step !== undefined && step !== null) {
-      Deeds.choose({ step });
-      Deeds.scrollTo({ step });
-    } else {
-      Deeds.choose(null);
-      if (ask !== null) askAbout(ask.goal);
-      else if (fault.goal !== null) Deeds.markClause(clausesOf(told.given));
-    }
-  }
-
-  /** Brings the call asked about into sight, marks the clause by which it went, and lights its part. */
-  function askAbout(goal) {
-    const taker = takerOf(goal);
-    Deeds.scrollTo(taker === undefined ? { goal } : { step: taker.number });
-    Deeds.markClause((taker && taker.clause && Talk.run.clauses[taker.clause - 1]) || null);
-    light();
-  }
-
-  /** Does what yields, with a pause after each slice of time; says whether it came to its end before `isOver`. */
-  async function inSlices(work, isOver) {
-    let until = performance.now() + SLICE;
-    for (let next = work.next(); !next.done; next = work.next()) {
-      if (performance.now() < until) continue;
-      await Talk.pause();
-      if (isOver()) return false;
-      until = performance.now() + SLICE;
-    }
-    return true;
-  }
-
-  /** Flags the part of the call asked about, and the parts that were told right. */
-  function* marking(graph, goal, answers, flags) {
-    flags.count = yield* Parts.mark(graph, goal, flags.isIn);
-    for (const answer of answers) if (answer.isRight) yield* Parts.mark(graph, answer.goal, flags.isRight);
-  }
-
-  /** Lights the part of a call, and dims what was told right; of several answers about one call the last counts. */
-  async function lightPart(goal, answers) {
-    const { run } = Talk, { version, graph } = run;
-    sought += 1;
-    const own = sought, last = new Map(answers.map((answer) => [answer.goal, answer]));
-    const flags = { goal, isIn: new Uint8Array(graph.count), isRight: new Uint8Array(graph.count), count: 0 };
-    const isOver = () => own !== sought || run !== Talk.run || version !== run.version;
-    if (await inSlices(marking(graph, goal, last.values(), flags), isOver) && !isOver()) Canvas.showAsked(flags);
-  }
-
-  /** Lights the part of the call that is asked about. */
-  function light() {
-    const { line, told: { ask } } = asked;
-    if (ask !== null) lightPart(ask.goal, BlameLines.answersOn(line));
-  }
-
-  /** Lights the part once more, where something else was chosen meanwhile. */
-  function lightAgain() {
+/** Chooses what a new question or verdict is about, and marks its clause. */
+function point() {
+  const { told, isRolled } = asked, { ask, fault } = told, step = fault === null ? undefined : fault.step;
+  if (isRolled) return;
+  if (step !== undefined && step !== null) {
+    Deeds.choose({ step });
+    Deeds.scrollTo({ step });
+  } else {
     Deeds.choose(null);
-    askAbout(asked.told.ask.goal);
+    if (ask !== null) askAbout(ask.goal);
+    else if (fault.goal !== null) Deeds.markClause(clausesOf(told.given));
   }
+}
 
-  /** Closes the place; the way back from a call alone stays where there is one. */
-  function close() {
-    if (asked === null) left = null;
-    asked = null;
-    sought += 1;
-    fill();
-    Deeds.choose(null);
+/** Brings the call asked about into sight, marks the clause by which it went, and lights its part. */
+function askAbout(goal) {
+  const taker = takerOf(goal);
+  Deeds.scrollTo(taker === undefined ? { goal } : { step: taker.number });
+  Deeds.markClause((taker && taker.clause && State.run.clauses[taker.clause - 1]) || null);
+  light();
+}
+
+/** Does what yields, with a pause after each slice of time; says whether it came to its end before `isOver`. */
+async function inSlices(work, isOver) {
+  let until = performance.now() + SLICE;
+  for (let next = work.next(); !next.done; next = work.next()) {
+    if (performance.now() < until) continue;
+    await Talk.pause();
+    if (isOver()) return false;
+    until = performance.now() + SLICE;
   }
+  return true;
+}
 
-  /** Begins a session with the call as its query, and keeps the way back. */
-  function tryAlone() {
-    const query = Names.now().asQuery(asked.told.given), { program } = Talk.given, from = { given: Talk.given, lines: Talk.typedLines() };
-    Guide.end();
-    leaving = from;
-    Deeds.begin({ program, query });
-  }
+/** Flags the part of the call asked about, and the parts that were told right. */
+function* marking(graph, goal, answers, flags) {
+  flags.count = yield* Parts.mark(graph, goal, flags.isIn);
+  for (const answer of answers) if (answer.isRight) yield* Parts.mark(graph, answer.goal, flags.isRight);
+}
 
-  /** Begins the whole run again, and plays its lines. */
-  function goBack() {
-    const { given, lines } = left;
-    Deeds.begin(given);
-    if (lines.length > 0) Talk.sendAll(lines);
-  }
+/** Lights the part of a call, and dims what was told right; of several answers about one call the last counts. */
+async function lightPart(goal, answers) {
+  const { run } = State, { version, graph } = run;
+  sought += 1;
+  const own = sought, last = new Map(answers.map((answer) => [answer.goal, answer]));
+  const flags = { goal, isIn: new Uint8Array(graph.count), isRight: new Uint8Array(graph.count), count: 0 };
+  const isOver = () => own !== sought || run !== State.run || version !== run.version;
+  if (await inSlices(marking(graph, goal, last.values(), flags), isOver) && !isOver()) Canvas.showAsked(flags);
+}
 
-  /** What a key does: the button of this name, where it is there. */
-  function press(name) {
-    const button = find(`blame-${name}`);
-    if (button !== null && !button.disabled) button.click();
-  }
+/** Lights the part of the call that is asked about. */
+function light() {
+  const { line, told: { ask } } = asked;
+  if (ask !== null) lightPart(ask.goal, BlameLines.answersOn(line));
+}
 
-  return { show, lightPart, lightAgain, close, tryAlone, goBack, press };
-})();
+/** Lights the part once more, where something else was chosen meanwhile. */
+function lightAgain() {
+  Deeds.choose(null);
+  askAbout(asked.told.ask.goal);
+}
 
-export default Blaming;
+/** Closes the place; the way back from a call alone stays where there is one. */
+function close() {
+  if (asked === null) left = null;
+  asked = null;
+  sought += 1;
+  fill();
+  Deeds.choose(null);
+}
+
+/** Begins a session with the call as its query, and keeps the way back. */
+function tryAlone() {
+  const query = Names.now().asQuery(asked.told.given), { program } = State.given, from = { given: State.given, lines: Talk.typedLines() };
+  Guide.end();
+  leaving = from;
+  Deeds.begin({ program, query });
+}
+
+/** Begins the whole run again, and plays its lines. */
+function goBack() {
+  const { given, lines } = left;
+  Deeds.begin(given);
+  if (lines.length > 0) Talk.sendAll(lines);
+}
+
+/** What a key does: the button of this name, where it is there. */
+function press(name) {
+  const button = /** @type {HTMLButtonElement | null} */ (find(`blame-${name}`));
+  if (button !== null && !button.disabled) button.click();
+}
+
+export { show, lightPart, lightAgain, close, tryAlone, goBack, press };

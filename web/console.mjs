@@ -71,7 +71,8 @@ function run(words) {
   const compiled = new WebAssembly.Module(moduleOfPage());
   const host = new SystemHost([Buffer.from("ghcdb"), ...words], process.env.GHCDB_CLOSED ?? "");
   const asked = WebAssembly.Module.imports(compiled).map(({ name }) => name);
-  const { exports } = new WebAssembly.Instance(compiled, { host: host.imports(asked) });
+  const instance = new WebAssembly.Instance(compiled, { host: host.imports(asked) });
+  const exports = /** @type {import("../front/types").EngineCalls} */ (instance.exports);
   host.join(exports.memory, new Heap(exports.memory, Number(exports.__heap_base.value)));
   try {
     return exports.main();

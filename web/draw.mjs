@@ -3,19 +3,25 @@ import fs from "node:fs";
 import path from "node:path";
 import { fileURLToPath } from "node:url";
 import { parseArgs } from "node:util";
-import Asking from "../front/protocol/asking.mjs";
-import Graph from "../front/run/graph.mjs";
+import * as Asking from "../front/protocol/asking.mjs";
+import * as Clauses from "../front/text/clauses.mjs";
+import * as Graph from "../front/run/graph.mjs";
+import { arcsAmong } from "../front/run/arcs.mjs";
 import Naming from "./naming.mjs";
-import Picture from "./picture.mjs";
-import SessionText from "../front/protocol/session_text.mjs";
+import * as Picture from "./picture.mjs";
+import * as SessionText from "../front/protocol/session_text.mjs";
 import { engineOfPage } from "../front/session/engine_of_page.mjs";
-import Replies from "../front/protocol/replies.mjs";
+import * as Replies from "../front/protocol/replies.mjs";
 
 const HERE = path.dirname(fileURLToPath(import.meta.url));
 
+/**
+ * Ends with words on why.
+ * @returns {never}
+ */
 function stop(why) {
   process.stderr.write(`web/picture: ${why}\n`);
-  process.exit(1);
+  return /** @type {never} */ (process.exit(1));
 }
 
 const text = Object.fromEntries(["program", "query", "by", "theme", "room", "title"].map((name) => [name, { type: "string" }]));
@@ -47,7 +53,9 @@ async function main() {
   const told = Asking.whereItStands(session, play.query), steps = Replies.readRecords(told.records), goals = Replies.readGoals(told.goals);
   const texts = new Map(goals.map((goal) => [goal.name, goal.text]));
   Asking.completeTexts(texts, steps, session);
-  const run = { graph: Graph.graphOf(steps), goals, shelf: Replies.readShelf(told.shelf), texts, clauses: Graph.readClauses(play.program) };
+  const asked = { ask: async (line) => session.line(line), kept: { steps: { size: steps.length } } };
+  const waits = await arcsAmong(asked, goals, []), clauses = Clauses.clausesOf(play.program);
+  const run = { graph: Graph.graphOf(steps), goals, waits, shelf: Replies.readShelf(told.shelf), texts, clauses };
   const room = given.room === undefined ? 1100 : Number(given.room), naming = new Naming(play, run.graph);
   const { svg } = Picture.draw(run, { by: given.by, theme: given.theme, room, title: given.title === undefined ? play.query : given.title, legend: true, shown: (words) => naming.shown(words) });
   process.stdout.write(`${svg}\n`);

@@ -1,194 +1,189 @@
 // Saves and opens: a session as a text, the picture as an SVG, a history, a program.
-import Replies from "../front/protocol/replies.mjs";
-import SessionText from "../front/protocol/session_text.mjs";
-import Graph from "../front/run/graph.mjs";
-import Lanes from "../front/run/lanes.mjs";
-import Terms from "../front/run/terms.mjs";
-import Answers from "./answers.mjs";
+import * as Replies from "../front/protocol/replies.mjs";
+import * as SessionText from "../front/protocol/session_text.mjs";
+import * as Graph from "../front/run/graph.mjs";
+import * as Lanes from "../front/run/lanes.mjs";
+import * as Terms from "../front/run/terms.mjs";
 import Deeds from "./deeds.mjs";
-import Elements from "./elements.mjs";
-import ExampleNotes from "./example_notes.mjs";
-import Holes from "./holes.mjs";
-import Names from "./names.mjs";
-import Overview from "./overview.mjs";
-import Picture from "./picture.mjs";
-import Program from "./program.mjs";
+import { find, make } from "./elements.mjs";
+import * as ExampleNotes from "./example_notes.mjs";
+import { HOLE, AGAIN, isBroken } from "./holes.mjs";
+import * as Names from "./names.mjs";
+import OnScreen from "./on_screen.mjs";
+import * as Picture from "./picture.mjs";
+import * as Program from "./program.mjs";
 import Shown from "./shown.mjs";
-import Talk from "./talk.mjs";
+import State from "./state.mjs";
+import * as Talk from "./talk.mjs";
 
-const Files = (() => {
-  const { find, make } = Elements;
+const MOST_PIXELS = 60e6; // of a PNG
+const ROOM_ON_PAPER = 1100; // points
 
-  const MOST_PIXELS = 60e6; // of a PNG
-  const ROOM_ON_PAPER = 1100; // points
+function saveBlob(name, blob) {
+  const link = make("a", { href: URL.createObjectURL(blob), download: name });
+  link.click();
+  setTimeout(() => URL.revokeObjectURL(link.href), 1000);
+}
 
-  function saveBlob(name, blob) {
-    const link = make("a", { href: URL.createObjectURL(blob), download: name });
-    link.click();
-    setTimeout(() => URL.revokeObjectURL(link.href), 1000);
+const save = (name, type, text) => saveBlob(name, new Blob([text], { type }));
+
+/** The steps from one number up to another in recorded order, as a run of their own; all that is shown where none are given. */
+function partOf(from, to) {
+  const { graph, lanes } = State.run, first = from === undefined ? -1 : graph.indexOf(from), last = to === undefined ? -1 : graph.indexOf(to);
+  if (first < 0 || last < first) return OnScreen.shownRun();
+  const end = Math.min(last + 1, first + OnScreen.MOST_SIZE), goals = end === graph.count ? State.run.goals : [];
+  const placed = Lanes.lanesIn(State.run, lanes, first, end, goals), incoming = OnScreen.incoming(first, end);
+  const part = { graph: Graph.partOf(graph, first, end), goals, shelf: [], store: graph.store };
+  return { ...State.run, ...part, placed, before: first, incoming, isPart: true };
+}
+
+/**
+ * The run, or a part of it, as an SVG that stands alone.
+ * @param {{ theme?: string, from?: number, to?: number }} how
+ */
+function pictureText({ theme = "light", from, to } = {}) {
+  return Picture.draw(partOf(from, to), { by: Shown.by, theme, room: find("canvas").clientWidth * Shown.zoom, legend: true, title: State.given.query, shown: Names.shown }).svg;
+}
+
+/** The whole run, as far as a picture can show it, for paper. */
+function wholePicture() {
+  const { graph } = State.run, last = graph.count - 1;
+  const run = last < 0 ? OnScreen.shownRun() : partOf(graph.numbers.at(0), graph.numbers.at(last));
+  return Picture.draw(run, { by: Shown.by, theme: "light", room: ROOM_ON_PAPER, legend: true, shown: Names.shown, scope: "paper-run" }).svg;
+}
+
+/** A picture in pixels, two for each point. */
+function pngOf(svg) {
+  return new Promise((done, failed) => {
+    const image = new Image();
+    image.onload = () => {
+      const area = document.createElement("canvas"), most = Math.sqrt(MOST_PIXELS / Math.max(1, image.width * image.height)), scale = Math.min(2, most);
+      area.width = Math.round(image.width * scale);
+      area.height = Math.round(image.height * scale);
+      area.getContext("2d").drawImage(image, 0, 0, area.width, area.height);
+      area.toBlob((blob) => (blob === null ? failed(new Error("the picture is too large")) : done(blob)), "image/png");
+    };
+    image.onerror = () => failed(new Error("the browser does not draw it"));
+    image.src = `data:image/svg+xml;charset=utf-8,${encodeURIComponent(svg)}`;
+  });
+}
+
+/** Saves a picture: `form` is `svg` or `png`, `theme` is `light` or `dark`, `from` and `to` the steps of a part. */
+async function savePicture({ form = "svg", ...how } = {}) {
+  const svg = pictureText(how);
+  if (form === "svg") save("run.svg", "image/svg+xml", svg);
+  else await pngOf(svg).then((blob) => saveBlob("run.png", blob), (error) => Deeds.tell(true, `No PNG was made: ${error.message}.`));
+}
+
+const savedEntries = () => State.entries.filter((entry) => !entry.note && !isBroken(entry));
+const sessionText = () => SessionText.write({ ...State.given, entries: savedEntries() });
+
+/** Saves the session; a history with a hole is told, and not written. */
+function saveSession() {
+  if (Replies.hasHole(State.given.history)) {
+    Deeds.tell(true, `Nothing was saved: the session began with a history that is not whole: ${HOLE}.`);
+    return;
   }
+  save("session.txt", "text/plain", sessionText());
+  if (!State.entries.some(isBroken)) return;
+  Deeds.tell(true, `The session is saved without its history: ${HOLE}. ${AGAIN}.`);
+}
 
-  const save = (name, type, text) => saveBlob(name, new Blob([text], { type }));
-
-  /** The steps from one number up to another in recorded order, as a run of their own; all that is shown where none are given. */
-  function partOf(from, to) {
-    const { graph, lanes } = Talk.run, first = from === undefined ? -1 : graph.indexOf(from), last = to === undefined ? -1 : graph.indexOf(to);
-    if (first < 0 || last < first) return Overview.shownRun();
-    const end = Math.min(last + 1, first + Overview.MOST_SIZE), goals = end === graph.count ? Talk.run.goals : [];
-    const placed = Lanes.lanesIn(Talk.run, lanes, first, end, goals), incoming = Overview.incoming(first, end);
-    const part = { graph: Graph.partOf(graph, first, end), goals, shelf: [], store: graph.store };
-    return { ...Talk.run, ...part, placed, before: first, incoming, isPart: true };
+/** Begins a session of a program that was opened: on the query that its comment names, else on the one that stands there. */
+function openProgram(text) {
+  if (Program.isTooLong(text)) {
+    Deeds.tell(true, `This text was not opened: ${Program.tellTooLong(text)}`);
+    return;
   }
+  const program = text.replace(/\r\n?/g, "\n"), query = ExampleNotes.read({ program }).query || Deeds.typed().query;
+  Deeds.beginOther(() => Deeds.begin({ program, query }));
+}
 
-  /** The run, or a part of it, as an SVG that stands alone. */
-  function pictureText({ theme = "light", from, to } = {}) {
-    return Picture.draw(partOf(from, to), { by: Shown.by, theme, room: find("canvas").clientWidth * Shown.zoom, legend: true, title: Talk.given.query, shown: Names.shown }).svg;
+/** Whether a history is whole; where it is not, that is told. */
+function isWhole(history) {
+  const isBad = Replies.hasHole(history);
+  if (isBad) Deeds.tell(true, `This text was not opened: its history is not whole: ${HOLE}.`);
+  return !isBad;
+}
+
+/** Opens a text: a saved session is played again; a history starts a session of the program and query that are there; else it is a program. */
+function openText(text) {
+  if (text.startsWith("ghc-history ")) {
+    if (isWhole(text)) Deeds.beginOther(() => Deeds.begin({ ...Deeds.typed(), history: text }));
+    return;
   }
-
-  /** The whole run, as far as a picture can show it, for paper. */
-  function wholePicture() {
-    const { graph } = Talk.run, last = graph.count - 1;
-    const run = last < 0 ? Overview.shownRun() : partOf(graph.numbers.at(0), graph.numbers.at(last));
-    return Picture.draw(run, { by: Shown.by, theme: "light", room: ROOM_ON_PAPER, legend: true, shown: Names.shown, scope: "paper-run" }).svg;
+  let session = null;
+  try {
+    session = SessionText.read(text, (name) => (EXAMPLES.find((example) => `${example.name}.ghc` === name) || {}).program);
+  } catch (error) {
+    Deeds.tell(true, `This text was not opened: ${error.message}.`);
+    return;
   }
-
-  /** A picture in pixels, two for each point. */
-  function pngOf(svg) {
-    return new Promise((done, failed) => {
-      const image = new Image();
-      image.onload = () => {
-        const area = document.createElement("canvas"), most = Math.sqrt(MOST_PIXELS / Math.max(1, image.width * image.height)), scale = Math.min(2, most);
-        area.width = Math.round(image.width * scale);
-        area.height = Math.round(image.height * scale);
-        area.getContext("2d").drawImage(image, 0, 0, area.width, area.height);
-        area.toBlob((blob) => (blob === null ? failed(new Error("the picture is too large")) : done(blob)), "image/png");
-      };
-      image.onerror = () => failed(new Error("the browser does not draw it"));
-      image.src = `data:image/svg+xml;charset=utf-8,${encodeURIComponent(svg)}`;
-    });
+  if (!session) {
+    openProgram(text);
+    return;
   }
+  if (!isWhole(session.history)) return;
+  Deeds.beginOther(() => {
+    Deeds.begin(session);
+    if (session.lines.length > 0) Talk.sendAll(session.lines).then(() => compare(session));
+  });
+}
 
-  /** Saves a picture: `form` is `svg` or `png`, `theme` is `light` or `dark`, `from` and `to` the steps of a part. */
-  async function savePicture({ form = "svg", ...how } = {}) {
-    const svg = pictureText(how);
-    if (form === "svg") save("run.svg", "image/svg+xml", svg);
-    else await pngOf(svg).then((blob) => saveBlob("run.png", blob), (error) => Answers.put(true, `No PNG was made: ${error.message}.`));
+/** Tells the first reply that is another than the one in the text that was opened. */
+function compare(session) {
+  if (State.refusal) return;
+  const other = SessionText.firstOther(session.lines, session.replies, State.entries.map((entry) => entry.reply));
+  if (other === null) return;
+  const cut = (lines) => make("code", null, Terms.cut(lines.join(" ⏎ ") || "(no reply)", 160));
+  Deeds.tell(true, `Line ${other.at + 1}, `, make("code", null, other.line), ", is answered otherwise than in the text: there ", cut(other.saved), ", here ", cut(other.now), ".");
+}
+
+/** The text of bytes: in UTF-8, else in Latin-1, which has a letter for each byte. */
+function textOf(bytes) {
+  try {
+    return { text: new TextDecoder("utf-8", { fatal: true }).decode(bytes), isLatin: false };
+  } catch {
+    return { text: new TextDecoder("windows-1252").decode(bytes), isLatin: true };
   }
+}
 
-  const { HOLE, AGAIN, isBroken } = Holes;
-
-  const savedEntries = () => Talk.entries.filter((entry) => !entry.note && !isBroken(entry));
-  const sessionText = () => SessionText.write({ ...Talk.given, entries: savedEntries() });
-
-  /** Saves the session; a history with a hole is told, and not written. */
-  function saveSession() {
-    if (Replies.hasHole(Talk.given.history)) {
-      Answers.put(true, `Nothing was saved: the session began with a history that is not whole: ${HOLE}.`);
-      return;
-    }
-    save("session.txt", "text/plain", sessionText());
-    if (!Talk.entries.some(isBroken)) return;
-    Answers.put(true, `The session is saved without its history: ${HOLE}. ${AGAIN}.`);
+/** Opens the bytes of a file, and tells where they are no text, or not in UTF-8. */
+async function openBytes(name, bytes) {
+  const { text, isLatin } = textOf(bytes);
+  if (text.includes("\0")) {
+    Deeds.tell(true, `${name} was not opened: it is no text in UTF-8.`);
+    return;
   }
+  openText(text);
+  await Talk.settled();
+  if (isLatin && find("answer").hidden) Deeds.tell(false, `${name} is not in UTF-8. It was read as Latin-1: look at its letters beyond ASCII.`);
+}
 
-  /** Begins a session of a program that was opened: on the query that its comment names, else on the one that stands there. */
-  function openProgram(text) {
-    if (Program.isTooLong(text)) {
-      Answers.put(true, `This text was not opened: ${Program.tellTooLong(text)}`);
-      return;
-    }
-    const program = text.replace(/\r\n?/g, "\n"), query = ExampleNotes.read({ program }).query || Deeds.typed().query;
-    Deeds.beginOther(() => Deeds.begin({ program, query }));
-  }
+async function onChosen() {
+  const [file] = find("file").files;
+  if (!file) return;
+  await open(file);
+  find("file").value = "";
+}
 
-  /** Whether a history is whole; where it is not, that is told. */
-  function isWhole(history) {
-    const isBad = Replies.hasHole(history);
-    if (isBad) Answers.put(true, `This text was not opened: its history is not whole: ${HOLE}.`);
-    return !isBad;
-  }
+const open = async (file) => openBytes(file.name, new Uint8Array(await file.arrayBuffer()));
 
-  /** Opens a text: a saved session is played again; a history starts a session of the program and query that are there; else it is a program. */
-  function openText(text) {
-    if (text.startsWith("ghc-history ")) {
-      if (isWhole(text)) Deeds.beginOther(() => Deeds.begin({ ...Deeds.typed(), history: text }));
-      return;
-    }
-    let session = null;
-    try {
-      session = SessionText.read(text, (name) => (EXAMPLES.find((example) => `${example.name}.ghc` === name) || {}).program);
-    } catch (error) {
-      Answers.put(true, `This text was not opened: ${error.message}.`);
-      return;
-    }
-    if (!session) {
-      openProgram(text);
-      return;
-    }
-    if (!isWhole(session.history)) return;
-    Deeds.beginOther(() => {
-      Deeds.begin(session);
-      if (session.lines.length > 0) Talk.sendAll(session.lines).then(() => compare(session));
-    });
-  }
+const hasFiles = ({ dataTransfer }) => dataTransfer !== null && [...dataTransfer.types].includes("Files");
 
-  /** Tells the first reply that is another than the one in the text that was opened. */
-  function compare(session) {
-    if (Talk.refusal) return;
-    const other = SessionText.firstOther(session.lines, session.replies, Talk.entries.map((entry) => entry.reply));
-    if (other === null) return;
-    const cut = (lines) => make("code", null, Terms.cut(lines.join(" ⏎ ") || "(no reply)", 160));
-    Answers.put(true, `Line ${other.at + 1}, `, make("code", null, other.line), ", is answered otherwise than in the text: there ", cut(other.saved), ", here ", cut(other.now), ".");
-  }
+/** Opens a file that is dropped anywhere on the page. */
+function onDrop(event) {
+  if (!hasFiles(event)) return;
+  event.preventDefault();
+  if (event.dataTransfer.files.length > 0) open(event.dataTransfer.files[0]);
+}
 
-  /** The text of bytes: in UTF-8, else in Latin-1, which has a letter for each byte. */
-  function textOf(bytes) {
-    try {
-      return { text: new TextDecoder("utf-8", { fatal: true }).decode(bytes), isLatin: false };
-    } catch {
-      return { text: new TextDecoder("windows-1252").decode(bytes), isLatin: true };
-    }
-  }
+function listenToAll() {
+  find("file").addEventListener("change", onChosen);
+  document.addEventListener("dragover", (event) => { if (hasFiles(event)) event.preventDefault(); });
+  document.addEventListener("drop", onDrop);
+}
 
-  /** Opens the bytes of a file, and tells where they are no text, or not in UTF-8. */
-  async function openBytes(name, bytes) {
-    const { text, isLatin } = textOf(bytes);
-    if (text.includes("\0")) {
-      Answers.put(true, `${name} was not opened: it is no text in UTF-8.`);
-      return;
-    }
-    openText(text);
-    await Talk.settled();
-    if (isLatin && find("answer").hidden) Answers.put(false, `${name} is not in UTF-8. It was read as Latin-1: look at its letters beyond ASCII.`);
-  }
-
-  async function onChosen() {
-    const [file] = find("file").files;
-    if (!file) return;
-    await open(file);
-    find("file").value = "";
-  }
-
-  const open = async (file) => openBytes(file.name, new Uint8Array(await file.arrayBuffer()));
-
-  const hasFiles = ({ dataTransfer }) => dataTransfer !== null && [...dataTransfer.types].includes("Files");
-
-  /** Opens a file that is dropped anywhere on the page. */
-  function onDrop(event) {
-    if (!hasFiles(event)) return;
-    event.preventDefault();
-    if (event.dataTransfer.files.length > 0) open(event.dataTransfer.files[0]);
-  }
-
-  function listenToAll() {
-    find("file").addEventListener("change", onChosen);
-    document.addEventListener("dragover", (event) => { if (hasFiles(event)) event.preventDefault(); });
-    document.addEventListener("drop", onDrop);
-  }
-
-  return {
-    savePicture, saveSession, sessionText, pictureText, wholePicture, pngOf, openText, openBytes, listenToAll,
-  };
-})();
-
-export default Files;
+export {
+  savePicture, saveSession, sessionText, pictureText, wholePicture, pngOf, openText, openBytes, listenToAll,
+};

@@ -1,110 +1,108 @@
 // Leads through the tour: shows its words, points at what is to be clicked, and goes on when its line was typed.
 import Deeds from "./deeds.mjs";
-import Elements from "./elements.mjs";
-import Menus from "./menus.mjs";
-import Talk from "./talk.mjs";
-import Tour from "./tour.mjs";
+import { find, make, withCode } from "./elements.mjs";
+import State from "./state.mjs";
+import * as Talk from "./talk.mjs";
+import * as Tour from "./tour.mjs";
 
-const Guide = (() => {
-  const { find, make, withCode } = Elements;
-  let at = null; // the station where the tour is; null where there is none
-  let isAside = false; // whether other lines were typed than the story's
+let at = null; // the station where the tour is; null where there is none
+let isAside = false; // whether other lines were typed than the story's
 
-  const station = () => (at !== null && at < Tour.STATIONS.length ? Tour.STATIONS[at] : null);
+const station = () => (at !== null && at < Tour.STATIONS.length ? Tour.STATIONS[at] : null);
 
-  function billProgram() {
-    return EXAMPLES.find((example) => example.name === "bill").program;
-  }
+function billProgram() {
+  return EXAMPLES.find((example) => example.name === "bill").program;
+}
 
-  /** Begins the session of a station anew, and plays it up to there. */
-  function putThere() {
-    const { session } = station(), { program } = Tour.SESSIONS[session];
-    isAside = false;
-    Deeds.begin({ program: program(billProgram()), query: Tour.QUERY });
-    const lines = Tour.linesBefore(at);
-    if (lines.length > 0) Talk.sendAll(lines);
-    show();
-  }
+/** Begins the session of a station anew, and plays it up to there. */
+function putThere() {
+  const { session } = station(), { program } = Tour.SESSIONS[session];
+  isAside = false;
+  Deeds.begin({ program: program(billProgram()), query: Tour.QUERY });
+  const lines = Tour.linesBefore(at);
+  if (lines.length > 0) Talk.sendAll(lines);
+  show();
+}
 
-  function goTo(index) {
-    const isFresh = at === null || index < at || (index < Tour.STATIONS.length && Tour.beginsSession(index));
-    at = index;
-    if (station() && isFresh) putThere();
-    show();
-  }
+function goTo(index) {
+  const isFresh = at === null || index < at || (index < Tour.STATIONS.length && Tour.beginsSession(index));
+  at = index;
+  if (station() && isFresh) putThere();
+  show();
+}
 
-  function end() {
-    at = null;
-    show();
-  }
+function end() {
+  at = null;
+  show();
+}
 
-  /** Types the station's line for the user. */
-  function doIt() {
-    Menus.close();
-    Talk.send(station().line);
-  }
+/** Types the station's line for the user. */
+function doIt() {
+  Deeds.closeMenu();
+  Talk.send(station().line);
+}
 
-  function show() {
-    const area = find("guide"), here = station();
-    area.hidden = at === null;
-    document.body.classList.toggle("on-tour", at !== null);
-    if (at === null) {
-      pointAgain();
-      return;
-    }
-    const place = here ? `${at + 1} of ${Tour.STATIONS.length}` : "the end";
-    const words = isAside ? "You left the story, and that is fine. " : "";
-    const forth = here && !isAside ? make("button", { id: "tour-do", title: here.line }, "Do it for me") : null;
-    const again = isAside ? make("button", { id: "tour-again" }, "Back to the story") : null;
-    const back = at > 0 ? make("button", { id: "tour-back", title: "One station back" }, "Back") : null;
-    area.replaceChildren(make("div", { class: "tour-place" }, make("b", null, here ? here.chapter : "Done"), make("span", { class: "dim" }, place)),
-      make("p", null, words, ...(isAside ? [] : withCode(here ? here.words : Tour.END))),
-      make("div", { class: "buttons" }, ...[again, forth, back].filter(Boolean), make("button", { id: "tour-end" }, "End the tour")));
+function show() {
+  const area = find("guide"), here = station();
+  area.hidden = at === null;
+  document.body.classList.toggle("on-tour", at !== null);
+  if (at === null) {
     pointAgain();
+    return;
   }
+  const place = here ? `${at + 1} of ${Tour.STATIONS.length}` : "the end";
+  const words = isAside ? "You left the story, and that is fine. " : "";
+  const forth = here && !isAside ? make("button", { id: "tour-do", title: here.line }, "Do it for me") : null;
+  const again = isAside ? make("button", { id: "tour-again" }, "Back to the story") : null;
+  const back = at > 0 ? make("button", { id: "tour-back", title: "One station back" }, "Back") : null;
+  area.replaceChildren(make("div", { class: "tour-place" }, make("b", null, here ? here.chapter : "Done"), make("span", { class: "dim" }, place)),
+    make("p", null, words, ...(isAside ? [] : withCode(here ? here.words : Tour.END))),
+    make("div", { class: "buttons" }, ...[again, forth, back].filter(Boolean), make("button", { id: "tour-end" }, "End the tour")));
+  pointAgain();
+}
 
-  const isSeen = (element) => element.getClientRects().length > 0;
+const isSeen = (element) => element.getClientRects().length > 0;
 
-  /** What is to be clicked now: a button or a field in the open menu, else what opens it, else the console's line. */
-  function target() {
-    const here = station();
-    if (!here || isAside) return null;
-    if (here.isTyped) return find("line");
-    const inMenu = [...find("menu").querySelectorAll("[data-line]")].find((button) => button.dataset.line === here.line && isSeen(button));
-    const roll = here.line.startsWith("roll ") ? find("menu").querySelector("[data-roll]") : null;
-    const field = here.line.startsWith("ask ") ? find("menu").querySelector('[data-words="ask"]') : null;
-    return inMenu || (field && isSeen(field) ? field : null) || (roll && isSeen(roll) ? roll : null) || document.querySelector(Tour.opensAt(here.line));
+/** What is to be clicked now: a button or a field in the open menu, else what opens it, else the console's line. */
+function target() {
+  const here = station();
+  if (!here || isAside) return null;
+  if (here.isTyped) return find("line");
+  const inMenu = [...find("menu").querySelectorAll("[data-line]")].find((button) => button.dataset.line === here.line && isSeen(button));
+  const roll = here.line.startsWith("roll ") ? find("menu").querySelector("[data-roll]") : null;
+  const field = here.line.startsWith("ask ") ? find("menu").querySelector('[data-words="ask"]') : null;
+  return inMenu || (field && isSeen(field) ? field : null) || (roll && isSeen(roll) ? roll : null) || document.querySelector(Tour.opensAt(here.line));
+}
+
+/** Points at what is to be clicked, and shows the part of the page where it is. */
+function pointAgain() {
+  for (const element of document.querySelectorAll(".pointed")) element.classList.remove("pointed");
+  const element = target();
+  if (!element) return;
+  element.classList.add("pointed");
+  if (!isSeen(element)) Deeds.showTab(element.closest("#talk") ? "console" : element.closest("#source") ? "program" : "run");
+}
+
+/** After lines were typed: on to the next station, or aside from the story. */
+function onChange(what) {
+  const here = station();
+  if (!here) return;
+  if (what === "lines" && !isAside) {
+    const last = State.entries[State.entries.length - 1].line;
+    const isNext = State.entries.length === Tour.linesBefore(at).length + 1;
+    if (isNext && last.trim().replace(/ +/g, " ") === here.line) goTo(at + 1);
+    else if (State.entries.length > Tour.linesBefore(at).length) isAside = true;
   }
+  show();
+}
 
-  /** Points at what is to be clicked, and shows the part of the page where it is. */
-  function pointAgain() {
-    for (const element of document.querySelectorAll(".pointed")) element.classList.remove("pointed");
-    const element = target();
-    if (!element) return;
-    element.classList.add("pointed");
-    if (!isSeen(element)) Deeds.showTab(element.closest("#talk") ? "console" : element.closest("#source") ? "program" : "run");
-  }
+function onClick(id) {
+  const does = { "tour-do": doIt, "tour-back": () => goTo(at - 1), "tour-end": end, "tour-again": putThere }[id];
+  if (does) does();
+  return Boolean(does);
+}
 
-  /** After lines were typed: on to the next station, or aside from the story. */
-  function onChange(what) {
-    const here = station();
-    if (!here) return;
-    if (what === "lines" && !isAside) {
-      const last = Talk.entries[Talk.entries.length - 1].line;
-      const isNext = Talk.entries.length === Tour.linesBefore(at).length + 1;
-      if (isNext && last.trim().replace(/ +/g, " ") === here.line) goTo(at + 1);
-      else if (Talk.entries.length > Tour.linesBefore(at).length) isAside = true;
-    }
-    show();
-  }
+const begin = () => goTo(0);
+const isOn = () => at !== null;
 
-  function onClick(id) {
-    const does = { "tour-do": doIt, "tour-back": () => goTo(at - 1), "tour-end": end, "tour-again": putThere }[id];
-    if (does) does();
-    return Boolean(does);
-  }
-
-  return { begin: () => goTo(0), end, onChange, onClick, pointAgain, isOn: () => at !== null };
-})();
-
-export default Guide;
+export { begin, end, onChange, onClick, pointAgain, isOn };

@@ -1,14 +1,10 @@
 // Histories that are not whole, since memory was refused for a line: how that is told, and in which replies it is so. Pure.
-import Replies from "../front/protocol/replies.mjs";
+import * as Replies from "../front/protocol/replies.mjs";
 
-const Holes = (() => {
-  const HOLE = "memory was refused for a line of it (F1 no memory)";
-  const AGAIN = "Undo or roll some steps, then type save again";
+const HOLE = "memory was refused for a line of it (F1 no memory)";
+const AGAIN = "Undo or roll some steps, then type save again";
 
-  /** Is the entry a history with a hole? It changes nothing where it is played again, and it is none. */
-  const isBroken = (entry) => entry.line.trim().startsWith("save") && Replies.hasHole(entry.reply.join("\n"));
+/** Is the entry a history with a hole? It changes nothing where it is played again, and it is none. */
+const isBroken = (entry) => entry.line.trim().startsWith("save") && Replies.hasHole(entry.reply.join("\n"));
 
-  return { HOLE, AGAIN, isBroken };
-})();
-
-export default Holes;
+export { HOLE, AGAIN, isBroken };

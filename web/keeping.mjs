@@ -1,275 +1,279 @@
 // Loses nothing: keeps each session in the browser's own storage, with a text that was typed and not started, offers to go on, and makes a link.
-import Replies from "../front/protocol/replies.mjs";
-import SessionText from "../front/protocol/session_text.mjs";
-import Terms from "../front/run/terms.mjs";
-import Answers from "./answers.mjs";
+import * as Replies from "../front/protocol/replies.mjs";
+import * as SessionText from "../front/protocol/session_text.mjs";
+import * as Terms from "../front/run/terms.mjs";
 import Deeds from "./deeds.mjs";
-import Elements from "./elements.mjs";
-import Guide from "./guide.mjs";
-import Links from "./links.mjs";
-import Talk from "./talk.mjs";
-import Trail from "./trail.mjs";
+import { find, make } from "./elements.mjs";
+import * as Guide from "./guide.mjs";
+import * as Links from "./links.mjs";
+import State from "./state.mjs";
+import * as Talk from "./talk.mjs";
+import * as Trail from "./trail.mjs";
 
-const Keeping = (() => {
-  const { find, make } = Elements;
-  const NAME = "ghcdb.session", MOST = 5, MOST_OF_ONE = 3; // sessions of one's own programs that are kept; of one text
-  const PAUSE = 400; // milliseconds after a letter was typed
-  let name = null; // of this session in the storage, where no other one writes; null before anything of it is kept
-  let source = null; // the name of the session that was kept, and that this one went on from
-  let origin = null; // the name of the first session of this text, which was changed since, and started again
-  let left = null; // what was given to the session that was left, until another one has begun
-  let before = [], timer = null, isKept = true;
-  let asked = null; // what is to begin once one has said that what stands here may go
+const NAME = "ghcdb.session", MOST = 5, MOST_OF_ONE = 3; // sessions of one's own programs that are kept; of one text
+const PAUSE = 400; // milliseconds after a letter was typed
+let name = null; // of this session in the storage, where no other one writes; null before anything of it is kept
+let source = null; // the name of the session that was kept, and that this one went on from
+let origin = null; // the name of the first session of this text, which was changed since, and started again
+let left = null; // what was given to the session that was left, until another one has begun
+let before = [], timer = null, isKept = true;
+let asked = null; // what is to begin once one has said that what stands here may go
 
-  const warn = (event) => event.preventDefault();
+const warn = (event) => event.preventDefault();
 
-  /** Whether the browser keeps the lines; where it does not, it asks before the page is left. */
-  function setKept(isSo) {
-    isKept = isSo;
-    if (isKept) window.removeEventListener("beforeunload", warn);
-    else window.addEventListener("beforeunload", warn);
+/** Whether the browser keeps the lines; where it does not, it asks before the page is left. */
+function setKept(isSo) {
+  isKept = isSo;
+  if (isKept) window.removeEventListener("beforeunload", warn);
+  else window.addEventListener("beforeunload", warn);
+}
+
+/** The text of the session, with all lines and no replies. */
+const linesText = () => SessionText.write({ ...State.given, entries: Talk.typedLines().map((line) => ({ line, reply: [] })) });
+
+const isExample = (program) => EXAMPLES.some((example) => example.program === program);
+const isOwn = () => !Guide.isOn() && !(isExample(Deeds.typed().program) && isExample(State.given.program));
+
+/** What there is to be kept: the session, and what was typed since its Start; null where all of it stands in an example. */
+function now() {
+  const typed = Deeds.typed(), draft = Deeds.isChanged() ? { program: typed.program, query: typed.query } : null;
+  if (State.entries.length > 0 || State.given.history !== "") return { text: linesText(), draft, looked: Trail.saved() };
+  return typed.program.trim() === "" || isExample(typed.program) ? null : { text: SessionText.write({ ...State.given, ...typed, entries: [] }), draft: null };
+}
+
+/** What was kept under a name; null where nothing can be read there. */
+function read(key) {
+  try {
+    const kept = localStorage.getItem(key), found = kept.startsWith("{") ? JSON.parse(kept) : { text: kept };
+    const { text, draft = null, at = 0, isOwn: own, of = key, looked = null } = found;
+    const session = SessionText.read(text, () => undefined);
+    return session === null ? null : { ...session, draft, at, key, of, looked, isOwn: own ?? !isExample(session.program) };
+  } catch {
+    return null;
   }
+}
 
-  /** The text of the session, with all lines and no replies. */
-  const linesText = () => SessionText.write({ ...Talk.given, entries: Talk.typedLines().map((line) => ({ line, reply: [] })) });
-
-  const isExample = (program) => EXAMPLES.some((example) => example.program === program);
-  const isOwn = () => !Guide.isOn() && !(isExample(Deeds.typed().program) && isExample(Talk.given.program));
-
-  /** What there is to be kept: the session, and what was typed since its Start; null where all of it stands in an example. */
-  function now() {
-    const typed = Deeds.typed(), draft = Deeds.isChanged() ? { program: typed.program, query: typed.query } : null;
-    if (Talk.entries.length > 0) return { text: linesText(), draft, looked: Trail.saved() };
-    return typed.program.trim() === "" || isExample(typed.program) ? null : { text: SessionText.write({ ...Talk.given, ...typed, entries: [] }), draft: null };
+/** All that is kept, the last one first. */
+function all() {
+  try {
+    const keys = Object.keys(localStorage).filter((key) => key === NAME || key.startsWith(`${NAME}.`));
+    return keys.map(read).filter(Boolean).sort((one, other) => other.at - one.at);
+  } catch {
+    return [];
   }
+}
 
-  /** What was kept under a name; null where nothing can be read there. */
-  function read(key) {
-    try {
-      const kept = localStorage.getItem(key), found = kept.startsWith("{") ? JSON.parse(kept) : { text: kept };
-      const { text, draft = null, at = 0, isOwn: own, of = key, looked = null } = found;
-      const session = SessionText.read(text, () => undefined);
-      return session === null ? null : { ...session, draft, at, key, of, looked, isOwn: own ?? !isExample(session.program) };
-    } catch {
-      return null;
-    }
+const isOfGiven = (session) => ["program", "query", "history"].every((part) => session[part] === State.given[part]);
+
+/** Whether a session that is kept has all of this one. */
+function isWithin(session) {
+  if (Deeds.isChanged() || session.draft !== null || !isOfGiven(session)) return false;
+  return Talk.typedLines().every((line, at) => line === session.lines[at]);
+}
+
+/** Whether this session has all lines of one that is kept. */
+function holdsAll(session) {
+  const typed = Talk.typedLines();
+  return isOfGiven(session) && session.lines.every((line, at) => line === typed[at]);
+}
+
+/** Is a session one too many of its text? The newest ones come first. */
+const isOneTooMany = ({ of }, at, own) => own.slice(0, at).filter((other) => other.of === of).length >= MOST_OF_ONE;
+
+/** Forgets the oldest sessions. Examples have the places that one's own programs leave, and one at least. */
+function forgetOldest() {
+  const kept = all(), own = kept.filter((session) => session.isOwn), many = own.filter(isOneTooMany);
+  const stay = own.filter((session) => !many.includes(session)), others = kept.filter((session) => !session.isOwn);
+  const gone = [...many, ...stay.slice(MOST), ...others.slice(Math.max(1, MOST - stay.length))];
+  for (const { key } of gone) localStorage.removeItem(key);
+}
+
+/** Where this session has all that the one had from which it went on, it takes that one's place. */
+function replaceSource() {
+  const kept = source === null ? null : read(source);
+  if (kept === null || !holdsAll(kept)) return;
+  localStorage.removeItem(source);
+  source = null;
+}
+
+/** Writes what is to be kept under the session's own name. */
+function write(kept) {
+  const isNew = name === null, at = Date.now();
+  name = name || `${NAME}.${at}.${Math.random()}`;
+  origin = origin || name;
+  localStorage.setItem(name, JSON.stringify({ ...kept, at, isOwn: isOwn(), of: origin }));
+  replaceSource();
+  if (isNew) forgetOldest();
+}
+
+function isTooLong() {
+  const { program, query, history } = State.given;
+  return State.entries.length > Links.MOST_LINES || program.length + query.length + history.length > Links.MOST_READ;
+}
+
+/** Keeps the session as it is; where it is too long, or the browser refuses it, the page warns before it is left. */
+function keep() {
+  clearTimeout(timer);
+  if (State.given === left) return;
+  if (isTooLong() || Replies.hasHole(State.given.history)) {
+    setKept(false);
+    return;
   }
-
-  /** All that is kept, the last one first. */
-  function all() {
-    try {
-      const keys = Object.keys(localStorage).filter((key) => key === NAME || key.startsWith(`${NAME}.`));
-      return keys.map(read).filter(Boolean).sort((one, other) => other.at - one.at);
-    } catch {
-      return [];
-    }
+  const kept = now();
+  if (kept === null || (name === null && all().some(isWithin))) return;
+  try {
+    write(kept);
+    setKept(true);
+  } catch {
+    setKept(false);
   }
+}
 
-  const isOfGiven = (session) => ["program", "query", "history"].every((part) => session[part] === Talk.given[part]);
+/** The same, a little after the last letter was typed. */
+function keepSoon() {
+  clearTimeout(timer);
+  timer = setTimeout(keep, PAUSE);
+}
 
-  /** Whether a session that is kept has all of this one. */
-  function isWithin(session) {
-    if (Deeds.isChanged() || session.draft !== null || !isOfGiven(session)) return false;
-    return Talk.typedLines().every((line, at) => line === session.lines[at]);
+/** Another session begins: this one stays as it is kept. Gives the name under which it is. */
+function leave() {
+  keep();
+  const key = name || source;
+  left = State.given;
+  name = null;
+  source = null;
+  origin = null;
+  return key;
+}
+
+/** The same where its text starts again, and something was done; a program that was only typed keeps its name. */
+function leaveDone() {
+  const first = origin;
+  if (State.given === left || (State.entries.length === 0 && State.given.history === "")) return null;
+  const key = leave();
+  origin = first;
+  return key;
+}
+
+/** A button that brings back what was left under a name; none where the browser does not keep it. */
+function wayBack(key, words) {
+  before = all().filter((kept) => kept.key === key);
+  return before.map(() => make("button", { class: "small main-button", "data-go-on": 0 }, words));
+}
+
+/** Begins another session than the one that stands here. Where this one is not kept, it asks first. */
+async function beginOther(begins) {
+  keep();
+  if (isKept || now() === null) {
+    await beginNow(begins);
+    return;
   }
+  asked = begins;
+  const goes = make("button", { class: "small danger", id: "go-without" }, "Go on without it");
+  Deeds.tell(true, "What stands here is not kept in this browser; Save writes it as a file. ", goes);
+}
 
-  /** Whether this session has all lines of one that is kept. */
-  function holdsAll(session) {
-    const typed = Talk.typedLines();
-    return isOfGiven(session) && session.lines.every((line, at) => line === typed[at]);
+/** Begins what was asked for, though what stands here is not kept. */
+function goWithout() {
+  Deeds.hideAnswer();
+  return beginNow(asked);
+}
+
+/** Begins another session, and offers to bring this one back where its program is the user's own. */
+async function beginNow(begins) {
+  const isMine = isOwn(), key = leave();
+  await begins();
+  await Talk.settled();
+  const back = isMine && find("answer").hidden ? wayBack(key, "Go back to it") : [];
+  if (back.length > 0) Deeds.tell(false, "Your own program is kept. ", ...back);
+}
+
+function wordsOf({ lines, history, query }) {
+  const done = `${lines.length} line${lines.length === 1 ? "" : "s"} on `, begun = history === "" ? "A program for " : "A run on ";
+  return [lines.length === 0 ? begun : done, make("code", null, Terms.cut(query.trim() || "no query", 60))];
+}
+
+/** Of an address that holds a session, only one that has gone on from there is offered. */
+const goesOn = (session) => session.program === State.given.program && session.query === State.given.query && session.lines.length > Talk.typedLines().length;
+
+/** Offers to go on with what was kept, where the page was not opened for something else. */
+function offer(isOfLink = false) {
+  before = isOfLink ? all().filter((session) => session.key !== name && goesOn(session)) : all();
+  const [last, ...others] = before;
+  if (last === undefined || (location.hash.length > 1 && !isOfLink)) return;
+  const isOne = last.lines.length < 2, them = isOne ? "it" : "them";
+  const also = others.flatMap((session, index) => [index === 0 ? " Also kept: " : ", ", make("button", { class: "link", "data-go-on": index + 1 }, ...wordsOf(session))]);
+  Deeds.tell(false, ...wordsOf(last), isOne ? " is" : " are", " kept from the last time. ", make("button", { class: "small main-button", id: "go-on", "data-go-on": 0 }, `Go on with ${them}`), " ",
+    make("button", { class: "small", id: "forget" }, `Forget ${them}`), ...also);
+}
+
+function forget() {
+  try {
+    localStorage.removeItem(before[0].key);
+  } catch {
+    setKept(false);
   }
+  Deeds.hideAnswer();
+  offer();
+}
 
-  /** Is a session one too many of its text? The newest ones come first. */
-  const isOneTooMany = ({ of }, at, own) => own.slice(0, at).filter((other) => other.of === of).length >= MOST_OF_ONE;
+/** Plays a session that was kept, and puts there what was typed since its Start. */
+async function goOn(index) {
+  const { program, query, history, lines, draft, key, of, looked } = before[index];
+  leave();
+  Deeds.begin({ program, query, history });
+  if (lines.length > 0) Talk.sendAll(lines);
+  await Talk.settled();
+  if (!isOfGiven(before[index])) return;
+  if (draft !== null) Deeds.setTyped(draft);
+  Trail.takeUp(looked);
+  source = key;
+  origin = of;
+  keep();
+}
 
-  /** Forgets the oldest sessions. Examples have the places that one's own programs leave, and one at least. */
-  function forgetOldest() {
-    const kept = all(), own = kept.filter((session) => session.isOwn), many = own.filter(isOneTooMany);
-    const stay = own.filter((session) => !many.includes(session)), others = kept.filter((session) => !session.isOwn);
-    const gone = [...many, ...stay.slice(MOST), ...others.slice(Math.max(1, MOST - stay.length))];
-    for (const { key } of gone) localStorage.removeItem(key);
+/** The address of the page with all of the session in it, or in words by how much it is too long. */
+async function address() {
+  const text = linesText(), told = (number) => number.toLocaleString("en"), { MOST, MOST_READ, MOST_LINES } = Links;
+  const isLong = text.length > MOST_READ || State.entries.length > MOST_LINES;
+  if (isLong) return { tooLong: `${told(MOST_READ)} bytes and ${told(MOST_LINES)} lines at most` };
+  const looked = Trail.saved(), notes = looked === null ? "" : `&n=${await Links.pack(JSON.stringify(looked))}`;
+  const letters = `${await Links.pack(text)}${notes}`;
+  if (letters.length > MOST) return { tooLong: `${told(letters.length)} letters, ${told(MOST)} at most` };
+  return { link: `${location.href.split("#")[0]}#s=${letters}` };
+}
+
+/** Puts the session into the address, and shows it to be copied. */
+async function makeLink() {
+  if (!Links.isThere()) {
+    Deeds.tell(true, "This browser cannot compress a text for a link. Save writes the session as a file.");
+    return;
   }
-
-  /** Where this session has all that the one had from which it went on, it takes that one's place. */
-  function replaceSource() {
-    const kept = source === null ? null : read(source);
-    if (kept === null || !holdsAll(kept)) return;
-    localStorage.removeItem(source);
-    source = null;
+  const { link, tooLong } = await address();
+  if (link === undefined) {
+    Deeds.tell(true, `This session is too long for a link (${tooLong}). Save writes it as a file.`);
+    return;
   }
+  history.replaceState(null, "", link);
+  const field = make("input", { readonly: true, value: link, id: "link-text", "aria-label": "The link" });
+  Deeds.tell(false, "The address holds program, query and lines now: ", field, " ", make("button", { class: "small", id: "copy-link" }, "Copy"), Deeds.isChanged() ? " What you typed since Start is not in it." : "");
+  field.select();
+}
 
-  /** Writes what is to be kept under the session's own name. */
-  function write(kept) {
-    const isNew = name === null, at = Date.now();
-    name = name || `${NAME}.${at}.${Math.random()}`;
-    origin = origin || name;
-    localStorage.setItem(name, JSON.stringify({ ...kept, at, isOwn: isOwn(), of: origin }));
-    replaceSource();
-    if (isNew) forgetOldest();
+async function copyLink() {
+  const field = find("link-text");
+  field.select();
+  try {
+    await navigator.clipboard.writeText(field.value);
+    find("copy-link").textContent = "Copied";
+  } catch {
+    find("copy-link").textContent = "Copy it by hand";
   }
+}
 
-  function isTooLong() {
-    const { program, query, history } = Talk.given;
-    return Talk.entries.length > Links.MOST_LINES || program.length + query.length + history.length > Links.MOST_READ;
-  }
+function listenToAll() {
+  for (const field of ["program", "query"]) find(field).addEventListener("input", keepSoon);
+  window.addEventListener("pagehide", keep);
+}
 
-  /** Keeps the session as it is; where it is too long, or the browser refuses it, the page warns before it is left. */
-  function keep() {
-    clearTimeout(timer);
-    if (Talk.given === left) return;
-    if (isTooLong() || Replies.hasHole(Talk.given.history)) {
-      setKept(false);
-      return;
-    }
-    const kept = now();
-    if (kept === null || (name === null && all().some(isWithin))) return;
-    try {
-      write(kept);
-      setKept(true);
-    } catch {
-      setKept(false);
-    }
-  }
-
-  /** The same, a little after the last letter was typed. */
-  function keepSoon() {
-    clearTimeout(timer);
-    timer = setTimeout(keep, PAUSE);
-  }
-
-  /** Another session begins: this one stays as it is kept. Gives its name where its program is the user's own. */
-  function leave() {
-    keep();
-    const own = isOwn() ? name || source : null;
-    left = Talk.given;
-    name = null;
-    source = null;
-    origin = null;
-    return own;
-  }
-
-  /** The same where its text starts again, and something was done; a program that was only typed keeps its name. */
-  function leaveDone() {
-    const first = origin;
-    if (Talk.given === left || (Talk.entries.length === 0 && Talk.given.history === "")) return;
-    leave();
-    origin = first;
-  }
-
-  /** Begins another session than the one that stands here. Where this one is not kept, it asks first. */
-  async function beginOther(begins) {
-    keep();
-    if (isKept || now() === null) {
-      await beginNow(begins);
-      return;
-    }
-    asked = begins;
-    const goes = make("button", { class: "small danger", id: "go-without" }, "Go on without it");
-    Answers.put(true, "What stands here is not kept in this browser; Save writes it as a file. ", goes);
-  }
-
-  /** Begins what was asked for, though what stands here is not kept. */
-  function goWithout() {
-    Answers.hide();
-    return beginNow(asked);
-  }
-
-  /** Begins another session, and offers to bring this one back where its program is the user's own. */
-  async function beginNow(begins) {
-    const own = leave();
-    await begins();
-    await Talk.settled();
-    if (own === null || !find("answer").hidden) return;
-    before = all().filter(({ key }) => key === own);
-    if (before.length > 0) Answers.put(false, "Your own program is kept. ", make("button", { class: "small main-button", "data-go-on": 0 }, "Go back to it"));
-  }
-
-  const wordsOf = ({ lines, query }) => [lines.length === 0 ? "A program" : `${lines.length} line${lines.length === 1 ? "" : "s"}`, lines.length === 0 ? " for " : " on ", make("code", null, Terms.cut(query.trim() || "no query", 60))];
-
-  /** Of an address that holds a session, only one that has gone on from there is offered. */
-  const goesOn = (session) => session.program === Talk.given.program && session.query === Talk.given.query && session.lines.length > Talk.typedLines().length;
-
-  /** Offers to go on with what was kept, where the page was not opened for something else. */
-  function offer(isOfLink = false) {
-    before = isOfLink ? all().filter((session) => session.key !== name && goesOn(session)) : all();
-    const [last, ...others] = before;
-    if (last === undefined || (location.hash.length > 1 && !isOfLink)) return;
-    const isOne = last.lines.length < 2, them = isOne ? "it" : "them";
-    const also = others.flatMap((session, index) => [index === 0 ? " Also kept: " : ", ", make("button", { class: "link", "data-go-on": index + 1 }, ...wordsOf(session))]);
-    Answers.put(false, ...wordsOf(last), isOne ? " is" : " are", " kept from the last time. ", make("button", { class: "small main-button", id: "go-on", "data-go-on": 0 }, `Go on with ${them}`), " ",
-      make("button", { class: "small", id: "forget" }, `Forget ${them}`), ...also);
-  }
-
-  function forget() {
-    try {
-      localStorage.removeItem(before[0].key);
-    } catch {
-      setKept(false);
-    }
-    Answers.hide();
-    offer();
-  }
-
-  /** Plays a session that was kept, and puts there what was typed since its Start. */
-  async function goOn(index) {
-    const { program, query, history, lines, draft, key, of, looked } = before[index];
-    leave();
-    Deeds.begin({ program, query, history });
-    if (lines.length > 0) Talk.sendAll(lines);
-    await Talk.settled();
-    if (!isOfGiven(before[index])) return;
-    if (draft !== null) Deeds.setTyped(draft);
-    Trail.takeUp(looked);
-    source = key;
-    origin = of;
-    keep();
-  }
-
-  /** The address of the page with all of the session in it, or in words by how much it is too long. */
-  async function address() {
-    const text = linesText(), told = (number) => number.toLocaleString("en"), { MOST, MOST_READ, MOST_LINES } = Links;
-    const isLong = text.length > MOST_READ || Talk.entries.length > MOST_LINES;
-    if (isLong) return { tooLong: `${told(MOST_READ)} bytes and ${told(MOST_LINES)} lines at most` };
-    const looked = Trail.saved(), notes = looked === null ? "" : `&n=${await Links.pack(JSON.stringify(looked))}`;
-    const letters = `${await Links.pack(text)}${notes}`;
-    if (letters.length > MOST) return { tooLong: `${told(letters.length)} letters, ${told(MOST)} at most` };
-    return { link: `${location.href.split("#")[0]}#s=${letters}` };
-  }
-
-  /** Puts the session into the address, and shows it to be copied. */
-  async function makeLink() {
-    if (!Links.isThere()) {
-      Answers.put(true, "This browser cannot compress a text for a link. Save writes the session as a file.");
-      return;
-    }
-    const { link, tooLong } = await address();
-    if (link === undefined) {
-      Answers.put(true, `This session is too long for a link (${tooLong}). Save writes it as a file.`);
-      return;
-    }
-    history.replaceState(null, "", link);
-    const field = make("input", { readonly: true, value: link, id: "link-text", "aria-label": "The link" });
-    Answers.put(false, "The address holds program, query and lines now: ", field, " ", make("button", { class: "small", id: "copy-link" }, "Copy"), Deeds.isChanged() ? " What you typed since Start is not in it." : "");
-    field.select();
-  }
-
-  async function copyLink() {
-    const field = find("link-text");
-    field.select();
-    try {
-      await navigator.clipboard.writeText(field.value);
-      find("copy-link").textContent = "Copied";
-    } catch {
-      find("copy-link").textContent = "Copy it by hand";
-    }
-  }
-
-  function listenToAll() {
-    for (const field of ["program", "query"]) find(field).addEventListener("input", keepSoon);
-    window.addEventListener("pagehide", keep);
-  }
-
-  return { keep, keepSoon, leaveDone, offer, goOn, forget, beginOther, goWithout, makeLink, copyLink, listenToAll };
-})();
-
-export default Keeping;
+export { keep, keepSoon, leaveDone, wayBack, offer, goOn, forget, beginOther, goWithout, makeLink, copyLink, listenToAll };

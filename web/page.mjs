@@ -1,545 +1,524 @@
 // Starts the page, and says what clicks and keys do. Whatever changes the run is a line that is typed at the console.
-import Replies from "../front/protocol/replies.mjs";
-import SessionText from "../front/protocol/session_text.mjs";
-import Graph from "../front/run/graph.mjs";
-import Lanes from "../front/run/lanes.mjs";
-import Terms from "../front/run/terms.mjs";
-import Causes from "../front/text/causes.mjs";
-import Answers from "./answers.mjs";
+import * as Replies from "../front/protocol/replies.mjs";
+import * as SessionText from "../front/protocol/session_text.mjs";
+import * as Graph from "../front/run/graph.mjs";
+import * as Lanes from "../front/run/lanes.mjs";
+import * as Answers from "./answers.mjs";
 import Beside from "./beside.mjs";
-import Blaming from "./blaming.mjs";
+import * as Blaming from "./blaming.mjs";
 import Canvas from "./canvas.mjs";
+import * as Choosing from "./choosing.mjs";
 import Deeds from "./deeds.mjs";
-import Elements from "./elements.mjs";
-import ExampleNotes from "./example_notes.mjs";
-import Files from "./files.mjs";
-import Guide from "./guide.mjs";
-import Keeping from "./keeping.mjs";
-import Links from "./links.mjs";
-import Looking from "./looking.mjs";
-import Menus from "./menus.mjs";
-import Overview from "./overview.mjs";
-import Paper from "./paper.mjs";
-import Panels from "./panels.mjs";
-import Program from "./program.mjs";
-import Resting from "./resting.mjs";
-import Result from "./result.mjs";
-import Selecting from "./selecting.mjs";
+import { find, make, withCode } from "./elements.mjs";
+import * as ExampleNotes from "./example_notes.mjs";
+import * as Files from "./files.mjs";
+import * as Fitting from "./fitting.mjs";
+import * as Guide from "./guide.mjs";
+import * as Keeping from "./keeping.mjs";
+import * as Links from "./links.mjs";
+import * as Looking from "./looking.mjs";
+import * as Menus from "./menus.mjs";
+import OnScreen from "./on_screen.mjs";
+import * as Overview from "./overview.mjs";
+import * as Paper from "./paper.mjs";
+import * as Panels from "./panels.mjs";
+import * as Program from "./program.mjs";
+import * as Refusing from "./refusing.mjs";
+import * as Reloading from "./reloading.mjs";
+import * as Resting from "./resting.mjs";
+import * as Result from "./result.mjs";
+import * as Selecting from "./selecting.mjs";
 import Shown from "./shown.mjs";
-import Store from "./store.mjs";
-import Talk from "./talk.mjs";
-import Trail from "./trail.mjs";
-import Walking from "./walking.mjs";
-import Welcome from "./welcome.mjs";
+import * as Store from "./store.mjs";
+import State from "./state.mjs";
+import * as Talk from "./talk.mjs";
+import * as Trail from "./trail.mjs";
+import * as Walking from "./walking.mjs";
+import * as Welcome from "./welcome.mjs";
+import * as Why from "./why.mjs";
 
-const Page = (() => {
-  const { find, make, withCode } = Elements;
-  const FIRST_EXAMPLE = "quicksort", FIRST_QUERY = "quicksort([3,1,2],R)";
-  const typedBefore = [];
-  let recall = 0;
+const FIRST_EXAMPLE = "quicksort", FIRST_QUERY = "quicksort([3,1,2],R)";
+const typedBefore = [];
+let recall = 0;
 
-  const HELP = [
-    ["Picture", "A line is a process, and time goes right. `●` reduces a goal by a clause, `◆` binds a variable, `■` computes, a flag is an input. A grey line leads from a step to a goal that it made, a blue arrow to a step that read what it bound; an orange dashed one says that this woke a goal that waited. A green ring is a goal that is ready, a dashed one waits, and its dotted arc points at a goal that has its variable. A hexagon is an ask, which no goal was there for; a line of dashes and dots leads to it from a step that made a variable that it names."],
-    ["Click", "a step, a goal, a variable, or something that was taken back, and choose. Each click types a line at the console, below, where you see what it is called. A click on a clause of the program lights its steps. `Add goals` adds some while the program runs: write them as a query has them."],
-    ["Names", "A variable has the program's name, with the number of its step below the line: `Rel₆` is Rel of step 6. Point at it to see its number, and click it to type that at the console."],
-    ["Keys", "`s` steps the first goal that is ready, `r` runs, `u` takes back the last step, `a` asks for more goals, `t` sorts the steps by process, `d` changes between recorded order and chains of causes, `f` finds steps, `y` and `n` answer a question, `b` takes the last answer back, `p` goes back to what you looked at before, `/` goes to the console, `Escape` closes, and `Ctrl` `Enter` in the program starts it. In the picture `←` `→` go from step to step, `↑` `↓` to a cause or an effect, `Enter` opens what can be done."],
-    ["Move and size", "Drag the picture, or turn the wheel over it, to move it; with `Ctrl` the wheel sizes it. Drag with `Shift`, in the picture or in the strip above it, to select an area: its steps are lit and counted by predicate. `Shift` `←` `→` do so from the chosen step on."],
-    ["Why?", "Click a value that is wrong, or a goal that has failed or waits, then `Find the wrong clause`. You are asked about a few calls: was what each gave right, for what it was given? Then the clause that is wrong is marked, and its step can be taken back."],
-    ["Kept", "This browser keeps the last five sessions of your own programs, and what you typed since Start: after a reload the page offers them. `Link` puts program, query and lines into the address. Nothing leaves this browser by itself."],
-    ["Texts", "`Save` keeps program, query and all lines in a text; `Open` plays it again. It opens histories (as `save` writes them) and programs, too. All that is described in docs/LANGUAGE.md and docs/FORMATS.md."],
-  ];
+const HELP = [
+  ["Picture", "A line is a process, and time goes right. `●` reduces a goal by a clause, `◆` binds a variable, `■` computes, a flag is an input. A grey line leads from a step to a goal that it made, a blue arrow to a step that read what it bound; an orange dashed one says that this woke a goal that waited. A green ring is a goal that is ready, a dashed one waits, and its dotted arc points at a goal that has its variable. A hexagon is an ask, which no goal was there for; a line of dashes and dots leads to it from a step that made a variable that it names."],
+  ["Click", "a step, a goal, a variable, or something that was taken back, and choose. Each click types a line at the console, below, where you see what it is called. A click on a clause of the program lights its steps. `Add goals` adds some while the program runs: write them as a query has them."],
+  ["Names", "A variable has the program's name, with the number of its step below the line: `Rel₆` is Rel of step 6. Point at it to see its number, and click it to type that at the console."],
+  ["Keys", "`s` steps the first goal that is ready, `r` runs, `u` takes back the last step, `a` asks for more goals, `t` sorts the steps by process, `d` changes between recorded order and chains of causes, `f` finds steps, `y` and `n` answer a question, `b` takes the last answer back, `p` goes back to what you looked at before, `/` goes to the console, `Escape` closes, and `Ctrl` `Enter` in the program starts it. In the picture `←` `→` go from step to step, `↑` `↓` to a cause or an effect, `Enter` opens what can be done."],
+  ["Move and size", "Drag the picture, or turn the wheel over it, to move it; with `Ctrl` the wheel sizes it. Drag with `Shift`, in the picture or in the strip above it, to select an area: its steps are lit and counted by predicate. `Shift` `←` `→` do so from the chosen step on."],
+  ["Mend", "Change the program while a run stands: `Reload`, beside `Run`, says how many steps stay under the new text, and goes on with them. Those that go are ringed while you point at it."],
+  ["Why?", "Click a value that is wrong, or a goal that has failed or waits, then `Find the wrong clause`. You are asked about a few calls: was what each gave right, for what it was given? Then the clause that is wrong is marked, and its step can be taken back. `Why?` tells who waits for whom, and which step let a variable go: a red cross stands there. `Other choices` tells what a value would be, had a step gone by another clause."],
+  ["Kept", "This browser keeps the last five sessions of your own programs, and what you typed since Start: after a reload the page offers them. `Link` puts program, query and lines into the address. Nothing leaves this browser by itself."],
+  ["Texts", "`Save` keeps program, query and all lines in a text; `Open` plays it again. It opens histories (as `save` writes them) and programs, too. All that is described in docs/LANGUAGE.md and docs/FORMATS.md."],
+];
 
-  const typed = () => ({ program: find("program").value, query: find("query").value, history: "" });
+const typed = () => ({ program: find("program").value, query: find("query").value, history: "" });
 
-  /** Whether program or query were changed since Start. */
-  const isChanged = () => find("program").value !== Talk.given.program || find("query").value !== Talk.given.query.replace(/[\r\n]/g, "");
+/** Whether program or query were changed since Start. */
+const isChanged = () => find("program").value !== State.given.program || find("query").value !== State.given.query.replace(/[\r\n]/g, "");
 
-  /** Puts texts into the fields that are not started yet. */
-  function setTyped({ program, query }) {
-    Program.setText(program);
-    find("query").value = query;
-    Panels.showNote();
-  }
+/** Puts texts into the fields that are not started yet. */
+function setTyped({ program, query }) {
+  Program.setText(program);
+  find("query").value = query;
+  Panels.showNote();
+  Reloading.follow();
+}
 
-  /** Starts the texts in the fields. */
-  function startTyped() {
-    Guide.end();
-    begin(typed());
-    if (document.body.dataset.tab === "program") showTab("run");
-  }
+/** Starts the texts in the fields. */
+function startTyped() {
+  Guide.end();
+  begin(typed());
+  if (document.body.dataset.tab === "program") showTab("run");
+}
 
-  /** Begins a session, and shows its texts. */
-  function begin({ program: text, ...others }) {
-    const given = { ...others, program: text.replace(/\r\n?/g, "\n") }; // as the field holds it
-    const example = EXAMPLES.find((other) => other.program === given.program);
-    standing = example ? example.name : "";
-    find("examples").value = standing;
-    Panels.showLookAt(example && !Guide.isOn() ? ExampleNotes.read(example) : null);
-    Program.setText(given.program);
-    find("query").value = given.query;
-    Menus.close();
-    Shown.chosen = null;
-    Keeping.leaveDone();
-    Talk.start({ program: given.program, query: given.query, history: given.history || "" });
-  }
+/**
+ * Begins a session, and shows its texts.
+ * @param {import("./types").Texts} texts
+ */
+function begin({ program: text, ...others }) {
+  const given = { ...others, program: text.replace(/\r\n?/g, "\n") }; // as the field holds it
+  Program.setText(given.program);
+  find("query").value = given.query;
+  Menus.close();
+  Shown.chosen = null;
+  Keeping.leaveDone();
+  Talk.start({ program: given.program, query: given.query, history: given.history || "" });
+}
 
-  const MOST_NOTED = 200000; // letters: of a longer program no notes are made, and no cause of a refusal is looked for
+function chooseExample(name, query) {
+  const example = EXAMPLES.find((other) => other.name === name);
+  begin({ program: example.program, query: query || ExampleNotes.read(example).query });
+}
 
-  /** Where program or query was refused, it says why, and the place is selected in the text; else what is noted on the program. */
-  function showCause() {
-    const { program, query } = Talk.given, [, name, refusal] = /^(program|query): (F\d+ .*)$/.exec(Talk.refusal) || [];
-    if (name === undefined) {
-      showNotes(program);
-      return;
-    }
-    const given = { text: name === "program" ? program : query, which: name, isQuery: name === "query", program };
-    const isLong = program.length + query.length > MOST_NOTED, cause = isLong ? Answers.placeIn(refusal) : Causes.causeOf(refusal, given);
-    const parts = isLong ? Answers.partsOfLong(refusal) : Answers.partsOfRefusal(refusal, given, cause);
-    if (cause) Program.showPlace(name, cause.line, Causes.letterOf(cause, given.text), cause.length, cause.title);
-    if (parts.length > 0) Answers.put(true, ...parts);
-  }
+let standing = ""; // the example that stands here, by name
+let isPassing = false; // whether keys go through the list of examples, of which the browser tells each one
 
-  /** Notes on a program that runs, but may not be meant so. */
-  function showNotes(program) {
-    const notes = Talk.refusal || program.length > MOST_NOTED ? [] : Causes.notesOn(program, "program");
-    if (notes.length === 0) return;
-    const more = notes.length > 1 ? [make("div", { class: "dim" }, `${notes.length - 1} more: ${Terms.cut(notes.slice(1).map((note) => note.title.replace("note: ", "")).join("; "), 200)}`)] : [];
-    Answers.put(false, ...Answers.causeParts(notes[0], program), ...more);
-  }
+function startExample() {
+  const { value } = find("examples");
+  find("examples").value = standing;
+  if (value !== "" && value !== standing) Keeping.beginOther(() => { Guide.end(); chooseExample(value); });
+}
 
-  function chooseExample(name, query) {
-    const example = EXAMPLES.find((other) => other.name === name);
-    begin({ program: example.program, query: query || ExampleNotes.read(example).query });
-  }
+/** An example starts by a click or by Enter. Other keys go through the list, but for those that open it. */
+function onExampleKey(event) {
+  isPassing = !["Enter", " ", "F4"].includes(event.key) && !event.altKey;
+  if (event.key !== "Enter" || find("examples").value === standing) return;
+  event.preventDefault();
+  startExample();
+}
 
-  let standing = ""; // the example that stands here, by name
-  let isPassing = false; // whether keys go through the list of examples, of which the browser tells each one
+const SLICE = 16; // milliseconds that the page shows what has changed without a pause
 
-  function startExample() {
-    const { value } = find("examples");
-    find("examples").value = standing;
-    if (value !== "" && value !== standing) Keeping.beginOther(() => { Guide.end(); chooseExample(value); });
-  }
-
-  /** An example starts by a click or by Enter. Other keys go through the list, but for those that open it. */
-  function onExampleKey(event) {
-    isPassing = !["Enter", " ", "F4"].includes(event.key) && !event.altKey;
-    if (event.key !== "Enter" || find("examples").value === standing) return;
-    event.preventDefault();
-    startExample();
-  }
-
-  const SLICE = 16; // milliseconds that the page shows what has changed without a pause
-
-  /** Gives a pause where a slice of time is over since the last one: each pause may cost a drawing of the page. */
-  function pauses() {
-    let until = performance.now() + SLICE;
-    return async () => {
-      if (performance.now() < until) return;
-      await Talk.pause();
-      until = performance.now() + SLICE;
-    };
-  }
-
-  let wasCount = 0; // steps, before a change
-
-  function redraw() {
-    Canvas.forget();
-    Canvas.draw();
-  }
-
-  function showNewSteps() {
-    if (Talk.run.graph.count > wasCount) Canvas.showThere();
-  }
-
-  /** Lights the steps that went by a clause, and tells how many there are. */
-  function lightClause(number) {
-    const { graph, clauses } = Talk.run, clause = clauses[number - 1], isIn = new Uint8Array(graph.count), places = [];
-    for (let index = 0; index < graph.count; index++) {
-      if (graph.clauses.at(index) !== number) continue;
-      isIn[index] = 1;
-      places.push(index);
-    }
-    Canvas.showFlags(isIn, places.length);
-    Program.markClause(clause);
-    const numberAt = (at) => graph.numbers.at(places[at]);
-    const told = places.length === 1 ? "1 step went by it" : `${places.length.toLocaleString("en")} steps went by it`;
-    const parts = places.length === 0 ? ["no step went by it."] : [`${told} (lit). `, Walking.along(places.length, numberAt)];
-    Answers.put(false, `Clause ${number} of ${clause.predicate}: `, ...parts);
-  }
-
-  function leaveWelcome() {
-    Welcome.hide();
-  }
-
-  function tellCause(what) {
-    if (what === "start") showCause();
-  }
-
-  /** What shows a change, in its order. */
-  const parts = () => [
-    leaveWelcome, Overview.follow, Beside.follow, Result.show, redraw, showNewSteps, Looking.follow, ...Panels.PARTS, Trail.follow, Blaming.show, Guide.onChange, tellCause,
-    Keeping.keep,
-  ];
-
-  /** Shows what has changed, in parts between which the page may pause. A fault in one is thrown after the others. */
-  async function onChange(what) {
-    if (what === "fault") Panels.showNote();
-    if (what === "busy" || what === "idle") Panels.showBusy();
-    if (!["start", "again", "lines"].includes(what)) return;
-    if (what !== "lines") Shown.chosen = null;
-    wasCount = Overview.wasCount;
-    const pause = pauses(), faults = [];
-    for (const part of parts()) {
-      await pause();
-      try {
-        part(what);
-      } catch (error) {
-        faults.push(error);
-      }
-    }
-    if (faults.length > 0) throw faults[0];
-  }
-
-  function showTab(name) {
-    document.body.dataset.tab = name;
-    for (const button of document.querySelectorAll(".tabs button")) button.setAttribute("aria-pressed", String(button.dataset.tab === name));
-    if (name === "run" && Talk.session) Canvas.draw();
-  }
-
-  function setOrder(by) {
-    Shown.by = by;
-    find("by-record").setAttribute("aria-pressed", String(by === "record"));
-    find("by-depth").setAttribute("aria-pressed", String(by === "depth"));
-    Canvas.draw();
-  }
-
-  function setTheme(theme) {
-    Shown.theme = theme;
-    document.documentElement.dataset.theme = theme;
-    find("theme").textContent = theme === "light" ? "Dark" : "Light";
-    if (Talk.session) Canvas.draw();
-  }
-
-  function setZoom(zoom) {
-    if (Shown.isFit) setFit(false);
-    if (Overview.isOn()) {
-      Overview.zoom(zoom / Shown.zoom);
-      Canvas.draw();
-      return;
-    }
-    Shown.zoom = Math.max(0.25, Math.min(zoom, 8));
-    Canvas.draw();
-  }
-
-  /** All of the run in the window, or as usual again. */
-  function setFit(isFit) {
-    Shown.isFit = isFit;
-    Shown.zoom = 1;
-    find("fit").setAttribute("aria-pressed", String(isFit));
-    if (isFit) Overview.fit();
-    else Overview.size = null;
-    Canvas.draw();
-  }
-
-  /** Puts the record into another lawful order, in which each process goes on as far as it can. */
-  function tidy() {
-    const { laneOf: ofGoal } = Lanes.lanesOf(Talk.run), { byNumber } = Talk.run.graph;
-    const laneOf = (number) => ofGoal.get(byNumber.get(number).goal === null ? String(number) : byNumber.get(number).goal);
-    Talk.send(`arrange ${Graph.tidyOrder(Talk.run.graph, laneOf).join(" ")}`).then(() => setOrder("record"));
-  }
-
-  function showHelp() {
-    const words = HELP.map(([name, text]) => make("p", null, make("b", null, `${name}: `), ...withCode(text)));
-    const close = make("button", { class: "main-button" }, "Close");
-    close.addEventListener("click", () => find("help").close());
-    find("help").replaceChildren(make("h2", null, "ghcdb in a page"), ...words, Welcome.language(), make("p", { class: "dim" }, `${Panels.madeWith()}.`), close);
-    find("help").showModal();
-  }
-
-  /** Empties program and query, to be written. */
-  function writeOwn() {
-    Welcome.hide();
-    setTyped({ program: "", query: "" });
-    showTab("program");
-    find("program").focus();
-  }
-
-  const BUTTONS = {
-    "begin-tour": () => Keeping.beginOther(Guide.begin), "welcome-tour": () => Keeping.beginOther(Guide.begin),
-    "welcome-run": () => { Welcome.hide(); find("leap").click(); }, "welcome-own": writeOwn, "close-welcome": Welcome.hide, "open-help": showHelp, "open-file": () => find("file").click(),
-    "larger-query": () => begin({ ...typed(), query: find("larger-query").value }), "start-anew": startTyped,
-    "save-session": () => Files.saveSession(), "save-picture": () => Menus.open({ picture: true }, find("save-picture")),
-    "ask-more": () => Menus.open({ ask: true }, find("ask-more")),
-    "redo-all": () => Talk.sendAll(Talk.run.shelf.map((step) => `redo ${step.number}`)),
-    stop: () => Talk.stop(), "trail-back": Trail.back,
-    theme: () => setTheme(Shown.theme === "light" ? "dark" : "light"), tidy,
-    "by-record": () => setOrder("record"), "by-depth": () => setOrder("depth"),
-    smaller: () => setZoom(Shown.zoom / 1.4), larger: () => setZoom(Shown.zoom * 1.4), fit: () => setFit(!Shown.isFit),
-    "keep-run": () => Beside.keep(), "drop-run": () => Beside.drop(), "swap-runs": () => Beside.swap(),
-    play: () => Looking.play(), "show-all-steps": () => Looking.showNow(),
-    "lanes-alone": () => Panels.showLanesAlone(), "lanes-all": () => { Overview.only = null; Canvas.draw(); Panels.showNote(); },
-    wrap: () => Program.setWrap(!Program.isWrapped()), again: () => Talk.again(), "close-answer": () => Answers.hide(),
-    "go-without": () => Keeping.goWithout(),
-    "blame-light": () => Blaming.lightAgain(), "blame-close": () => Blaming.close(), "blame-alone": () => Blaming.tryAlone(), "blame-return": () => Blaming.goBack(),
-    forget: () => Keeping.forget(), "make-link": () => Keeping.makeLink(), "copy-link": () => Keeping.copyLink(),
+/** Gives a pause where a slice of time is over since the last one: each pause may cost a drawing of the page. */
+function pauses() {
+  let until = performance.now() + SLICE;
+  return async () => {
+    if (performance.now() < until) return;
+    await Talk.pause();
+    until = performance.now() + SLICE;
   };
+}
 
-  /** What stands under a click, as what a menu can be opened of. */
-  function choiceAt(element) {
-    const found = element.closest("[data-step], [data-goal], [data-taken], [data-variable]");
-    if (!found) return null;
-    const { step, goal, taken, variable } = found.dataset;
-    if (step !== undefined) return { found, chosen: { step: Number(step) } };
-    if (goal !== undefined) return { found, chosen: { goal } };
-    return { found, chosen: taken !== undefined ? { taken: Number(taken) } : { variable } };
+/** Names the example that stands here, where one does, with what its comment says. */
+function nameExample(what) {
+  if (what !== "start") return;
+  const example = EXAMPLES.find((other) => other.program === State.given.program);
+  standing = example ? example.name : "";
+  find("examples").value = standing;
+  Panels.showLookAt(example && !Guide.isOn() ? ExampleNotes.read(example) : null);
+}
+
+let wasCount = 0; // steps, before a change
+
+function redraw() {
+  Canvas.forget();
+  Fitting.endLit();
+  Canvas.draw();
+}
+
+function showNewSteps() {
+  if (State.run.graph.count > wasCount) Canvas.showThere();
+}
+
+/** Lights the steps that went by a clause, and tells how many there are. */
+function lightClause(number) {
+  const { graph, clauses } = State.run, clause = clauses[number - 1], isIn = new Uint8Array(graph.count), places = [];
+  for (let index = 0; index < graph.count; index++) {
+    if (graph.clauses.at(index) !== number) continue;
+    isIn[index] = 1;
+    places.push(index);
   }
+  Canvas.showFlags(isIn, places.length);
+  Program.markClause(clause);
+  const numberAt = (at) => graph.numbers.at(places[at]);
+  const told = places.length === 1 ? "1 step went by it" : `${places.length.toLocaleString("en")} steps went by it`;
+  const parts = places.length === 0 ? ["no step went by it."] : [`${told} (lit). `, Walking.along(places.length, numberAt)];
+  Answers.put(false, `Clause ${number} of ${clause.predicate}: `, ...parts);
+}
 
-  /** Chooses a step, and brings it into sight. */
-  function goToStep(step) {
-    if (!Talk.run.graph.byNumber.has(step)) return;
-    Menus.close();
-    if (document.body.dataset.tab === "console") showTab("run");
-    Canvas.choose({ step });
-    Canvas.scrollTo({ step });
-  }
+function leaveWelcome() {
+  Welcome.hide();
+}
 
-  /** Chooses a goal that is there, and opens what can be done with it; of one that is gone the step that took it. */
-  function goToGoal(goal) {
-    const chosen = { goal }, taken = Talk.run.graph.consumerOf(goal);
-    Menus.close();
-    if (taken !== undefined && taken !== Graph.NONE) {
-      goToStep(Talk.run.graph.numbers.at(taken));
-      return;
-    }
-    Canvas.choose(chosen);
-    Canvas.scrollTo(chosen);
-    if (Canvas.elementOf(chosen)) Menus.open(chosen, Canvas.elementOf(chosen));
-  }
+/** Where program or query was refused, it says why; else what is noted on the program. */
+function tellCause(what) {
+  if (what !== "start" || Refusing.show(State.given, State.refusal)) return;
+  const notes = State.refusal ? [] : Refusing.notes(State.given.program);
+  if (notes.length > 0) Answers.put(false, ...notes);
+}
 
-  function explainPart(element) {
-    Store.explain(element.dataset.root, element.dataset.path.split(".").filter(Boolean).map(Number));
-    element.classList.add("told");
-  }
+/** What shows a change, in its order. */
+const parts = () => [
+  nameExample, leaveWelcome, OnScreen.follow, Beside.follow, Result.show, redraw, showNewSteps, Looking.follow, ...Panels.PARTS, Trail.follow, Why.show, Blaming.show, Choosing.follow, Guide.onChange,
+  tellCause, Reloading.follow, Fitting.showLit, Keeping.keep,
+];
 
-  /** Types the number of a variable behind what stands in the console's line. */
-  function typeNumber(element) {
-    const line = find("line"), before = line.value.trimEnd();
-    showTab("console");
-    line.value = before === "" ? element.dataset.types : `${before} ${element.dataset.types}`;
-    line.focus();
-  }
-
-  const closing = (does) => (element) => { Menus.close(); does(element); };
-
-  /** What a click does, by what it hits: the first of these that fits. */
-  const CLICKS = [
-    ["[data-line]:not(:disabled)", closing(({ dataset }) => Talk.send(dataset.line))],
-    ["[data-types]", closing(typeNumber)],
-    ["[data-root]", closing(explainPart)],
-    ["[data-keep]", ({ dataset }) => Resting.askKeep(dataset.keep)],
-    ["[data-go-goal]", ({ dataset }) => goToGoal(dataset.goGoal)],
-    ["[data-try]", closing(({ dataset }) => Beside.tryClause(...dataset.try.split(" ").map(Number)))],
-    ["[data-kept]", closing(({ dataset }) => Beside.onClick(Number(dataset.kept)))],
-    ["[data-fold]", closing(({ dataset }) => Looking.fold(dataset.fold, true))],
-    ["[data-unfold]", closing(({ dataset }) => Looking.fold(dataset.unfold, false))],
-    ["[data-note-away]", ({ dataset }) => Trail.setNote(Number(dataset.noteAway), "")],
-    ["[data-go-on]", ({ dataset }) => Keeping.goOn(Number(dataset.goOn))],
-    ["[data-clause]", closing(({ dataset }) => lightClause(Number(dataset.clause)))],
-    ["[data-visit]", closing(({ dataset }) => Canvas.visit(Number(dataset.visit)))],
-    ["[data-goto]", ({ dataset }) => goToStep(Number(dataset.goto))],
-    ["button[data-tab]", closing(({ dataset }) => showTab(dataset.tab))],
-    [Object.keys(BUTTONS).map((id) => `button#${id}`).join(","), closing(({ id }) => BUTTONS[id]())],
-  ];
-
-  function onClick(event) {
-    const { target } = event, button = target.closest("button");
-    if (!target.isConnected) return; // the button has put something else in its own place
-    for (const [hit, does] of CLICKS) {
-      const found = target.closest(hit);
-      if (found) return does(found);
-    }
-    if (button && Guide.onClick(button.id)) return undefined;
-    if (target.closest("#menu") && !target.closest("[data-close]")) return undefined;
-    return chooseAt(target);
-  }
-
-  /** Chooses what was clicked, and opens what can be done with it. */
-  function chooseAt(target) {
-    const choice = choiceAt(target);
-    Menus.close();
-    if (choice) {
-      if (choice.chosen.variable === undefined) Canvas.choose(choice.chosen.taken === undefined ? choice.chosen : null);
-      Menus.open(choice.chosen, choice.found);
-    } else if (target.closest("#canvas")) Canvas.choose(null);
-  }
-
-  const KEYS = {
-    s: () => find("step").click(), r: () => find("leap").click(), u: () => find("undo-last").click(), t: () => find("tidy").click(),
-    y: () => Blaming.press("right"), n: () => Blaming.press("wrong"), b: () => Blaming.press("back"), p: Trail.back,
-    f: () => { showTab("run"); find("search").focus(); },
-    a: () => { showTab("run"); find("ask-more").click(); }, d: () => setOrder(Shown.by === "record" ? "depth" : "record"), "/": () => { showTab("console"); find("line").focus(); }, "?": showHelp,
-  };
-
-  function onKey(event) {
-    if (event.key === "Enter" && (event.ctrlKey || event.metaKey) && event.target === find("program")) find("start").requestSubmit();
-    if (event.ctrlKey || event.metaKey || event.altKey || find("help").open) return;
-    if (event.key === "Escape" && !find("busy").hidden && Talk.busy && Talk.busy.canStop) {
-      Talk.stop();
-      return;
-    }
-    if (event.key === "Escape" && event.target === find("line")) find("line").blur();
-    if (event.key === "Escape") {
-      const wasOpen = !find("menu").hidden;
-      Menus.close();
-      if (wasOpen) find("canvas").focus();
-      else Canvas.choose(null);
-      return;
-    }
-    if (event.key === "Tab" && event.target.closest("#menu")) Menus.onTab(event);
-    if (event.target.closest("input, textarea, select")) return;
-    const does = KEYS[event.key], isInCanvas = event.target === find("canvas");
-    if (isInCanvas && event.shiftKey && Selecting.onKey(event.key)) {
-      event.preventDefault();
-      return;
-    }
-    if ((isInCanvas && Canvas.onKey(event.key)) || does) event.preventDefault();
-    if (does) does();
-  }
-
-  /** The arrows up and down bring back lines that were typed before. */
-  function onLineKey(event) {
-    if (event.key !== "ArrowUp" && event.key !== "ArrowDown") return;
-    event.preventDefault();
-    recall = Math.max(0, Math.min(recall + (event.key === "ArrowUp" ? -1 : 1), typedBefore.length));
-    find("line").value = typedBefore[recall] || "";
-  }
-
-  function onType(event) {
-    event.preventDefault();
-    const line = find("line").value;
-    if (line.trim() === "") return;
-    typedBefore.push(line);
-    recall = typedBefore.length;
-    find("line").value = "";
-    Talk.send(line);
-  }
-
-  /**
-   * The console's drawer opens where somebody writes a line, or comes into it by a key; it stays as it is while one is
-   * within.
-   */
-  function listenToDrawer() {
-    const talk = find("talk");
-    talk.addEventListener("focusin", ({ target }) => {
-      if (target === find("line") || target.matches(":focus-visible")) talk.classList.add("open");
-    });
-    talk.addEventListener("focusout", ({ relatedTarget }) => {
-      if (!talk.contains(relatedTarget)) talk.classList.remove("open");
-    });
-  }
-
-  function listenToAll() {
-    document.addEventListener("click", onClick);
-    listenToDrawer();
-    document.addEventListener("keydown", onKey);
-    find("type").addEventListener("submit", onType);
-    find("line").addEventListener("keydown", onLineKey);
-    find("start").addEventListener("submit", (event) => { event.preventDefault(); startTyped(); });
-    find("examples").addEventListener("keydown", onExampleKey);
-    find("examples").addEventListener("change", () => { if (!isPassing) startExample(); });
-    find("examples").addEventListener("pointerdown", () => { isPassing = false; });
-    find("examples").addEventListener("blur", () => { find("examples").value = standing; });
-    for (const field of ["program", "query"]) find(field).addEventListener("input", Panels.followText);
-    Files.listenToAll();
-    find("canvas").addEventListener("scroll", () => {
-      Canvas.stayInSight();
-      if (!Canvas.isOwnScroll()) Menus.close();
-    }, { passive: true });
-    find("canvas").addEventListener("mouseover", (event) => Canvas.addTitle(event.target));
-    window.addEventListener("resize", () => { if (Talk.session) Canvas.draw(); });
-    Overview.listenToAll();
-    Program.listenToAll();
-    Looking.listenToAll();
-    Selecting.listenToAll();
-    Trail.listenToAll();
-    Paper.listenToAll();
-    Keeping.listenToAll();
-    window.addEventListener("hashchange", () => Keeping.beginOther(() => { Guide.end(); return fromAddress(); }));
-    setInterval(() => { if (Talk.busy) Panels.showBusy(); }, 100);
-    Talk.listen(onChange);
-  }
-
-  /** The session in the letters of an address; null, and in words why, where none is read. */
-  async function readLink(letters) {
-    const none = { session: null, why: "The address holds no session that can be read." };
-    const tooLong = ({ message }) => `The session in the address is not read: ${message}. Open takes one from a file.`;
+/** Shows what has changed, in parts between which the page may pause. A fault in one is thrown after the others. */
+async function onChange(what) {
+  if (what === "fault") Panels.showNote();
+  if (what === "busy" || what === "idle") Panels.showBusy();
+  if (!["start", "again", "lines"].includes(what)) return;
+  if (what !== "lines") Shown.chosen = null;
+  wasCount = OnScreen.wasCount;
+  const pause = pauses(), faults = [];
+  for (const part of parts()) {
+    await pause();
     try {
-      const session = SessionText.read(await Links.unpack(letters), () => undefined);
-      if (session === null || Replies.hasHole(session.history)) return none;
-      Links.testLines(session);
-      return { session };
+      part(what);
     } catch (error) {
-      return error instanceof RangeError ? { session: null, why: tooLong(error) } : none;
+      faults.push(error);
     }
   }
+  if (faults.length > 0) throw faults[0];
+}
 
-  /** The trail and the notes in the letters of an address; null where there are none, or none can be read. */
-  async function readNotes(letters) {
-    try {
-      return letters === null ? null : JSON.parse(await Links.unpack(letters));
-    } catch {
-      return null;
-    }
+function showTab(name) {
+  document.body.dataset.tab = name;
+  for (const button of document.querySelectorAll(".tabs button")) button.setAttribute("aria-pressed", String(button.dataset.tab === name));
+  if (name === "run" && State.session) Canvas.draw();
+}
+
+function setOrder(by) {
+  Shown.by = by;
+  find("by-record").setAttribute("aria-pressed", String(by === "record"));
+  find("by-depth").setAttribute("aria-pressed", String(by === "depth"));
+  Canvas.draw();
+}
+
+function setTheme(theme) {
+  Shown.theme = theme;
+  document.documentElement.dataset.theme = theme;
+  find("theme").textContent = theme === "light" ? "Dark" : "Light";
+  if (State.session) Canvas.draw();
+}
+
+/** Puts the record into another lawful order, in which each process goes on as far as it can. */
+function tidy() {
+  const { laneOf: ofGoal } = Lanes.lanesOf(State.run), { byNumber } = State.run.graph;
+  const laneOf = (number) => ofGoal.get(byNumber.get(number).goal === null ? String(number) : byNumber.get(number).goal);
+  Talk.send(`arrange ${Graph.tidyOrder(State.run.graph, laneOf).join(" ")}`).then(() => setOrder("record"));
+}
+
+function showHelp() {
+  const words = HELP.map(([name, text]) => make("p", null, make("b", null, `${name}: `), ...withCode(text)));
+  const close = make("button", { class: "main-button" }, "Close");
+  close.addEventListener("click", () => find("help").close());
+  find("help").replaceChildren(make("h2", null, "ghcdb in a page"), ...words, Welcome.language(), make("p", { class: "dim" }, `${Panels.madeWith()}.`), close);
+  find("help").showModal();
+}
+
+/** Empties program and query, to be written. */
+function writeOwn() {
+  Welcome.hide();
+  setTyped({ program: "", query: "" });
+  showTab("program");
+  find("program").focus();
+}
+
+const BUTTONS = {
+  "begin-tour": () => Keeping.beginOther(Guide.begin), "welcome-tour": () => Keeping.beginOther(Guide.begin),
+  "welcome-run": () => { Welcome.hide(); find("leap").click(); }, "welcome-own": writeOwn, "close-welcome": Welcome.hide, "open-help": showHelp, "open-file": () => find("file").click(),
+  "larger-query": () => begin({ ...typed(), query: find("larger-query").value }), "start-anew": startTyped,
+  "save-session": () => Files.saveSession(), "save-picture": () => Menus.open({ picture: true }, find("save-picture")),
+  "ask-more": () => Menus.open({ ask: true }, find("ask-more")),
+  "redo-all": () => Talk.sendAll(State.run.shelf.map((step) => `redo ${step.number}`)),
+  stop: () => Talk.stop(), "trail-back": Trail.back,
+  theme: () => setTheme(Shown.theme === "light" ? "dark" : "light"), tidy,
+  "by-record": () => setOrder("record"), "by-depth": () => setOrder("depth"),
+  smaller: () => Fitting.size(1 / 1.4), larger: () => Fitting.size(1.4), fit: Fitting.toggle,
+  reload: () => Reloading.reload(), "keep-run": () => Beside.keep(), "drop-run": () => Beside.drop(), "swap-runs": () => Beside.swap(),
+  play: () => Looking.play(), "show-all-steps": () => Looking.showNow(),
+  "lanes-alone": () => Panels.showLanesAlone(), "lanes-all": () => { OnScreen.only = null; Canvas.draw(); Panels.showNote(); },
+  wrap: () => Program.setWrap(!Program.isWrapped()), again: () => Talk.again(), "close-answer": () => Answers.hide(),
+  "go-without": () => Keeping.goWithout(),
+  "why-close": Why.close, "choices-stop": Choosing.stop, "choices-close": Choosing.close,
+  "blame-light": () => Blaming.lightAgain(), "blame-close": () => Blaming.close(), "blame-alone": () => Blaming.tryAlone(), "blame-return": () => Blaming.goBack(),
+  forget: () => Keeping.forget(), "make-link": () => Keeping.makeLink(), "copy-link": () => Keeping.copyLink(),
+};
+
+/** What stands under a click, as what a menu can be opened of. */
+function choiceAt(element) {
+  const found = element.closest("[data-step], [data-goal], [data-taken], [data-variable]");
+  if (!found) return null;
+  const { step, goal, taken, variable } = found.dataset;
+  if (step !== undefined) return { found, chosen: { step: Number(step) } };
+  if (goal !== undefined) return { found, chosen: { goal } };
+  return { found, chosen: taken !== undefined ? { taken: Number(taken) } : { variable } };
+}
+
+/** Chooses a step, and brings it into sight. */
+function goToStep(step) {
+  if (!State.run.graph.byNumber.has(step)) return;
+  Menus.close();
+  if (document.body.dataset.tab === "console") showTab("run");
+  Canvas.choose({ step });
+  Canvas.scrollTo({ step });
+}
+
+/** Chooses a goal that is there, and opens what can be done with it; of one that is gone the step that took it. */
+function goToGoal(goal) {
+  const chosen = { goal }, taken = State.run.graph.consumerOf(goal);
+  Menus.close();
+  if (taken !== undefined && taken !== Graph.NONE) {
+    goToStep(State.run.graph.numbers.at(taken));
+    return;
   }
+  Canvas.choose(chosen);
+  Canvas.scrollTo(chosen);
+  if (Canvas.elementOf(chosen)) Menus.open(chosen, Canvas.elementOf(chosen));
+}
 
-  /** Does what an address asks for, as `#example=primes&query=primes(30,Ps)&lines=leap&by=depth&theme=dark&step=90`; says whether it holds a session. */
-  async function fromAddress() {
-    const asked = new URLSearchParams(location.hash.slice(1)), name = asked.get("example"), letters = asked.get("s");
-    const { session, why } = letters === null ? { session: null } : await readLink(letters);
-    if (session !== null) {
-      begin(session);
-      if (session.lines.length > 0) Talk.sendAll(session.lines);
-      await Talk.settled();
-      Trail.takeUp(await readNotes(asked.get("n")));
-      return true;
-    }
-    const example = EXAMPLES.some((other) => other.name === name) ? name : FIRST_EXAMPLE;
-    if (asked.get("theme")) setTheme(asked.get("theme") === "dark" ? "dark" : "light");
-    if (asked.get("by") === "depth") setOrder("depth");
-    chooseExample(example, asked.get("query") || (name ? "" : FIRST_QUERY));
-    const lines = (asked.get("lines") || "").split(";").filter(Boolean);
-    if (lines.length > 0) Talk.sendAll(lines);
+function explainPart(element) {
+  Store.explain(element.dataset.root, element.dataset.path.split(".").filter(Boolean).map(Number));
+  element.classList.add("told");
+}
+
+/** Types the number of a variable behind what stands in the console's line. */
+function typeNumber(element) {
+  const line = find("line"), before = line.value.trimEnd();
+  showTab("console");
+  line.value = before === "" ? element.dataset.types : `${before} ${element.dataset.types}`;
+  line.focus();
+}
+
+const closing = (does) => (element) => { Menus.close(); does(element); };
+
+/**
+ * What a click does, by what it hits: the first of these that fits.
+ * @type {[string, (element: any) => unknown][]}
+ */
+const CLICKS = [
+  ["[data-line]:not(:disabled)", closing(({ dataset }) => Talk.send(dataset.line))],
+  ["[data-types]", closing(typeNumber)],
+  ["[data-root]", closing(explainPart)],
+  ["[data-keep]", ({ dataset }) => Resting.askKeep(dataset.keep)],
+  ["[data-go-goal]", ({ dataset }) => goToGoal(dataset.goGoal)],
+  ["[data-try]", closing(({ dataset }) => Beside.tryClause(...dataset.try.split(" ").map(Number)))],
+  ["[data-kept]", closing(({ dataset }) => Beside.onClick(Number(dataset.kept)))],
+  ["[data-outcome]", closing(({ dataset }) => Choosing.goThere(...dataset.outcome.split(" ")))],
+  ["[data-choices]", closing(({ dataset }) => Choosing.begin(dataset.choices))],
+  ["[data-fold]", closing(({ dataset }) => Looking.fold(dataset.fold, true))],
+  ["[data-unfold]", closing(({ dataset }) => Looking.fold(dataset.unfold, false))],
+  ["[data-note-away]", ({ dataset }) => Trail.setNote(Number(dataset.noteAway), "")],
+  ["[data-go-on]", ({ dataset }) => Keeping.goOn(Number(dataset.goOn))],
+  ["[data-clause]", closing(({ dataset }) => lightClause(Number(dataset.clause)))],
+  ["[data-visit]", closing(({ dataset }) => Canvas.visit(Number(dataset.visit)))],
+  ["[data-goto]", ({ dataset }) => goToStep(Number(dataset.goto))],
+  ["button[data-tab]", closing(({ dataset }) => showTab(dataset.tab))],
+  [Object.keys(BUTTONS).map((id) => `button#${id}`).join(","), closing(({ id }) => BUTTONS[id]())],
+];
+
+function onClick(event) {
+  const { target } = event, button = target.closest("button");
+  if (!target.isConnected) return; // the button has put something else in its own place
+  for (const [hit, does] of CLICKS) {
+    const found = target.closest(hit);
+    if (found) return does(found);
+  }
+  if (button && Guide.onClick(button.id)) return undefined;
+  if (target.closest("#menu") && !target.closest("[data-close]")) return undefined;
+  return chooseAt(target);
+}
+
+/** Chooses what was clicked, and opens what can be done with it. */
+function chooseAt(target) {
+  const choice = choiceAt(target);
+  Menus.close();
+  if (choice) {
+    if (choice.chosen.variable === undefined) Canvas.choose(choice.chosen.taken === undefined ? choice.chosen : null);
+    Menus.open(choice.chosen, choice.found);
+  } else if (target.closest("#canvas")) Canvas.choose(null);
+}
+
+const KEYS = {
+  s: () => find("step").click(), r: () => find("leap").click(), u: () => find("undo-last").click(), t: () => find("tidy").click(),
+  y: () => Blaming.press("right"), n: () => Blaming.press("wrong"), b: () => Blaming.press("back"), p: Trail.back,
+  f: () => { showTab("run"); find("search").focus(); },
+  a: () => { showTab("run"); find("ask-more").click(); }, d: () => setOrder(Shown.by === "record" ? "depth" : "record"), "/": () => { showTab("console"); find("line").focus(); }, "?": showHelp,
+};
+
+function onKey(event) {
+  if (event.key === "Enter" && (event.ctrlKey || event.metaKey) && event.target === find("program")) find("start").requestSubmit();
+  if (event.ctrlKey || event.metaKey || event.altKey || find("help").open) return;
+  if (event.key === "Escape" && !find("busy").hidden && State.busy && State.busy.canStop) {
+    Talk.stop();
+    return;
+  }
+  if (event.key === "Escape" && event.target === find("line")) find("line").blur();
+  if (event.key === "Escape") {
+    const wasOpen = !find("menu").hidden;
+    Menus.close();
+    if (wasOpen) find("canvas").focus();
+    else Canvas.choose(null);
+    return;
+  }
+  if (event.key === "Tab" && event.target.closest("#menu")) Menus.onTab(event);
+  if (event.target.closest("input, textarea, select")) return;
+  const does = KEYS[event.key], isInCanvas = event.target === find("canvas");
+  if (isInCanvas && event.shiftKey && Selecting.onKey(event.key)) {
+    event.preventDefault();
+    return;
+  }
+  if ((isInCanvas && Canvas.onKey(event.key)) || does) event.preventDefault();
+  if (does) does();
+}
+
+/** The arrows up and down bring back lines that were typed before. */
+function onLineKey(event) {
+  if (event.key !== "ArrowUp" && event.key !== "ArrowDown") return;
+  event.preventDefault();
+  recall = Math.max(0, Math.min(recall + (event.key === "ArrowUp" ? -1 : 1), typedBefore.length));
+  find("line").value = typedBefore[recall] || "";
+}
+
+function onType(event) {
+  event.preventDefault();
+  const line = find("line").value;
+  if (line.trim() === "") return;
+  typedBefore.push(line);
+  recall = typedBefore.length;
+  find("line").value = "";
+  Talk.send(line);
+}
+
+/**
+ * The console's drawer opens where somebody writes a line, or comes into it by a key; it stays as it is while one is
+ * within.
+ */
+function listenToDrawer() {
+  const talk = find("talk");
+  talk.addEventListener("focusin", (/** @type {any} */ { target }) => {
+    if (target === find("line") || target.matches(":focus-visible")) talk.classList.add("open");
+  });
+  talk.addEventListener("focusout", (/** @type {any} */ { relatedTarget }) => {
+    if (!talk.contains(relatedTarget)) talk.classList.remove("open");
+  });
+}
+
+function listenToAll() {
+  document.addEventListener("click", onClick);
+  listenToDrawer();
+  document.addEventListener("keydown", onKey);
+  find("type").addEventListener("submit", onType);
+  find("line").addEventListener("keydown", onLineKey);
+  find("start").addEventListener("submit", (event) => { event.preventDefault(); startTyped(); });
+  find("examples").addEventListener("keydown", onExampleKey);
+  find("examples").addEventListener("change", () => { if (!isPassing) startExample(); });
+  find("examples").addEventListener("pointerdown", () => { isPassing = false; });
+  find("examples").addEventListener("blur", () => { find("examples").value = standing; });
+  for (const field of ["program", "query"]) find(field).addEventListener("input", Panels.followText);
+  Files.listenToAll();
+  find("canvas").addEventListener("scroll", () => {
+    Canvas.stayInSight();
+    if (!Canvas.isOwnScroll()) Menus.close();
+  }, { passive: true });
+  find("canvas").addEventListener("mouseover", (event) => Canvas.addTitle(event.target));
+  window.addEventListener("resize", () => { if (State.session) Canvas.draw(); });
+  Overview.listenToAll();
+  Program.listenToAll();
+  Looking.listenToAll();
+  Selecting.listenToAll();
+  Trail.listenToAll();
+  Paper.listenToAll();
+  Reloading.listenToAll();
+  Keeping.listenToAll();
+  window.addEventListener("hashchange", () => Keeping.beginOther(() => { Guide.end(); return fromAddress(); }));
+  setInterval(() => { if (State.busy) Panels.showBusy(); }, 100);
+  Talk.listen(onChange);
+}
+
+/** The session in the letters of an address; null, and in words why, where none is read. */
+async function readLink(letters) {
+  const none = { session: null, why: "The address holds no session that can be read." };
+  const tooLong = ({ message }) => `The session in the address is not read: ${message}. Open takes one from a file.`;
+  try {
+    const session = SessionText.read(await Links.unpack(letters), () => undefined);
+    if (session === null || Replies.hasHole(session.history)) return none;
+    Links.testLines(session);
+    return { session };
+  } catch (error) {
+    return error instanceof RangeError ? { session: null, why: tooLong(error) } : none;
+  }
+}
+
+/** The trail and the notes in the letters of an address; null where there are none, or none can be read. */
+async function readNotes(letters) {
+  try {
+    return letters === null ? null : JSON.parse(await Links.unpack(letters));
+  } catch {
+    return null;
+  }
+}
+
+/** Does what an address asks for, as `#example=primes&query=primes(30,Ps)&lines=leap&by=depth&theme=dark&step=90`; says whether it holds a session. */
+async function fromAddress() {
+  const asked = new URLSearchParams(location.hash.slice(1)), name = asked.get("example"), letters = asked.get("s");
+  const { session, why } = letters === null ? { session: null, why: undefined } : await readLink(letters);
+  if (session !== null) {
+    begin(session);
+    if (session.lines.length > 0) Talk.sendAll(session.lines);
     await Talk.settled();
-    if (why !== undefined) Answers.put(true, why);
-    goToStep(Number(asked.get("step")));
-    return false;
+    Trail.takeUp(await readNotes(asked.get("n")));
+    return true;
   }
+  const example = EXAMPLES.some((other) => other.name === name) ? name : FIRST_EXAMPLE;
+  if (asked.get("theme")) setTheme(asked.get("theme") === "dark" ? "dark" : "light");
+  if (asked.get("by") === "depth") setOrder("depth");
+  chooseExample(example, asked.get("query") || (name ? "" : FIRST_QUERY));
+  const lines = (asked.get("lines") || "").split(";").filter(Boolean);
+  if (lines.length > 0) Talk.sendAll(lines);
+  await Talk.settled();
+  if (why !== undefined) Answers.put(true, why);
+  goToStep(Number(asked.get("step")));
+  return false;
+}
 
-  Deeds.give({
-    begin, beginOther: Keeping.beginOther, typed, isChanged, setTyped, keepSoon: Keeping.keepSoon,
-    showTab, setOrder, showNow: Looking.showNow, showTime: () => { Result.show(); Panels.showTime(); }, timeRows: Panels.timeRows, showNote: Panels.showNote, showDetail: (chosen) => { Panels.showDetail(chosen); Trail.look(chosen); },
-    draw: Canvas.draw, choose: Canvas.choose, scrollTo: Canvas.scrollTo, markClause: Program.markClause, markLit: Program.markLit, lightClause, size: (by) => setZoom(Shown.zoom * by), selectRange: Selecting.selectRange,
-    resultOf: Result.ofKept, tell: Answers.put, tellSlice: Resting.tell, openMenu: Menus.open, openMenuWith: Menus.openWith, closeMenu: Menus.close,
-    pointAgain: Guide.pointAgain, savePicture: Files.savePicture,
-  });
+Deeds.give({
+  begin, beginOther: Keeping.beginOther, typed, isChanged, setTyped, keepSoon: Keeping.keepSoon,
+  showTab, setOrder, showNow: Looking.showNow, showTime: () => { Result.show(); Panels.showTime(); }, timeRows: Panels.timeRows, showNote: Panels.showNote, showDetail: (chosen) => { Panels.showDetail(chosen); Trail.look(chosen); },
+  draw: Canvas.draw, drawStrip: Overview.draw, goToPart: Overview.goTo,
+  choose: Canvas.choose, scrollTo: Canvas.scrollTo, visit: Canvas.visit, markWay: Canvas.markWay, ring: Canvas.ring,
+  markClause: Program.markClause, markLit: Program.markLit, lightClause, size: Fitting.size, selectRange: Selecting.selectRange,
+  resultOf: Result.ofKept, tell: Answers.put, hideAnswer: Answers.hide, tellSlice: Resting.tell, openMenu: Menus.open, openMenuWith: Menus.openWith, closeMenu: Menus.close,
+  pointAgain: Guide.pointAgain, savePicture: Files.savePicture,
+});
 
-  async function startPage() {
-    if (typeof WebAssembly === "undefined") throw new Error("it has no WebAssembly, in which the program comes; some browsers switch it off in a strict mode");
-    for (const example of EXAMPLES) find("examples").append(make("option", { value: example.name }, example.name));
-    listenToAll();
-    setTheme(window.matchMedia("(prefers-color-scheme: dark)").matches ? "dark" : "light");
-    showTab("run");
-    Keeping.offer(await fromAddress());
-    if (location.hash.length < 2 && find("answer").hidden) Welcome.show();
-    document.body.classList.add("started");
-  }
+async function startPage() {
+  if (typeof WebAssembly === "undefined") throw new Error("it has no WebAssembly, in which the program comes; some browsers switch it off in a strict mode");
+  for (const example of EXAMPLES) find("examples").append(make("option", { value: example.name }, example.name));
+  listenToAll();
+  setTheme(window.matchMedia("(prefers-color-scheme: dark)").matches ? "dark" : "light");
+  showTab("run");
+  Keeping.offer(await fromAddress());
+  if (location.hash.length < 2 && find("answer").hidden) Welcome.show();
+  document.body.classList.add("started");
+}
 
-  startPage().catch((error) => {
-    find("note").hidden = false;
-    find("note").textContent = `ghcdb could not start in this browser: ${error.message}`;
-  });
-  return { begin, typed, isChanged, setTyped, showTab, setOrder };
-})();
+startPage().catch((error) => {
+  find("note").hidden = false;
+  find("note").textContent = `ghcdb could not start in this browser: ${error.message}`;
+});
 
-export default Page;
+export { begin, typed, isChanged, setTyped, showTab, setOrder };

@@ -1,73 +1,69 @@
 // On what a value or a goal rests, as the console's `explain` tells it: it is lit, and kept alone by `keep` when one has seen what would go.
-import Asking from "../front/protocol/asking.mjs";
-import Terms from "../front/run/terms.mjs";
-import Answers from "./answers.mjs";
+import * as Asking from "../front/protocol/asking.mjs";
+import * as Terms from "../front/run/terms.mjs";
 import Canvas from "./canvas.mjs";
 import Deeds from "./deeds.mjs";
-import Elements from "./elements.mjs";
-import GoalRows from "./goal_rows.mjs";
+import * as Elements from "./elements.mjs";
+import * as GoalRows from "./goal_rows.mjs";
 import Shown from "./shown.mjs";
-import Talk from "./talk.mjs";
-import Walking from "./walking.mjs";
+import State from "./state.mjs";
+import * as Talk from "./talk.mjs";
+import * as Walking from "./walking.mjs";
+import { plural } from "../front/text/plural.mjs";
 
-const Resting = (() => {
-  const { find, make } = Elements;
-  const MOST_LINKS = 12;
-  const plural = (count, word) => `${count} ${word}${count === 1 ? "" : "s"}`;
+const { find, make } = Elements;
+const MOST_LINKS = 12;
 
-  /** By which clause a step went, and by which others it could go: each with this run beside. */
-  function choiceParts(others, number) {
-    const [, clauses] = others.find(([step]) => step === number), { clause } = Talk.run.graph.byNumber.get(number);
-    const titleOf = (other) => `keeps this run beside; roll ${number}, then the goal by clause ${other}`;
-    const how = (other) => ({ class: "link", type: "button", "data-try": `${number} ${other}`, title: titleOf(other) });
-    const tries = clauses.flatMap((other, at) => [at > 0 ? ", " : "", make("button", how(other), `try clause ${other}`)]);
-    return [` went by clause ${clause}; `, ...tries, "."];
+/** By which clause a step went, and by which others it could go: each with this run beside. */
+function choiceParts(others, number) {
+  const [, clauses] = others.find(([step]) => step === number), { clause } = State.run.graph.byNumber.get(number);
+  const titleOf = (other) => `keeps this run beside; roll ${number}, then the goal by clause ${other}`;
+  const how = (other) => ({ class: "link", type: "button", "data-try": `${number} ${other}`, title: titleOf(other) });
+  const tries = clauses.flatMap((other, at) => [at > 0 ? ", " : "", make("button", how(other), `try clause ${other}`)]);
+  return [` went by clause ${clause}; `, ...tries, "."];
+}
+
+/** Lights the steps of a reply to `explain`, and tells what stands in front of them, on which clauses it rests, where another one could be chosen, and their goals as a tree. */
+function tell(name, slice) {
+  const { head, numbers, others, last } = slice, rests = Asking.clausesTold(slice, State.run.clauses.length);
+  Canvas.showSlice(numbers, others.map(([step]) => step));
+  const words = `${plural(others.length, "step")} decided, for another clause was open (ringed): `;
+  const walk = () => Walking.along(others.length, (at) => others[at][0], (number) => choiceParts(others, number));
+  const decided = others.length === 0 ? [] : [words, walk(), " "];
+  Deeds.tell(false, make("code", null, `explain ${name}`), " ", ...head.slice(0, MOST_LINKS).flatMap((line, index) => [index > 0 ? ", " : "", ...Elements.linkedLine(Terms.cut(line, 160))]), `, ${last}. `, rests === undefined ? "" : `It ${rests}. `,
+    ...decided, ...(numbers.length > 0 ? [Elements.lineButton("Find the wrong clause", `blame ${name}`, { class: "small" }), GoalRows.of({ numbers, isIn: Shown.slice.isIn }, withGoalText)] : []));
+}
+
+/** Rings all that would go if a value or a goal were to stand alone, and asks once more. */
+async function askKeep(name) {
+  Deeds.closeMenu();
+  const { run } = State, { graph } = run, told = await Talk.askSlice(name);
+  if (told === null || run !== State.run) return;
+  const { numbers, last } = told;
+  if (!/^steps \d/.test(last)) {
+    Deeds.tell(true, make("code", null, `explain ${name}`), " was refused: ", ...Elements.linkedLine(last));
+    return;
   }
+  const isIn = new Uint8Array(graph.count), gone = { size: graph.count - numbers.length, has: (number) => isIn[graph.indexOf(number)] === 0 };
+  for (const number of numbers) isIn[graph.indexOf(number)] = 1;
+  const does = make("button", { class: "danger", disabled: gone.size === 0 }, gone.size === 0 ? "Nothing would go" : `Take back ${gone.size}`);
+  does.addEventListener("click", () => { Deeds.closeMenu(); Talk.send(`keep ${name}`); });
+  Canvas.choose(null);
+  Deeds.openMenuWith([make("div", { class: "menu-title" }, make("b", null, `Keep what ${name} rests on`)),
+    make("p", null, `It rests on ${plural(numbers.length, "step")} of ${graph.count}. The ringed ${plural(gone.size, "step")} would be taken back; redo brings them again.`),
+    make("div", { class: "buttons" }, does, make("button", { "data-close": true }, "Leave it"))], find("store"));
+  Canvas.ring(gone);
+}
 
-  /** Lights the steps of a reply to `explain`, and tells what stands in front of them, on which clauses it rests, where another one could be chosen, and their goals as a tree. */
-  function tell(name, slice) {
-    const { head, numbers, others, last } = slice, rests = Asking.clausesTold(slice, Talk.run.clauses.length);
-    Canvas.showSlice(numbers, others.map(([step]) => step));
-    const words = `${plural(others.length, "step")} decided, for another clause was open (ringed): `;
-    const walk = () => Walking.along(others.length, (at) => others[at][0], (number) => choiceParts(others, number));
-    const decided = others.length === 0 ? [] : [words, walk(), " "];
-    Answers.put(false, make("code", null, `explain ${name}`), " ", ...head.slice(0, MOST_LINKS).flatMap((line, index) => [index > 0 ? ", " : "", ...Elements.linkedLine(Terms.cut(line, 160))]), `, ${last}. `, rests === undefined ? "" : `It ${rests}. `,
-      ...decided, ...(numbers.length > 0 ? [Elements.lineButton("Find the wrong clause", `blame ${name}`, { class: "small" }), GoalRows.of({ numbers, isIn: Shown.slice.isIn }, withGoalText)] : []));
-  }
+/** Hands on the text of the goal that a step took, at once or when the console has told it. */
+async function withGoalText(step, does) {
+  const { run } = State;
+  if (run.texts.has(step.goal)) does(run.texts.get(step.goal));
+  if (step.goal === null || run.texts.has(step.goal)) return;
+  const reply = await Talk.ask(`goal ${step.number}`), text = reply === null ? undefined : Asking.textOfGoal(reply);
+  if (text === undefined) return;
+  run.texts.set(step.goal, text);
+  does(text);
+}
 
-  /** Rings all that would go if a value or a goal were to stand alone, and asks once more. */
-  async function askKeep(name) {
-    Deeds.closeMenu();
-    const { run } = Talk, { graph } = run, told = await Talk.ask(`explain ${name}`);
-    if (told === null || run !== Talk.run) return;
-    const { numbers, last } = told.slice;
-    if (!/^steps \d/.test(last)) {
-      Answers.put(true, make("code", null, `explain ${name}`), " was refused: ", ...Elements.linkedLine(last));
-      return;
-    }
-    const isIn = new Uint8Array(graph.count), gone = { size: graph.count - numbers.length, has: (number) => isIn[graph.indexOf(number)] === 0 };
-    for (const number of numbers) isIn[graph.indexOf(number)] = 1;
-    const does = make("button", { class: "danger", disabled: gone.size === 0 }, gone.size === 0 ? "Nothing would go" : `Take back ${gone.size}`);
-    does.addEventListener("click", () => { Deeds.closeMenu(); Talk.send(`keep ${name}`); });
-    Canvas.choose(null);
-    Deeds.openMenuWith([make("div", { class: "menu-title" }, make("b", null, `Keep what ${name} rests on`)),
-      make("p", null, `It rests on ${plural(numbers.length, "step")} of ${graph.count}. The ringed ${plural(gone.size, "step")} would be taken back; redo brings them again.`),
-      make("div", { class: "buttons" }, does, make("button", { "data-close": true }, "Leave it"))], find("store"));
-    Canvas.ring(gone);
-  }
-
-  /** Hands on the text of the goal that a step took, at once or when the console has told it. */
-  async function withGoalText(step, does) {
-    const { run } = Talk;
-    if (run.texts.has(step.goal)) does(run.texts.get(step.goal));
-    if (step.goal === null || run.texts.has(step.goal)) return;
-    const told = await Talk.ask(`goal ${step.number}`), text = told === null ? undefined : Asking.textOfGoal(told.reply, step);
-    if (text === undefined) return;
-    run.texts.set(step.goal, text);
-    does(text);
-  }
-
-  return { tell, askKeep, withGoalText };
-})();
-
-export default Resting;
+export { tell, askKeep, withGoalText };

@@ -3,16 +3,17 @@
 import Engine from "../front/session/engine.mjs";
 import WorkerSide from "../front/session/worker_side.mjs";
 
-const Service = (() => {
-  const WORKER = "../front/session/worker_side.mjs"; // with all that it needs
-  const STOPPED = new Error("stopped by hand");
-  const waiting = new Map(), listeners = { progress: () => {} };
+const WORKER = "../front/session/worker_side.mjs"; // with all that it needs
+const STOPPED = new Error("stopped by hand");
+const textOf = (name) => document.querySelector(`script[data-file="${name}"]`).textContent;
+
+/** A worker with what is asked of it. `tellProgress` hears how much memory its line has. */
+function side(tellProgress) {
+  const waiting = new Map();
   let worker = null, answers = null, lastId = 0;
 
-  const textOf = (name) => document.querySelector(`script[data-file="${name}"]`).textContent;
-
   function take(data) {
-    if (data.progress) listeners.progress(data.progress);
+    if (data.progress) tellProgress(data.progress);
     if (data.id === undefined) return;
     const { done, failed } = waiting.get(data.id);
     waiting.delete(data.id);
@@ -78,9 +79,15 @@ const Service = (() => {
     failAll(STOPPED);
   }
 
-  const listen = (what, listener) => { listeners[what] = listener; };
+  return { start, stop, ask, canStop: () => worker !== null };
+}
 
-  return { start, stop, ask, listen, STOPPED, canStop: () => worker !== null };
-})();
+/** @type {Record<string, (memory: number) => void>} */
+const listeners = { progress: () => {} };
+const listen = (what, listener) => { listeners[what] = listener; };
 
-export default Service;
+/** The worker that has the session; `another` is one beside it. */
+const { start, stop, ask, canStop } = side((memory) => listeners.progress(memory));
+const another = () => side(() => {});
+
+export { start, stop, ask, canStop, another, listen, STOPPED };

@@ -3,7 +3,7 @@ const Shown = {
   by: "record", // the order of the picture: `record`, or `depth` of causes
   theme: "light",
   zoom: 1,
-  isFit: false, // whether all of the run is in the window
+  fit: "none", // what is made to fit into the window: `none`, the whole `run`, or what is `lit`
   chosen: null, // `{ step }` or `{ goal }`
   slice: null, // the steps on which something rests that was explained: `{ isIn, count }`, by their places in the record
   visited: null, // the step that one has come to among those that are lit

@@ -1,43 +1,37 @@
 // Goes from one step to the next of some that are lit, and keeps the light: two buttons, the step, and what is said of
 // it.
-import Canvas from "./canvas.mjs";
-import Elements from "./elements.mjs";
-import Names from "./names.mjs";
+import Deeds from "./deeds.mjs";
+import { make } from "./elements.mjs";
+import * as Names from "./names.mjs";
 
-const Walking = (() => {
-  const { make } = Elements;
+/** The step as a link that keeps the light, and what is said of it. */
+function stepParts(number, tell) {
+  const how = { class: "link", type: "button", "data-visit": number, title: `goes to step ${number}` };
+  return [make("button", how, `step ${number}`), ...tell(number)];
+}
 
-  /** The step as a link that keeps the light, and what is said of it. */
-  function stepParts(number, tell) {
-    const how = { class: "link", type: "button", "data-visit": number, title: `goes to step ${number}` };
-    return [make("button", how, `step ${number}`), ...tell(number)];
-  }
-
-  /** A row that goes along `count` steps; `numberAt` gives the number of each, and `tell` what stands behind it. */
-  function along(count, numberAt, tell = () => []) {
-    const place = make("span", { class: "dim" }), words = make("span", { role: "status" });
-    let at = 0;
-    const show = () => {
-      place.textContent = count > 1 ? ` ${(at + 1).toLocaleString("en")} of ${count.toLocaleString("en")}: ` : "";
-      words.replaceChildren(...stepParts(numberAt(at), tell));
-      Names.dress(words);
-    };
-    const go = (by) => () => {
-      at = (at + by + count) % count;
-      show();
-      Canvas.visit(numberAt(at));
-    };
-    const button = (sign, label, by) => {
-      const made = make("button", { class: "small walk", type: "button", "aria-label": label, title: label }, sign);
-      made.addEventListener("click", go(by));
-      return made;
-    };
+/** A row that goes along `count` steps; `numberAt` gives the number of each, and `tell` what stands behind it. */
+function along(count, numberAt, tell = () => []) {
+  const place = make("span", { class: "dim" }), words = make("span", { role: "status" });
+  let at = 0;
+  const show = () => {
+    place.textContent = count > 1 ? ` ${(at + 1).toLocaleString("en")} of ${count.toLocaleString("en")}: ` : "";
+    words.replaceChildren(...stepParts(numberAt(at), tell));
+    Names.dress(words);
+  };
+  const go = (by) => () => {
+    at = (at + by + count) % count;
     show();
-    const ways = count > 1 ? [button("◀", "Previous step", -1), button("▶", "Next step", 1)] : [];
-    return make("span", { class: "walking" }, ...ways, place, words);
-  }
+    Deeds.visit(numberAt(at));
+  };
+  const button = (sign, label, by) => {
+    const made = make("button", { class: "small walk", type: "button", "aria-label": label, title: label }, sign);
+    made.addEventListener("click", go(by));
+    return made;
+  };
+  show();
+  const ways = count > 1 ? [button("◀", "Previous step", -1), button("▶", "Next step", 1)] : [];
+  return make("span", { class: "walking" }, ...ways, place, words);
+}
 
-  return { along };
-})();
-
-export default Walking;
+export { along };

@@ -49,7 +49,7 @@ const STATES = {
   "on the way": [`${QUICKSORT}leap 12`, null],
   done: [`${QUICKSORT}leap`, null],
   "a step's menu": [`${QUICKSORT}leap`, (page) => page.click('#canvas [data-step="10"]')],
-  "a goal's menu": [`${QUICKSORT}leap 12`, does("Menus.open({ goal: Talk.run.goals[0].name }, document.getElementById('goals'))")],
+  "a goal's menu": [`${QUICKSORT}leap 12`, does("Menus.open({ goal: State.run.goals[0].name }, document.getElementById('goals'))")],
   "a value's menu": [`${QUICKSORT}leap`, (page) => page.click('#store [data-variable="R"]')],
   "a step with a note": [`${QUICKSORT}leap`, does("Canvas.choose({ step: 5 }), Canvas.choose({ step: 8 }), Trail.setNote(8, 'here')")],
   "an explanation": [`${QUICKSORT}leap;explain R`, null],
@@ -57,6 +57,11 @@ const STATES = {
   "two runs": ["#example=bill&query=bill(12,3,T)&lines=leap", does("Beside.tryClause(2, 3)")],
   "an earlier time": [`${QUICKSORT}leap`, does("Looking.showUntil(9)")],
   "a deadlock": ["#example=deadlock&lines=leap", null],
+  "what is not bound": ["#example=deadlock&query=after(A,B)&lines=leap;whynot A", null],
+  "other choices": ["#example=bill&query=bill(12,3,T)&lines=leap", async (page) => {
+    await page.click("#choices [data-choices]");
+    await until(page, 'document.getElementById("choices").textContent.includes("1 of 1 other choice tried.")');
+  }],
   "a failure": ["#example=append&query=append([1],[2],R)&lines=step 0.1;ask _1_1 = [7];step 2.1;step 1.2", null],
   "a refusal": ["#example=bill", (page) => page.value(begin("p(X) :- even(X) | true.\n", "p(1)"))],
   "a stream": ["#example=sum&query=instream(S), sum(S,0,R)", (page) => page.click('#canvas [data-goal="0.1"]')],

@@ -64,7 +64,7 @@ inBrowsers("from a wrong value five answers lead to the wrong clause, and its st
   assert.deepEqual((await page.value(numbers("#canvas .going"))).sort((one, other) => one - other), going);
   await page.click("#blame-roll");
   assert.equal((await page.value(lines)).at(-1), "roll 24");
-  assert.equal(await page.value("Talk.run.graph.count"), 55 - going.length);
+  assert.equal(await page.value("State.run.graph.count"), 55 - going.length);
   assert.match(await page.value(title), /^Step 24 is taken back, .* Call 16\.2 is there again: /);
   await page.click("#blame [data-go-goal]");
   assert.match(await page.value(text("menu")), /^Goal 16\.2 /);
@@ -76,14 +76,14 @@ inBrowsers("a call is tried alone, and one click leads back to the verdict; a qu
   await play(page);
   await page.value(`Talk.send("${ALL_ANSWERS}").then(() => true)`);
   await page.click("#blame-alone");
-  assert.equal(await page.value("Talk.given.query"), "qs([1],R,[])");
+  assert.equal(await page.value("State.given.query"), "qs([1],R,[])");
   assert.equal(await page.value(field("program")), QUICKSORT);
   assert.match(await page.value(title), /^This is that call alone, with what it was given: qs\(\[1\],R,\[\]\)\. /);
   await page.click("#leap");
   assert.equal(await page.value('document.querySelector("#store .row").textContent'), "R = []");
   await page.click("#blame-return");
   await until(page, 'document.getElementById("blame-roll") !== null');
-  assert.equal(await page.value("Talk.given.query"), QUERY);
+  assert.equal(await page.value("State.given.query"), QUERY);
   assert.deepEqual(await page.value(lines), ["leap", ALL_ANSWERS]);
   await page.click("#blame-back");
   assert.deepEqual(await page.value(sides), ["qs([],M₂₄,[])", "qs([],[],[])"]);
@@ -123,7 +123,7 @@ inBrowsers("the keyboard alone answers, the focus stays, a refused line leaves t
 inBrowsers("a part of a value begins a question about that place, and on a phone all of it is within the window", async (page) => {
   await open(page, "#example=quicksort&query=quicksort([3,1,2],R)&lines=leap", PHONE);
   await page.click('#store [data-root="_0_1"][data-path="1.0"]');
-  const place = await page.value("Talk.run.graph.termOf('_0_1').split('|')[1].slice(0, -1)");
+  const place = await page.value("State.run.graph.termOf('_0_1').split('|')[1].slice(0, -1)");
   await page.click(`#answer [data-line^="blame R "]`);
   assert.equal((await page.value(lines)).at(-1), `blame R ${place}`);
   const wrong = '[...document.querySelectorAll("#blame *")].filter((one) => one.getBoundingClientRect().right > innerWidth + 1).map((one) => one.textContent)';

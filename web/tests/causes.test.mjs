@@ -3,11 +3,13 @@
 import assert from "node:assert/strict";
 import fs from "node:fs";
 import test from "node:test";
-import Module from "../../front/text/causes.mjs";
+import * as Module from "../../front/text/causes.mjs";
 import MISTAKES from "../../front/tests/lib/mistakes.mjs";
 import { scriptOf, PAGE } from "../../front/session/engine_of_page.mjs";
 
-const TEXTS = ["tokens", "habits", "cures", "own_words", "own_goals", "nearest", "reader", "syntax_causes", "checker_causes", "causes"];
+const SCRIPTS = ["../front/session/worker_side.mjs", "page.mjs"]; // what both need stands in the first
+const TEXTS = ["plural", "tokens", "clauses", "habits", "cures", "own_words", "own_goals", "nearest", "reader", "syntax_causes",
+  "checker_causes", "causes"];
 
 /** The text of a module as `web/build` put it into the script of a page. */
 function moduleIn(script, name) {
@@ -17,7 +19,8 @@ function moduleIn(script, name) {
 }
 
 test("the page's scripts say of each mistake what the module says", () => {
-  const script = scriptOf(fs.readFileSync(PAGE, "utf8"), "page.mjs"), texts = TEXTS.map((name) => moduleIn(script, `front/text/${name}.mjs`));
+  const page = fs.readFileSync(PAGE, "utf8"), script = SCRIPTS.map((name) => scriptOf(page, name)).join("");
+  const texts = TEXTS.map((name) => moduleIn(script, `front/text/${name}.mjs`));
   const { Causes } = new Function(`${texts.join("\n")}\nreturn { Causes };`)();
   for (const [what, program, query, said] of MISTAKES) {
     const [, which, refusal] = /^(program|query): (.*)$/.exec(said) ?? [], isQuery = which === "query", text = isQuery ? query : program;

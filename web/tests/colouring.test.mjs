@@ -1,7 +1,7 @@
 // Tests of web/colouring.mjs: what of a line is a comment, a variable, an integer or a mark, and what is underlined.
 import assert from "node:assert/strict";
 import test from "node:test";
-import Colouring from "../colouring.mjs";
+import * as Colouring from "../colouring.mjs";
 import { plays } from "./lib/runs.mjs";
 
 const told = (parts) => parts.map(({ kind, text }) => (kind === "" ? text : `<${kind} ${text}>`)).join("");
@@ -28,7 +28,8 @@ test("what is wrong is a part of its own, within one part or over several", () =
   assert.equal(told(Colouring.partsWithWrong("p(X)", 4, 1)), "p(<variable X>)");
 });
 
-test("the first line of a clause comes after comments and empty lines", () => {
-  assert.equal(Colouring.firstClauseLine(["% a", "", " % b", "p(1).", "% c"]), 3);
-  assert.equal(Colouring.firstClauseLine(["% a"]), 0);
+test("comments of two lines and more are found, wherever they stand", () => {
+  const found = (...lines) => Colouring.commentsIn(lines).map(({ at, count }) => [at, count]);
+  assert.deepEqual(found("% a", "%", "p(1).", "% b", "p(2). % c", "", " % d", "\t% e"), [[0, 2], [6, 2]]);
+  assert.deepEqual([found("% a", "", "% b"), found(""), found("% a", "% b")], [[], [], [[0, 2]]]);
 });

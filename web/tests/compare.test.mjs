@@ -1,11 +1,11 @@
 // Tests of front/run/compare.mjs: which steps two runs share, and the first that differs.
 import assert from "node:assert/strict";
 import test from "node:test";
-import Compare from "../../front/run/compare.mjs";
-import Graph from "../../front/run/graph.mjs";
+import * as Compare from "../../front/run/compare.mjs";
+import * as Graph from "../../front/run/graph.mjs";
 import { engineOfPage } from "../../front/session/engine_of_page.mjs";
 import { eachPlay, plays } from "./lib/runs.mjs";
-import Replies from "../../front/protocol/replies.mjs";
+import * as Replies from "../../front/protocol/replies.mjs";
 
 const graphOf = (session) => Graph.graphOf(Replies.readRecords(session.line("records")));
 

@@ -2,12 +2,11 @@
 // comes in parts.
 import assert from "node:assert/strict";
 import test from "node:test";
-import Links from "../links.mjs";
+import * as Links from "../links.mjs";
 import RunModel from "../../front/run/run_model.mjs";
-import SessionText from "../../front/protocol/session_text.mjs";
-import Stuck from "../../front/run/stuck.mjs";
+import * as SessionText from "../../front/protocol/session_text.mjs";
 import WorkerSide from "../../front/session/worker_side.mjs";
-import Replies from "../../front/protocol/replies.mjs";
+import * as Replies from "../../front/protocol/replies.mjs";
 import { engineOfPage } from "../../front/session/engine_of_page.mjs";
 import { chance, follow } from "./lib/chance.mjs";
 import { plays, rows } from "./lib/runs.mjs";
@@ -48,7 +47,7 @@ test("the goals after the first steps, forth and back, are those of a session of
     const times = [...all, ...all.map(() => next(all.length))].filter((steps) => !asks(side.session, steps));
     for (const count of times) {
       const session = engine.open({ ...given, history: historyOf(side.session, count) });
-      assert.deepEqual(side.earlier({ count }).goals, session.line("goals"), `${given.query}, after ${count} steps`);
+      assert.deepEqual(side.ask({ line: "goals", count }).reply, session.line("goals"), `${given.query}, after ${count} steps`);
       compared += 1;
     }
     assert.deepEqual(standOf(side.session), before, "the session itself stays as it is");
@@ -110,9 +109,8 @@ test("lines that come in parts are followed as if they had come at once, also wh
 });
 
 const linesOf = (bytes) => new TextDecoder().decode(bytes).split("\n").filter(Boolean);
-const WAITING = Array.from({ length: 30000 }, (none, at) => at + 1);
 
-test("a roll of the middle of a long run is followed in parts, and so is what waits", async () => {
+test("a roll of the middle of a long run is followed in parts", async () => {
   const { engine } = await engineOfPage(), program = "p(N) :- true | q(N), M := N + 1, p(M).\nq(_) :- true | true.\n";
   const side = new WorkerSide(engine), model = new RunModel(program), given = { program, query: "p(0)", history: "" };
   follow(model, side.open({ given }).look);
@@ -127,19 +125,6 @@ test("a roll of the middle of a long run is followed in parts, and so is what wa
   const parts = model.change({ ...look, goals: linesOf(look.goals), shelf: linesOf(look.shelf) }, []);
   while (!parts.next().done) sincePause = 0;
   assert.ok(model.graph.count < 30000 && most <= MOST_IN_ONE_PART, `${most} steps at once`);
-  const goals = Replies.readGoals(WAITING.map((at) => `${at}.1 waits _0_1 w(_0_1)`)), study = Stuck.study(goals);
-  let count = 0;
-  while (!study.next().done) count += 1;
-  assert.ok(count >= goals.length, `${count} parts`);
-});
-
-test("30,000 goals that wait for one variable, or for two, are looked at in linear time", () => {
-  for (const [waits, text] of [["_0_1", "w(_0_1)"], ["_0_1,_0_2", "w(_0_1,_0_2)"]]) {
-    const goals = Replies.readGoals(WAITING.map((at) => `${at}.1 waits ${waits} ${text}`)), start = performance.now();
-    Stuck.circleOf(goals);
-    Stuck.edgesOf(goals, [goals[17]]);
-    assert.ok(performance.now() - start < 10000, `${Math.round(performance.now() - start)} ms`);
-  }
 });
 
 test("letters of a link are inflated up to 3,000,000 bytes, and no further; its lines are counted", async () => {

@@ -1,9 +1,11 @@
 // Tests of the engine of web/ghcdb.html: its heap, its host, sessions side by side, and what a session answers when it has ended.
 import assert from "node:assert/strict";
 import test from "node:test";
+import zlib from "node:zlib";
+import Engine from "../../front/session/engine.mjs";
 import Heap from "../../front/session/heap.mjs";
 import Host from "../../front/session/host.mjs";
-import { engineOfPage } from "../../front/session/engine_of_page.mjs";
+import { engineOfPage, moduleOfPage } from "../../front/session/engine_of_page.mjs";
 
 const APPEND = "append([],Y,Z) :- true | Z = Y.\nappend([A|X],Y,Z) :- true | Z = [A|Z1], append(X,Y,Z1).\n";
 const QUERY = "append([1],[2],R)";
@@ -71,6 +73,14 @@ test("what a page does not have stops the engine only when it is asked for", () 
   const { rattle_errno: error, pthread_join: join } = host.imports(["rattle_errno", "pthread_join"]);
   assert.equal(error(), 0);
   assert.throws(join, /asked for pthread_join, which a page does not have/);
+});
+
+test("a module may be packed; a damaged one is not taken", async () => {
+  const packed = zlib.deflateSync(moduleOfPage(), { level: 0 });
+  const session = (await Engine.load(packed)).open({ program: APPEND, query: QUERY });
+  assert.deepEqual(session.line("goals"), ["0.1 ready append([1],[2],_0_1)"]);
+  packed[1000] ^= 1;
+  await assert.rejects(Engine.load(packed), /is damaged$/);
 });
 
 test("sessions stand side by side, each with a state of its own", async () => {

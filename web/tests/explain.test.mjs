@@ -1,9 +1,9 @@
 // Tests of front/run/explain.mjs and search.mjs: which step gave each part of a value, why a goal failed, what is found.
 import assert from "node:assert/strict";
 import test from "node:test";
-import Asking from "../../front/protocol/asking.mjs";
-import Explain from "../../front/run/explain.mjs";
-import Search from "../../front/run/search.mjs";
+import * as Asking from "../../front/protocol/asking.mjs";
+import * as Explain from "../../front/run/explain.mjs";
+import * as Search from "../../front/run/search.mjs";
 import { engineOfPage } from "../../front/session/engine_of_page.mjs";
 import { eachPlay, plays, runOf } from "./lib/runs.mjs";
 

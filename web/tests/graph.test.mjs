@@ -1,14 +1,14 @@
 // Tests of front/run/graph.mjs and front/protocol/asking.mjs: what is read from the console's lines, and edges that are those of `why N`.
 import assert from "node:assert/strict";
 import test from "node:test";
-import Asking from "../../front/protocol/asking.mjs";
-import Explain from "../../front/run/explain.mjs";
-import Graph from "../../front/run/graph.mjs";
-import Stuck from "../../front/run/stuck.mjs";
+import * as Asking from "../../front/protocol/asking.mjs";
+import * as Explain from "../../front/run/explain.mjs";
+import * as Graph from "../../front/run/graph.mjs";
 import { engineOfPage } from "../../front/session/engine_of_page.mjs";
 import { askedRun, eachPlay } from "./lib/runs.mjs";
-import Printed from "../../front/text/printed.mjs";
-import Replies from "../../front/protocol/replies.mjs";
+import * as Clauses from "../../front/text/clauses.mjs";
+import * as Printed from "../../front/text/printed.mjs";
+import * as Replies from "../../front/protocol/replies.mjs";
 
 /** Takes the steps of a run again, one by one, in a session that has not begun: the texts that it tells are those of the run. Gives how many. */
 function compareTexts(play, run, session) {
@@ -16,6 +16,24 @@ function compareTexts(play, run, session) {
   for (const { goal, clause } of run.graph.steps) Asking.addCalls(texts, session.line(clause === null ? `step ${goal}` : `step ${goal} ${clause}`));
   for (const { goal } of run.graph.steps) assert.equal(run.texts.get(goal), texts.get(goal), `${play.name}, goal ${goal}`);
   return run.graph.count;
+}
+
+/** The numbers of the steps that are marked. */
+function numbersIn(graph, { isIn }) {
+  const numbers = new Set();
+  isIn.forEach((is, index) => { if (is === 1) numbers.add(graph.numbers.at(index)); });
+  return numbers;
+}
+
+/** The numbers of a step and of all that it depends on, or that depends on it. */
+const allCauses = (graph, number) => numbersIn(graph, Graph.causesReached(graph, graph.indexOf(number)));
+const allEffects = (graph, number) => numbersIn(graph, Graph.effectsReached(graph, graph.indexOf(number)));
+
+/** The reply to `why N` that this graph stands for. */
+function whyLines(graph, number) {
+  const lines = graph.causes.get(number).map((edge) =>
+    (edge.kind === "made" ? `${edge.from} made` : `${edge.from} ${edge.kind} ${edge.variables[0]}${edge.woke ? " woke" : ""}`));
+  return lines.length > 0 ? lines : ["none"];
 }
 
 test("record lines of docs/FORMATS.md are read", () => {
@@ -54,44 +72,38 @@ test("an ask is read as a step that consumes no goal, with what it names", () =>
 
 test("an ask depends on the steps that made what it names, and on no other; what it made descends from it", () => {
   const { graph } = askedRun();
-  assert.deepEqual([1, 2, 3, 4, 5, 6].map((number) => Graph.whyLines(graph, number)),
+  assert.deepEqual([1, 2, 3, 4, 5, 6].map((number) => whyLines(graph, number)),
     [["none"], ["1 named _1_1"], ["1 made"], ["2 made", "3 read _0_1 woke"], ["none"], ["1 named _1_1", "2 named _2_1", "4 named _4_1"]]);
-  assert.deepEqual([...Graph.allEffects(graph, 1)].sort(), [1, 2, 3, 4, 6]);
-  assert.deepEqual([...Graph.allEffects(graph, 2)].sort(), [2, 4, 6]);
+  assert.deepEqual([...allEffects(graph, 1)].sort(), [1, 2, 3, 4, 6]);
+  assert.deepEqual([...allEffects(graph, 2)].sort(), [2, 4, 6]);
   assert.deepEqual([1, 2, 3, 4, 5, 6].map((number) => graph.depth.get(number)), [0, 1, 1, 2, 0, 3]);
   const least = Graph.graphOf(Replies.readRecords(["10 0.1 by 1 reads - binds - makes 10.1", "11 - ask p(_10_11,_10_2) reads - binds - makes 11.1"]));
-  assert.deepEqual(Graph.whyLines(least, 11), ["10 named _10_2"]);
+  assert.deepEqual(whyLines(least, 11), ["10 named _10_2"]);
 });
 
 test("clauses and predicates are read from a program", () => {
-  const clauses = Graph.readClauses("% p(a). in a comment\np :- true | q([1,2],f(a,b)).\nq(_, [A|X]) :- true.\n");
-  assert.deepEqual(clauses.map((clause) => clause.predicate), ["p/0", "q/2"]);
+  const clauses = Clauses.clausesOf("% p(a). in a comment\np :- true | q([1,2],f(a,b)).\nq(_, [A|X]) :- % why\n  true.\nhalf(X");
+  assert.deepEqual(clauses.map((clause) => clause.predicate), ["p/0", "q/2", "half/1"]);
+  assert.deepEqual(clauses[1], { number: 2, predicate: "q/2", from: 3, to: 4, text: "q(_, [A|X]) :- true." });
+  assert.equal(clauses[2].text, "half(X.");
   assert.equal(Printed.predicateOf("append([1,2],[3|_0_1],f(a,b))"), "append/3");
 });
 
 test("the causes of docs/LANGUAGE.md: woke, made before read, the present order", () => {
   const first = ["1 0.2 eq reads - binds _0_1=[_0_2|_0_3] makes -", "2 0.3 eq reads - binds _0_2=a makes -", "3 0.1 by 1 reads _0_1,_0_2 binds - makes -"];
-  assert.deepEqual(Graph.whyLines(Graph.graphOf(Replies.readRecords(first)), 3), ["1 read _0_1", "2 read _0_2 woke"]);
+  assert.deepEqual(whyLines(Graph.graphOf(Replies.readRecords(first)), 3), ["1 read _0_1", "2 read _0_2 woke"]);
   const turned = Graph.graphOf(Replies.readRecords([first[1], first[0], first[2]]));
-  assert.deepEqual(Graph.whyLines(turned, 3), ["2 read _0_2", "1 read _0_1 woke"]);
-  assert.deepEqual(Graph.whyLines(turned, 1), ["none"]);
+  assert.deepEqual(whyLines(turned, 3), ["2 read _0_2", "1 read _0_1 woke"]);
+  assert.deepEqual(whyLines(turned, 1), ["none"]);
 });
 
 test("causes, effects and depths of a run of four steps", () => {
   const graph = Graph.graphOf(Replies.readRecords(["1 0.1 by 2 reads - binds - makes 1.1,1.2", "2 1.1 eq reads - binds _0_1=[1|_1_1] makes -",
     "3 1.2 by 1 reads - binds - makes 3.1", "4 3.1 eq reads - binds _1_1=[2] makes -"]));
-  assert.deepEqual([...Graph.allEffects(graph, 1)].sort(), [1, 2, 3, 4]);
-  assert.deepEqual([...Graph.allEffects(graph, 3)].sort(), [3, 4]);
-  assert.deepEqual([...Graph.allCauses(graph, 4)].sort(), [1, 3, 4]);
+  assert.deepEqual([...allEffects(graph, 1)].sort(), [1, 2, 3, 4]);
+  assert.deepEqual([...allEffects(graph, 3)].sort(), [3, 4]);
+  assert.deepEqual([...allCauses(graph, 4)].sort(), [1, 3, 4]);
   assert.deepEqual([1, 2, 3, 4].map((number) => graph.depth.get(number)), [0, 1, 1, 2]);
-});
-
-test("three goals that wait for each other are a circle, a chain of waits is none", () => {
-  const circle = Replies.readGoals(["0.1 waits _0_1 after(_0_1,_0_2)", "0.2 waits _0_2 after(_0_2,_0_3)", "0.3 waits _0_3 after(_0_3,_0_1)"]);
-  assert.deepEqual(Stuck.circleOf(circle), ["0.1", "0.3", "0.2"]);
-  const chain = Replies.readGoals(["0.1 waits _0_1 after(_0_1,_0_2)", "0.2 waits _0_2 after(_0_2,_0_3)", "0.3 ready _0_1 = done"]);
-  assert.deepEqual(Stuck.edgesOf(chain), [{ from: "0.1", to: "0.3", variable: "_0_1" }, { from: "0.2", to: "0.1", variable: "_0_2" }]);
-  assert.deepEqual(Stuck.circleOf(chain), []);
 });
 
 test("on every step of the examples and of the rows the edges are those of `why N` and of `causes`, also after rolls and in a tidied order", async () => {
@@ -99,7 +111,7 @@ test("on every step of the examples and of the rows the edges are those of `why 
   const compare = (play, session, graph) => {
     const causes = [];
     for (const step of graph.steps) {
-      const why = Graph.whyLines(graph, step.number);
+      const why = whyLines(graph, step.number);
       assert.deepEqual(why, session.line(`why ${step.number}`), `${play.name}, step ${step.number}`);
       causes.push(...why.filter((line) => line !== "none").map((line) => `${step.number} ${line}`));
       compared++;

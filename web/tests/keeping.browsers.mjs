@@ -116,9 +116,9 @@ inBrowsers("where the browser keeps nothing, one's own text goes for no example 
     "What stands here is not kept in this browser; Save writes it as a file. Go on without it×");
   assert.deepEqual([await page.value(field("program")), await page.value(field("examples"))], [OWN, "quicksort"]);
   await page.click("#go-without");
-  await until(page, '!Talk.busy && Talk.given.query === "bill(12,3,T)"');
+  await until(page, '!State.busy && State.given.query === "bill(12,3,T)"');
   await chooseExample(page, "append");
-  await until(page, '!Talk.busy && Talk.given.query !== "bill(12,3,T)"');
+  await until(page, '!State.busy && State.given.query !== "bill(12,3,T)"');
 });
 
 const DROP = `((data) => {
@@ -130,13 +130,13 @@ const DROP = `((data) => {
 inBrowsers("a link that comes into the address of an open page is opened, and so is a dropped file", async (page) => {
   await openWithOwn(page);
   await page.value('(location.hash = "#example=bill&lines=leap", true)');
-  await until(page, '!Talk.busy && Talk.typedLines().join() === "leap"');
-  assert.equal(await page.value("Talk.given.query"), "bill(12,3,T)");
+  await until(page, '!State.busy && Talk.typedLines().join() === "leap"');
+  assert.equal(await page.value("State.given.query"), "bill(12,3,T)");
   assert.ok((await page.value(kept)).includes(`${QUERY}: 3`));
   await page.value("(history.back(), true)");
-  await until(page, '!Talk.busy && Talk.given.query === "quicksort([3,1,2],R)"');
+  await until(page, '!State.busy && State.given.query === "quicksort([3,1,2],R)"');
   assert.equal(await page.value(DROP), false, "the browser does not show it in the place of the page");
-  await until(page, 'Talk.given.query === "p(7)"');
+  await until(page, 'State.given.query === "p(7)"');
   assert.equal(await page.value(field("query")), "p(7)");
 });
 
@@ -148,7 +148,7 @@ inBrowsers("arrow keys go through the examples and start none; Enter and a click
   for (let count = 0; count < 3; count++) await page.key("ArrowDown");
   const there = await page.value(field("examples"));
   assert.ok(there !== "quicksort" && there !== "", `the list stands at ${there}`);
-  assert.deepEqual([await page.value("Talk.given.query"), await page.value(lines)], [QUERY, LINES]);
+  assert.deepEqual([await page.value("State.given.query"), await page.value(lines)], [QUERY, LINES]);
   await page.value("document.activeElement.blur()");
   assert.equal(await page.value(field("examples")), "", "the list tells again what stands here");
   await page.value(toQuicksort);
@@ -156,7 +156,7 @@ inBrowsers("arrow keys go through the examples and start none; Enter and a click
   const next = await page.value(field("examples"));
   await page.key("Enter");
   const started = `EXAMPLES.find(({ name }) => name === "${next}").program`;
-  await until(page, `!Talk.busy && Talk.given.program === ${started}`);
+  await until(page, `!State.busy && State.given.program === ${started}`);
   await chooseExample(page, "bill");
-  assert.equal(await page.value("Talk.given.query"), "bill(12,3,T)");
+  assert.equal(await page.value("State.given.query"), "bill(12,3,T)");
 });

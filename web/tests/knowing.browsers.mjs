@@ -36,10 +36,10 @@ inBrowsers("what a value rests on is lit, the other choice is ringed, and a clic
 inBrowsers("an explanation has its goals as a tree, with names and the values of then, a screen of them and the others on a click", async (page) => {
   const rows = '[...document.querySelectorAll("#answer .goal-tree li")].map((one) => one.textContent)';
   await open(page, "#example=bill&query=bill(12,3,T)&lines=leap;explain _1_1", [1440, 900]);
-  assert.deepEqual(await page.value(rows), ["step 1: bill(12,3,T) by 1", "step 2: price(12,P₁) by 2", "step 3: P₁ := 12 * 10 is"]);
+  assert.deepEqual(await page.value(rows), ["step 1: bill(12,3,T) by clause 1", "step 2: price(12,P₁) by clause 2", "step 3: P₁ := 12 * 10"]);
   await open(page, "#example=quicksort&query=quicksort([5,2,8,1,9,3],R)&lines=leap;explain R", [1440, 900]);
   assert.equal((await page.value(rows)).length, 12);
-  assert.deepEqual((await page.value(rows)).slice(3, 6), ["step 4: Small₂ = [2|Small1₃] eq", "step 5: part([8,1,9,3],5,Small1₃,Great₂) by 6 and 10 below", "step 16: sort([2,1,3],R,[5|Mid₂]) by 3"]);
+  assert.deepEqual((await page.value(rows)).slice(3, 6), ["step 4: Small₂ = [2|Small1₃]", "step 5: part([8,1,9,3],5,Small1₃,Great₂) by clause 6 and 10 below", "step 16: sort([2,1,3],R,[5|Mid₂]) by clause 3"]);
   assert.match(await page.value(text("answer")), /12 of 55 steps\. Show all×$/);
   await page.click("#explain-all");
   assert.equal((await page.value(rows)).length, 55);
@@ -48,7 +48,7 @@ inBrowsers("an explanation has its goals as a tree, with names and the values of
   await page.value(begin("up(N,L) :- N > 0 | L = [N|L1], M := N - 1, up(M,L1).\nup(0,L) :- true | L = [].\n", "up(1500,L)"));
   await page.value('Talk.send("leap", "explain L").then(() => true)');
   await page.idle();
-  assert.deepEqual((await page.value(rows)).slice(0, 4).map((row) => row.replace(/^step \d+: /, "")), ["up(1500,L) by 1", "L = [1500|L1₁] eq", "M₁ := 1500 - 1 is", "up(M₁,L1₁) by 1"]);
+  assert.deepEqual((await page.value(rows)).slice(0, 4).map((row) => row.replace(/^step \d+: /, "")), ["up(1500,L) by clause 1", "L = [1500|L1₁]", "M₁ := 1500 - 1", "up(M₁,L1₁) by clause 1"]);
   assert.match(await page.value(text("answer")), /12 of 4,502 steps\. Show 1,000×$/);
   await page.click("#explain-all");
   assert.equal((await page.value(rows)).length, 1000);
@@ -72,7 +72,7 @@ inBrowsers("before a value is kept alone all that would go is ringed, and one li
 
 inBrowsers("a goal that waits is explained and kept alone", async (page) => {
   await open(page, "#example=quicksort&query=quicksort([3,1,2],R)&lines=leap 6", [1440, 900]);
-  const waiting = await page.value('Talk.run.goals.find((goal) => goal.status === "waits").name');
+  const waiting = await page.value('State.run.goals.find((goal) => goal.status === "waits").name');
   await page.value(`Menus.open({ goal: "${waiting}" }, document.getElementById("canvas"))`);
   await page.click(`#menu [data-line="explain ${waiting}"]`);
   const slice = await page.value(numbers("#canvas .mark.cause"));
@@ -81,21 +81,21 @@ inBrowsers("a goal that waits is explained and kept alone", async (page) => {
   assert.match(await page.value(text("menu")), /^Goal \d+\.\d+/);
   await page.value(`Resting.askKeep("${waiting}")`);
   await page.click("#menu .danger");
-  assert.deepEqual(await page.value("Talk.run.graph.steps.map((step) => step.number)"), slice);
+  assert.deepEqual(await page.value("State.run.graph.steps.map((step) => step.number)"), slice);
 });
 
 inBrowsers("a step asks for no whole record and no second session, also where the page itself has the engine, and goals' texts come when one looks", async (page) => {
   const { file, remove } = notingPage();
   await open(page, "#example=quicksort&query=quicksort([3,1,2],R)&lines=leap 20", [1440, 900], file);
   await page.value("(Engine.asked.length = 0, true)");
-  await page.value('Talk.send("step " + Talk.run.goals.find((goal) => goal.status === "ready").name)');
+  await page.value('Talk.send("step " + State.run.goals.find((goal) => goal.status === "ready").name)');
   const asked = await page.value("Engine.asked");
   assert.ok(asked.includes("since") && !asked.includes("records") && !asked.includes("causes"), asked.join(" "));
-  assert.equal(await page.value("Talk.run.graph.count"), 21);
-  const edges = "JSON.stringify(Talk.run.graph.edges.map(({ from, to, kind, woke, variables }) => [from, to, kind, woke, variables]))";
-  assert.equal(await page.value(edges), await page.value(edges.replaceAll("Talk.run.graph", "Graph.graphOf(Talk.run.graph.steps)")));
-  assert.equal(await page.value('Talk.run.texts.get("0.1")'), "quicksort([3,1,2],_0_1)");
-  await page.value("(Talk.run.texts.clear(), Canvas.choose({ step: 1 }), new Promise((done) => setTimeout(done, 100)))");
+  assert.equal(await page.value("State.run.graph.count"), 21);
+  const edges = "JSON.stringify(State.run.graph.edges.map(({ from, to, kind, woke, variables }) => [from, to, kind, woke, variables]))";
+  assert.equal(await page.value(edges), await page.value(edges.replaceAll("State.run.graph", "Graph.graphOf(State.run.graph.steps)")));
+  assert.equal(await page.value('State.run.texts.get("0.1")'), "quicksort([3,1,2],_0_1)");
+  await page.value("(State.run.texts.clear(), Canvas.choose({ step: 1 }), new Promise((done) => setTimeout(done, 100)))");
   assert.match(await page.value(text("detail")), /^step 1: goal 0\.1 was reduced by clause 1\nquicksort\(\[3,1,2\],R\)\n/);
   remove();
 });

@@ -1,17 +1,17 @@
 // Tests of what the page asks the console: `since`, `goal`, `explain` and `keep`.
 import assert from "node:assert/strict";
 import test from "node:test";
-import Asking from "../../front/protocol/asking.mjs";
-import Explain from "../../front/run/explain.mjs";
-import Graph from "../../front/run/graph.mjs";
-import Reader from "../../front/text/reader.mjs";
+import * as Asking from "../../front/protocol/asking.mjs";
+import * as Explain from "../../front/run/explain.mjs";
+import * as Graph from "../../front/run/graph.mjs";
+import * as Reader from "../../front/text/reader.mjs";
 import RunModel from "../../front/run/run_model.mjs";
 import Told from "../../front/protocol/told.mjs";
 import WorkerSide from "../../front/session/worker_side.mjs";
 import { engineOfPage } from "../../front/session/engine_of_page.mjs";
 import { QUERIES, programOf, chance, plainGraph, lineByChance, follow } from "./lib/chance.mjs";
 import { eachPlay } from "./lib/runs.mjs";
-import Replies from "../../front/protocol/replies.mjs";
+import * as Replies from "../../front/protocol/replies.mjs";
 
 const LINES = 25, SEEDS = 2;
 const bytes = (text) => new TextEncoder().encode(text);
@@ -26,7 +26,7 @@ function askedOf(session) {
   return asked;
 }
 
-test("after each line the steps and the goals' texts are those of the console, and the whole record is not asked for again", async () => {
+test("after each line the steps, the goals' texts and the lines of clauses are those of the console, and the whole record is not asked for again", async () => {
   const { engine } = await engineOfPage();
   let compared = 0;
   for (const [name, query] of Object.entries(QUERIES)) {
@@ -43,7 +43,11 @@ test("after each line the steps and the goals' texts are those of the console, a
         if (/^(step|in|ask|redo|undo|roll|leap)/.test(line) && before > 0) assert.ok(!asked.includes("records"), `${words} asked ${asked}`);
         const steps = Replies.readRecords(side.session.line("records"));
         assert.deepEqual(plainGraph(model.graph), plainGraph(Graph.graphOf(steps)), words);
-        for (const step of steps) if (step.goal !== null) assert.equal(side.session.line(`goal ${step.number}`)[0], `${step.number} ${step.goal} ${step.act} ${model.texts.get(step.goal)}`, words);
+        for (const step of steps.filter(({ goal }) => goal !== null)) {
+          const where = step.clause === null ? "" : ` line ${model.clauses[step.clause - 1].from}`;
+          const taken = `${step.number} ${step.goal} ${step.act} ${model.texts.get(step.goal)}${where}`;
+          assert.equal(side.session.line(`goal ${step.number}`)[0], taken, words);
+        }
         compared += 1;
       }
     }
@@ -132,7 +136,7 @@ test("the page follows `keep` of a value and of a goal", async () => {
   follow(model, side.lines({ lines: ["leap 12"] }).look);
   const waiting = model.goals.find((goal) => goal.status === "waits"), inner = model.graph.steps.find((step) => step.binds.length > 0).binds[0].variable;
   for (const name of [waiting.name, inner]) {
-    const { slice } = side.ask({ line: `explain ${name}` }), { replies, look } = side.lines({ lines: [`keep ${name}`] });
+    const { slice } = side.slice({ name }), { replies, look } = side.lines({ lines: [`keep ${name}`] });
     assert.equal(replies[0].at(-1), `kept ${slice.numbers.length}`);
     follow(model, look);
     assert.deepEqual(model.graph.steps.map((step) => step.number), [...slice.numbers]);

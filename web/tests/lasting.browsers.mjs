@@ -10,7 +10,7 @@ const [REDONE, ROLLED] = process.env.GHCDB_LONG === "1" ? [500000, 1000000] : [2
 const WAITERS = 30000;
 const WAIT = "w(X) :- wait(X) | true.\nmany(0,_) :- true | true.\nmany(N,X) :- N > 0 | w(X), M := N - 1, many(M,X).\n";
 const LOOP = "loop :- true | loop.\n", LEAVES = "p(N) :- true | q(N), M := N + 1, p(M).\nq(_) :- true | true.\n";
-const count = "Talk.run.graph.count", FILE = "Open takes one from a file.";
+const count = "State.run.graph.count", FILE = "Open takes one from a file.";
 
 /** Tries something until the page stands still for a short time alone; `does` prepares it, and gives the expression. */
 function flows(words, page, does) {
@@ -63,15 +63,15 @@ inBrowsers("30,000 goals that wait for one variable freeze nothing: a run, a cli
     await page.value(begin(WAIT, `many(${WAITERS},X)`));
     return 'Talk.send("leap")';
   });
-  const stuck = /^Nothing is ready, and 30000 goals wait\. \d+\.1 waits for X: nobody can bind it/;
+  const stuck = /^Nothing is ready, and 30000 goals wait\. Why\?/;
   assert.match(await page.value(text("note")), stuck);
-  const name = await page.value('Talk.run.goals.find((goal) => goal.status === "waits").name');
+  const name = await page.value('State.run.goals.find((goal) => goal.status === "waits").name');
   const opens = `Menus.open({ goal: "${name}" }, document.getElementById("canvas"))`;
   const chooses = `Canvas.choose({ goal: "${name}" })`;
   await flows("a click", page, () => `(Menus.close(), ${chooses}, ${opens}, Promise.resolve())`);
   assert.ok((await page.value(text("menu"))).startsWith(`Goal ${name} waitsw(X)It waits for X.`));
   await page.value("Menus.close()");
-  const last = await page.value("Talk.run.graph.numbers.at(Talk.run.graph.count - 1)");
+  const last = await page.value("State.run.graph.numbers.at(State.run.graph.count - 1)");
   await flows("an undo and a redo", page, () => `(Talk.send("undo ${last}"), Talk.send("redo ${last}"))`);
 });
 
@@ -82,7 +82,7 @@ inBrowsers("`redo all` of many steps freezes nothing, is told in short, and can 
   await page.value(begin(LOOP, "loop"));
   await page.value(`Talk.send("leap ${REDONE}", "roll 1")`);
   await page.value(`(${redo}, true)`);
-  await until(page, "Talk.busy && Talk.busy.played > 1000");
+  await until(page, "State.busy && State.busy.played > 1000");
   await page.value("(Talk.stop(), Talk.settled())");
   assert.equal(await page.value(count), 0, "the run stands where it stood");
   const stopped = new RegExp(`^redo 1 \\(and ${REDONE - 1} more\\) stopped by hand after [\\d.]+ s: not taken`);
@@ -103,7 +103,7 @@ inBrowsers("a roll of the middle of a long run freezes nothing, and is stopped w
   await page.value(begin(LOOP, "loop"));
   await page.value(`Talk.send("leap ${ROLLED}")`);
   await page.value(`(Talk.send("roll ${ROLLED / 2}"), true)`);
-  await until(page, "!Talk.busy || !Talk.run.isWhole");
+  await until(page, "!State.busy || !State.run.isWhole");
   await page.value("(Talk.stop(), Talk.settled())");
   assert.equal(await page.value(count), ROLLED, "the run stands where it stood");
   for (const [program, query] of [[LOOP, "loop"], [LEAVES, "p(0)"]]) {
@@ -112,7 +112,7 @@ inBrowsers("a roll of the middle of a long run freezes nothing, and is stopped w
       await page.value(`Talk.send("leap ${ROLLED}")`);
       return `Talk.send("roll ${ROLLED / 2}")`;
     });
-    assert.equal(await page.value("Talk.run.graph.count + Talk.run.shelf.length"), ROLLED);
+    assert.equal(await page.value("State.run.graph.count + State.run.shelf.length"), ROLLED);
   }
 });
 
@@ -126,9 +126,9 @@ inBrowsers("a link is read up to 3,000,000 bytes and 20,000 lines; a longer one 
   assert.equal(await page.value(text("answer")), longer("3,000,000 bytes"));
   await openLink(session('"p(1).\\n"', 20001));
   assert.equal(await page.value(text("answer")), longer("20,000 lines"));
-  assert.equal(await page.value("Talk.given.query"), "quicksort([3,1,2],R)");
+  assert.equal(await page.value("State.given.query"), "quicksort([3,1,2],R)");
   await page.value('Talk.send("leap")');
   assert.equal(await page.value(count), 27);
   await openLink(session('"p(1).\\n"', 300));
-  assert.equal(await page.value("Talk.entries.length"), 300, "a shorter one is read");
+  assert.equal(await page.value("State.entries.length"), 300, "a shorter one is read");
 });

@@ -7,7 +7,7 @@ import { queryOf } from "../../front/text/query_comment.mjs";
 import { inBrowsers, open } from "./lib/in_browsers.mjs";
 import { begin, field, lines, numbers, text, write, PHONE, WIDE } from "./lib/using.mjs";
 
-const FOLDER = fileURLToPath(new URL("../../examples/", import.meta.url)), MOST_LINES = 20;
+const FOLDER = fileURLToPath(new URL("../../examples/", import.meta.url)), MOST_LINES = 22;
 const programsIn = (folder) => fs.readdirSync(folder).filter((name) => name.endsWith(".ghc")).sort().map((name) => ({ name, program: fs.readFileSync(`${folder}${name}`, "utf8") }));
 const PROGRAMS = [...programsIn(FOLDER), ...programsIn(`${FOLDER}wrong/`)].filter(({ program }) => program.trimEnd().split("\n").length <= MOST_LINES);
 
@@ -22,18 +22,54 @@ const UNSEEN = `(() => { const pane = document.getElementById("program-pane").ge
 const FOLLOWS = `(() => { const field = document.getElementById("program"), lines = document.getElementById("program-lines");
   return Math.abs(field.scrollHeight - Math.max(field.clientHeight, lines.offsetHeight)) <= 2 && lines.style.transform.includes(-field.scrollTop + "px"); })()`;
 
-inBrowsers("of each example of up to 20 lines all clauses are seen whole, and the colours stand behind the letters", async (page) => {
+inBrowsers("of each example of up to 22 lines all clauses are seen whole, and the colours stand behind the letters", async (page) => {
   await open(page, "#example=quicksort", WIDE);
   const [width, height] = WIDE, inner = await page.value("innerHeight"); // Firefox counts its own bars
   await page.size(width, height + height - inner);
   assert.equal(await page.value("innerHeight"), height);
-  assert.ok(PROGRAMS.length >= 16);
+  assert.ok(PROGRAMS.length >= 17);
   for (const { name, program } of PROGRAMS) {
     await page.value(begin(program, queryOf(program)));
     await page.value('Talk.send("leap").then(() => true)');
     assert.deepEqual(await page.value(UNSEEN), [], name);
+    await page.value('(document.getElementById("program").focus(), true)'); // comments unfold
     assert.ok(await page.value(FOLLOWS), name);
+    assert.deepEqual(await page.value(UNSEEN), [], name);
+    await page.value('(document.getElementById("program").blur(), true)');
   }
+});
+
+const FOLDING = ["% one", "% two", "% three", "a :- true | b.", "", "% four", "b :- true | true.", "% five", "% six", "c(X) :- true | X = 1.", ""];
+/** The lines that are seen, each with what stands for those that are folded. */
+const SEEN = `[...document.querySelectorAll("#program-lines > div")].filter((line) => line.offsetHeight > 0)
+  .map((line) => line.textContent.replace("\\u200b", "") + (line.classList.contains("fold") ? " (" + line.dataset.more + ")" : ""))`;
+const place = '[document.activeElement.id, document.getElementById("program").selectionStart]';
+
+/** Clicks on a line of the program, beyond its letters; 0 is the first. */
+async function clickLine(page, at) {
+  await page.value(`(document.querySelectorAll("#program-lines > div")[${at}].id = "line-${at}", true)`);
+  await page.click(`#line-${at}`);
+}
+
+inBrowsers("a comment of some lines is one until it is clicked; one who comes to write sees all, and what he saw stays where it was", async (page) => {
+  await open(page, "#example=bill", WIDE);
+  await page.value(begin(FOLDING.join("\n"), "a"));
+  assert.deepEqual(await page.value(SEEN), ["% one (3 lines)", "a :- true | b.", "", "% four", "b :- true | true.", "% five (2 lines)", "c(X) :- true | X = 1.", ""]);
+  await clickLine(page, 0);
+  assert.deepEqual(await page.value(SEEN), [...FOLDING.slice(0, 7), "% five (2 lines)", ...FOLDING.slice(9)]);
+  await page.value('Talk.send("leap")');
+  await clickLine(page, 3);
+  assert.deepEqual(await page.value(SEEN), FOLDING);
+  assert.deepEqual(await page.value(place), ["program", FOLDING.slice(0, 4).join("\n").length]);
+  assert.deepEqual(await page.value(numbers("#canvas .mark.cause")), [1], "the click lights the clause's step, too");
+  assert.ok(await page.value(FOLLOWS));
+  const long = [...Array(60).fill("% x"), ...Array(60).fill("a :- true | true."), "b(Y) :- true | Y = 1.", "% y", "% z", ""];
+  await page.value(`(document.activeElement.blur(), ${begin(long.join("\n"), "a")})`);
+  await page.value('(Program.showLine(100), document.querySelectorAll("#program-lines > div")[99].id = "line-99", true)');
+  const top = 'document.getElementById("line-99").getBoundingClientRect().top', before = await page.value(top);
+  await clickLine(page, 99);
+  assert.ok(Math.abs((await page.value(top)) - before) <= 2, "it stays where it was");
+  assert.deepEqual(await page.value(place), ["program", long.slice(0, 100).join("\n").length]);
 });
 
 const marked = (name) => `[...document.querySelectorAll("#program-lines > .${name}")].map((one) => one.textContent)`;
@@ -68,7 +104,7 @@ inBrowsers("the refused word is underlined in its place with the cause at its li
   assert.equal(await page.value('document.querySelectorAll("#program-lines .wrong-word, .cause-here, #program-lines .wrong").length'), 0);
 });
 
-inBrowsers("both runs of two are seen whole, each below its result", async (page) => {
+inBrowsers("both runs of two are seen whole, in the same columns, each below its result", async (page) => {
   await open(page, "#example=bill", WIDE);
   const { program } = programsIn(`${FOLDER}wrong/`).find(({ name }) => name === "bank.ghc");
   await page.value(begin(program, "bank(End)"));
@@ -78,6 +114,9 @@ inBrowsers("both runs of two are seen whole, each below its result", async (page
   await page.value('Talk.send("leap").then(() => true)');
   const cut = (id) => `[...document.querySelectorAll("#${id} .mark")].filter((mark) => { const box = mark.getBoundingClientRect(), area = document.getElementById("${id}").getBoundingClientRect(); return box.top < area.top || box.bottom > area.bottom || box.left < area.left || box.right > area.right; }).length`;
   assert.deepEqual([await page.value(cut("beside")), await page.value(cut("canvas"))], [0, 0]);
+  const leftOf = (selector) => page.value(`document.querySelector("${selector}").getBoundingClientRect().left`);
+  const [above, below] = [await leftOf('#beside [data-kept=\\"14\\"]'), await leftOf('#canvas [data-step=\\"14\\"]')];
+  assert.ok(Math.abs(above - below) < 1, `step 14 stands in one column: ${above}, ${below}`);
 });
 
 const cards = '[...document.querySelectorAll("#welcome .card b")].map((one) => one.textContent)';

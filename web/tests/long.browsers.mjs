@@ -19,7 +19,7 @@ function memoryOf({ browser }) {
 }
 
 /** The number of a step behind step 60,000 on which no other depends. */
-const LEAF = "(() => { const { graph } = Talk.run; let at = graph.indexOf(60000); while (graph.lastEffect.at(at) !== Graph.NONE) at++; return graph.numbers.at(at); })()";
+const LEAF = "(() => { const { graph } = State.run; let at = graph.indexOf(60000); while (graph.lastEffect.at(at) !== Graph.NONE) at++; return graph.numbers.at(at); })()";
 
 inBrowsers("a run of 100,000 steps is drawn while the page goes on; a further step and 33,333 causes are shown quickly", async (page) => {
   await quickEnough("the run", ({ freeze, slowness }) => freeze <= LONGEST_FREEZE * slowness, async () => {
@@ -32,7 +32,7 @@ inBrowsers("a run of 100,000 steps is drawn while the page goes on; a further st
   assert.ok(await page.value('!document.getElementById("overview").hidden && document.querySelectorAll("#canvas .mark").length > 10'));
   await quickEnough("a step", ({ took, slowness }) => took <= LONGEST_STEP * slowness, async () => {
     await new Promise((done) => setTimeout(done, 1500)); // the record of the step before is printed meanwhile
-    return measured(page, 'Talk.send("step " + Talk.run.goals.find((goal) => goal.status === "ready").name)');
+    return measured(page, 'Talk.send("step " + State.run.goals.find((goal) => goal.status === "ready").name)');
   });
   await quickEnough("an undo", ({ took, freeze, slowness }) => Math.max(took, freeze) <= LONGEST_STEP * slowness, () => measured(page, 'Talk.send(document.getElementById("undo-last").dataset.line)'));
   await page.value('Talk.send("leap 5")');
@@ -41,7 +41,7 @@ inBrowsers("a run of 100,000 steps is drawn while the page goes on; a further st
   assert.match(await page.value('document.getElementById("overview").getAttribute("aria-valuetext")'), /step 50000: 33333 causes \(blue\), 15001 consequences/);
   const record = 'Service.ask("lines", { lines: ["records"] }).then((told) => new TextDecoder().decode(told.replies[0]).split("\\n").filter(Boolean))';
   await page.value("new Promise((done) => setTimeout(done, 2500))");
-  assert.equal(await page.value(`${record}.then((lines) => lines.length === Talk.run.graph.count && lines.every((line, index) => line === Talk.run.graph.told[index]))`), true, "the page's record is the console's");
+  assert.equal(await page.value(`${record}.then((lines) => lines.length === State.run.graph.count && lines.every((line, index) => line === State.run.graph.told[index]))`), true, "the page's record is the console's");
   assert.ok(memoryOf(page) < MOST_MEMORY, `${memoryOf(page)} MB`);
 });
 
@@ -55,7 +55,7 @@ inBrowsers("a line that is at work is stopped: the run stands where it stood, th
   assert.match(await page.value('document.getElementById("told").textContent'), /stopped by hand after [\d.]+ s: not taken; the run stands where it stood/);
   assert.doesNotMatch(await page.value("Files.sessionText()"), /1000000/);
   await page.value('Talk.send("leap 5")');
-  assert.equal(await page.value("Talk.run.graph.count"), 25);
+  assert.equal(await page.value("State.run.graph.count"), 25);
 });
 
 if (process.env.GHCDB_LONG === "1") {
@@ -63,7 +63,7 @@ if (process.env.GHCDB_LONG === "1") {
     await open(page, "", [1440, 900]);
     await page.value('(Page.begin({ program: "loop :- true | loop.\\n", query: "loop" }), Talk.settled())');
     await page.value(WATCH);
-    await page.value('(Talk.send("leap"), new Promise((done) => { const look = () => (Talk.busy && Talk.busy.read > 100000 ? done(true) : setTimeout(look, 5)); look(); }))');
+    await page.value('(Talk.send("leap"), new Promise((done) => { const look = () => (State.busy && State.busy.read > 100000 ? done(true) : setTimeout(look, 5)); look(); }))');
     await page.value("(Talk.stop(), Talk.settled())");
     assert.equal(await page.value('document.getElementById("count").textContent'), "0 steps, longest chain 0", "it is stopped while it is read");
     await quickEnough("the run", ({ freeze, slowness }) => freeze <= LONGEST_FREEZE * slowness, async () => {

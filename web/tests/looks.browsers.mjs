@@ -3,7 +3,7 @@
 import assert from "node:assert/strict";
 import { inBrowsers, open } from "./lib/in_browsers.mjs";
 import { CONTRAST } from "./lib/contrast.mjs";
-import { until } from "./lib/using.mjs";
+import { begin, until } from "./lib/using.mjs";
 
 const SIZES = { wide: [1440, 900], phone: [390, 800] };
 const RUNS = [
@@ -33,7 +33,7 @@ const TEXTS = `(() => {
 /** The parts of the page that reach beyond the window's width, and labels of buttons that are cut. */
 const PARTS = `(() => {
   const wrong = [];
-  for (const element of document.querySelectorAll("header *, .tools *, #answer *, #blame *, #note *, #panels .heading *")) {
+  for (const element of document.querySelectorAll("header *, .tools *, #answer *, #why *, #note *, #panels .heading *")) {
     const box = element.getBoundingClientRect();
     if (box.width === 0 || element.closest("option, select, [hidden]")) continue;
     if (box.right > innerWidth + 1) wrong.push("beyond the window: " + (element.id || element.textContent));
@@ -84,6 +84,43 @@ inBrowsers("all of a run fits where that is asked for, and after a run one looks
   assert.ok(await page.value(isThere), "the first goal that is there is in sight");
 });
 
+/** The steps of those that a selector finds which are not seen whole beside the names and below the axis. */
+const unseen = (selector) => `(() => {
+  const boxOf = (selector) => document.querySelector(selector).getBoundingClientRect();
+  const area = boxOf("#canvas"), left = boxOf("#canvas .names rect").right - 1, top = boxOf("#canvas .axis rect").bottom - 1;
+  const isSeen = ({ left: from, right, top: high, bottom }) => from >= left && right <= area.right + 1 && high >= top && bottom <= area.bottom + 1;
+  const lit = [...document.querySelectorAll("${selector} .body")].map((one) => [one.parentNode, one.getBoundingClientRect()]);
+  return lit.filter(([, box]) => !isSeen(box)).map(([mark]) => mark.dataset.step);
+})()`;
+const LIT = 'document.querySelectorAll("#canvas .mark.cause").length', FITS = 'document.getElementById("fit").getAttribute("aria-pressed") === "true"';
+const BESIDE_A_LOOP = "append([],Y,Z) :- true | Z = Y.\nappend([A|X],Y,Z) :- true | Z = [A|Z1], append(X,Y,Z1).\nloop(0) :- true | true.\nloop(N) :- N > 0 | M := N - 1, loop(M).\n";
+const upTo = (most) => Array.from({ length: most }, (none, at) => at + 1).join();
+
+// Each query with how many steps its R rests on, two for each of a list's elements and two for its end, and whether it has room without a fit.
+const RESTING = [["append([1,2],[x],R), loop(60)", 6, true], [`append([${upTo(90)}],[x],R), loop(20)`, 182, false], [`append([${upTo(40)}],[x],R), loop(200)`, 82, false]];
+
+inBrowsers("where all is done, and the steps have room, all of them are seen", async (page) => {
+  await open(page, "#example=quicksort&query=quicksort([3,1,2],R)&lines=leap", SIZES.wide);
+  await page.idle();
+  assert.equal(await page.value('document.querySelectorAll("#canvas .mark").length'), 27);
+  assert.deepEqual(await page.value(unseen("#canvas .mark")), []);
+});
+
+inBrowsers("what a value rests on is brought into sight, all at once where a picture can show it, until the next line", async (page) => {
+  await open(page, "", SIZES.wide);
+  for (const [query, count, hasRoom] of RESTING) {
+    await page.value(begin(BESIDE_A_LOOP, query));
+    await page.value('Talk.send("leap", "explain R").then(() => true)');
+    await page.idle();
+    assert.deepEqual([await page.value(LIT), await page.value(unseen("#canvas .mark.cause")), await page.value(FITS)], [count, [], !hasRoom], query);
+    await page.value('Talk.send("show R").then(() => true)');
+    assert.deepEqual([await page.value(LIT), await page.value(FITS)], [0, false], query);
+  }
+  await page.click("#fit");
+  await page.value('Talk.send("explain R", "show R").then(() => true)');
+  assert.equal(await page.value(FITS), true, "one's own wish stays");
+});
+
 inBrowsers("where as much is shown as a picture can, no name of a lane is over another one", async (page) => {
   const numbers = Array.from({ length: 100 }, (none, at) => (at * 37) % 101);
   for (const size of Object.values(SIZES)) {
@@ -98,10 +135,10 @@ inBrowsers("at 50 steps on a wide window the numbers of the steps are written wh
   for (const wide of [SIZES.wide, [2400, 900]]) {
     await open(page, "#example=primes&query=primes(30,Ps)&lines=leap 50", wide);
     const written = await page.value('[...document.querySelectorAll("#canvas .number, #canvas .small")].map((one) => Number(one.textContent)).sort((one, other) => one - other)');
-    assert.deepEqual(written, await page.value('Talk.run.graph.steps.filter((step) => step.kind === "reduce").map((step) => step.number)'));
+    assert.deepEqual(written, await page.value('State.run.graph.steps.filter((step) => step.kind === "reduce").map((step) => step.number)'));
     assert.ok(await page.value('document.getElementById("canvas").clientWidth - document.querySelector("#canvas svg").getBoundingClientRect().width') < 250);
   }
-  const computed = await page.value('Talk.run.graph.steps.filter((step) => step.kind === "assign").map((step) => step.binds[0].term)'), bound = await page.value('[...document.querySelectorAll("#canvas .bound")].map((one) => one.textContent.split("=").pop())');
+  const computed = await page.value('State.run.graph.steps.filter((step) => step.kind === "assign").map((step) => step.binds[0].term)'), bound = await page.value('[...document.querySelectorAll("#canvas .bound")].map((one) => one.textContent.split("=").pop())');
   assert.ok(computed.length > 10 && computed.every((value) => bound.includes(value)), `where there is room for large marks, what was computed is written, too: ${bound}`);
 });
 

@@ -1,7 +1,7 @@
 // Tests of web/naming.mjs: the names that program and query give to variables, for people and in a query.
 import assert from "node:assert/strict";
 import test from "node:test";
-import Graph from "../../front/run/graph.mjs";
+import * as Graph from "../../front/run/graph.mjs";
 import Naming from "../naming.mjs";
 
 const PROGRAM = "qs([],R,T) :- true | R = T.\nqs([P|L],R,T) :- true | part(L,P,S,B), qs(S,R,M), qs(B,M,T).\npart([],_,S,B) :- true | S = [], B = [].\n";

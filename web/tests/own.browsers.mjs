@@ -66,7 +66,7 @@ inBrowsers("after a reload of a link's address the lines that came later are off
   await page.value('Talk.send("step 1.1", "step 1.2")');
   const link = await page.value("location.href");
   for (const count of [3, 3]) {
-    await page.go(link, 'document.body.classList.contains("started") && !Talk.busy && Talk.entries.length > 0');
+    await page.go(link, 'document.body.classList.contains("started") && !State.busy && State.entries.length > 0');
     assert.match(await page.value(text("answer")), new RegExp(`^${count} lines on append\\(\\[1\\],\\[2\\],R\\) are kept from the last time\\. Go on with them Forget them×$`));
   }
   await page.click("#go-on");
@@ -126,12 +126,12 @@ inBrowsers("a program that is too long is not pasted or opened; of a long one th
 
 inBrowsers("where nothing is ready, the page tells who waits for what, and what to do", async (page) => {
   await open(page, "#example=deadlock&query=after(A,B)", WIDE);
-  assert.equal(await page.value(text("note")), "Nothing is ready, and a goal waits. 0.1 waits for A: nobody can bind it (no other goal has it). Add goals adds one that binds it.");
+  assert.equal(await page.value(text("note")), "Nothing is ready, and a goal waits. after 0.1 waits for A, which no other goal has. Why? Add goals adds one that binds it.");
   await page.click("#ask-more");
   await page.type("A = done");
   await page.key("Enter");
   await page.click("#leap");
   assert.equal(await page.value('document.querySelector("#goals").textContent'), "none: all is done");
   await open(page, "#example=deadlock&query=after(A,B), after(B,C)", WIDE);
-  assert.equal(await page.value(text("note")), "Nothing is ready, and 2 goals wait. 0.1 waits for A: nobody can bind it (no other goal has it). Add goals adds one that binds it.");
+  assert.equal(await page.value(text("note")), "Nothing is ready, and 2 goals wait. after 0.1 waits for A, which no other goal has. Why? Add goals adds one that binds it.");
 });

@@ -1,8 +1,8 @@
 // Tests of web/parts.mjs: which steps are of the part of a call.
 import assert from "node:assert/strict";
 import test from "node:test";
-import Graph from "../../front/run/graph.mjs";
-import Parts from "../parts.mjs";
+import * as Graph from "../../front/run/graph.mjs";
+import * as Parts from "../parts.mjs";
 import { eachPlay } from "./lib/runs.mjs";
 
 /** The part of a goal by its definition: the step that took it, and the parts of the goals that this step made. */

@@ -5,10 +5,10 @@ import path from "node:path";
 import test from "node:test";
 import { fileURLToPath } from "node:url";
 import { spawnSync } from "node:child_process";
-import Graph from "../../front/run/graph.mjs";
-import Lanes from "../../front/run/lanes.mjs";
-import Picture from "../picture.mjs";
-import Terms from "../../front/run/terms.mjs";
+import * as Graph from "../../front/run/graph.mjs";
+import * as Lanes from "../../front/run/lanes.mjs";
+import * as Picture from "../picture.mjs";
+import * as Terms from "../../front/run/terms.mjs";
 import { engineOfPage } from "../../front/session/engine_of_page.mjs";
 import { askedRun, eachPlay, runOf, plays } from "./lib/runs.mjs";
 
@@ -85,6 +85,15 @@ test("the picture shows an ask with no goal before it, arrows from what it names
   assert.match(svg, /class="legend">.*>ask<.*>named</);
   const without = Picture.draw({ ...run, graph: Graph.graphOf(run.graph.steps.slice(0, 1)), goals: [], shelf: [] }, { legend: true }).svg;
   assert.doesNotMatch(without, /class="legend">.*>(ask|named)</);
+});
+
+test("arcs lead from goals that wait to others that are shown; how many goals lack theirs is told", () => {
+  const arc = (from, to, variable) => ({ from, to, variable }), shown = [arc("4.2", "2.2", "_1_1"), arc("6.2", "4.1", "_2_1")];
+  const waits = { arcs: [...shown, arc("6.2", "7.1", "_2_1"), arc("2.2", "4.2", "_1_1")], circle: [], left: 3 };
+  const { svg } = Picture.draw({ ...askedRun(), waits }, { legend: true });
+  const drawn = [...svg.matchAll(/class="wait" data-from-goal="([^"]*)" data-to-goal="([^"]*)"/g)].map(([, from, to]) => [from, to]);
+  assert.deepEqual(drawn, shown.map(({ from, to }) => [from, to]));
+  assert.match(svg, />waits; arcs of 3 goals are left out</);
 });
 
 test("a text that is no SVG is refused by this test's reader", () => {

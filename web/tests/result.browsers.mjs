@@ -36,12 +36,13 @@ inBrowsers("a deadlock is told by names, and a click shows its lanes alone, anot
   await page.value(begin(example("wrong/philo"), "table(3,Done)"));
   await page.value('Talk.send("leap").then(() => true)');
   assert.equal(await page.value(text("result")), "stuck: Done = [D1₁,D2₁,D3₁]; 6 goals wait");
-  assert.equal(await page.value(text("note")), "A deadlock: phil 3 holds fork 3 and waits for fork 1; phil 1 holds fork 1 and waits for fork 2; phil 2 holds fork 2 and waits for fork 3. Show these lanes alone");
+  assert.equal(await page.value(text("note")), "A deadlock: phil 3 holds fork 3 and waits for fork 1; phil 1 holds fork 1 and waits for fork 2; phil 2 holds fork 2 and waits for fork 3. Show these lanes alone Why?");
   const all = ["1.1", "1.2", "1.3", "1.4", "1.5", "1.6", "1.7", "1.8", "0.1"];
   assert.deepEqual(await page.value(names), all);
   await page.click("#lanes-alone");
   assert.deepEqual(await page.value(names), ["1.1", "1.2", "1.3", "1.7", "1.8", "0.1"]);
   assert.equal(await page.value('document.querySelectorAll("#canvas .wait .circle").length'), 6);
+  assert.ok(await page.value('(({ scrollWidth, clientWidth }) => scrollWidth <= clientWidth + 1)(document.getElementById("canvas"))'), "no arc leaves the window");
   await page.click('#canvas [data-step="21"]');
   assert.deepEqual(await page.value("Canvas.chosen"), { step: 21 });
   await page.value("(Menus.close(), true)");

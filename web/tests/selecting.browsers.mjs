@@ -33,18 +33,18 @@ inBrowsers("a drag moves the picture and is no click; Ctrl and the wheel size it
   await until(page, `Shown.zoom > ${before}`);
   await open(page, "#example=primes&query=primes(400,Ps)&lines=leap 3000", WIDE);
   await page.value("(Overview.goTo(1000), new Promise((done) => setTimeout(() => done(true), 100)))");
-  const size = await page.value("Overview.sizeNow()"), place = await page.value(ground);
+  const size = await page.value("OnScreen.sizeNow()"), place = await page.value(ground);
   await page.drag(place, { x: place.x + 200, y: place.y });
-  await until(page, "Overview.from < 1000");
+  await until(page, "OnScreen.from < 1000");
   await page.wheel(place, 120, { ctrl: true });
-  await until(page, `Overview.sizeNow() > ${size}`);
+  await until(page, `OnScreen.sizeNow() > ${size}`);
 });
 
 inBrowsers("an area of the strip is summed, however long it is", async (page) => {
   await open(page, "#example=primes&query=primes(400,Ps)&lines=leap 3000", WIDE);
   const box = await page.value('(() => { const box = document.getElementById("overview").getBoundingClientRect(); return { left: box.left, right: box.right, y: box.top + 30 }; })()');
   await page.drag({ x: box.left + 10, y: box.y }, { x: box.right - 10, y: box.y }, { shift: true });
-  const sums = await page.value(`(() => { const { graph, clauses } = Talk.run, counts = {}; for (const step of graph.steps) { const name = step.clause ? clauses[step.clause - 1].predicate.split("/")[0] : { unify: "=", assign: ":=" }[step.kind]; counts[name] = (counts[name] || 0) + 1; }
+  const sums = await page.value(`(() => { const { graph, clauses } = State.run, counts = {}; for (const step of graph.steps) { const name = step.clause ? clauses[step.clause - 1].predicate.split("/")[0] : { unify: "=", assign: ":=" }[step.kind]; counts[name] = (counts[name] || 0) + 1; }
     return Object.entries(counts).sort(([one, first], [other, second]) => second - first || (one < other ? -1 : 1)).map(([name, count]) => name + " " + count.toLocaleString("en")).join(", "); })()`);
   assert.equal(await page.value(text("answer")), `3,000 steps, from 1 to 3000: ${sums}.×`);
   assert.match(await page.value('document.getElementById("overview").getAttribute("aria-valuetext")'), /3000 steps are lit/);

@@ -1,10 +1,10 @@
 // Tests of terms that are too long to be shown: front/protocol/short.mjs, and a worker that hands no more of them over than a page can use.
 import assert from "node:assert/strict";
 import test from "node:test";
-import Short from "../../front/protocol/short.mjs";
+import * as Short from "../../front/protocol/short.mjs";
 import WorkerSide from "../../front/session/worker_side.mjs";
 import { engineOfPage } from "../../front/session/engine_of_page.mjs";
-import Replies from "../../front/protocol/replies.mjs";
+import * as Replies from "../../front/protocol/replies.mjs";
 
 const MOST_HANDED = 3e6; // letters and bytes of one answer
 const DOUBLES = "d(0,X,Y) :- true | Y = X.\nd(N,X,Y) :- N > 0 | M := N - 1, d(M,f(X,X),Y).\n";

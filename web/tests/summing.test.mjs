@@ -1,8 +1,8 @@
 // Tests of web/summing.mjs: steps are summed by predicate and by what else they did.
 import assert from "node:assert/strict";
 import test from "node:test";
-import Graph from "../../front/run/graph.mjs";
-import Summing from "../summing.mjs";
+import * as Graph from "../../front/run/graph.mjs";
+import * as Summing from "../summing.mjs";
 
 const CLAUSES = ["p/1", "q/1", "q/1", "q/2"].map((predicate) => ({ predicate }));
 const RECORD = [

@@ -4,9 +4,9 @@ import fs from "node:fs";
 import path from "node:path";
 import test from "node:test";
 import { fileURLToPath } from "node:url";
-import ExampleNotes from "../example_notes.mjs";
-import SessionText from "../../front/protocol/session_text.mjs";
-import Tour from "../tour.mjs";
+import * as ExampleNotes from "../example_notes.mjs";
+import * as SessionText from "../../front/protocol/session_text.mjs";
+import * as Tour from "../tour.mjs";
 import { tutorialSessions } from "./lib/tutorial.mjs";
 
 const HERE = path.dirname(fileURLToPath(import.meta.url));

@@ -10,7 +10,7 @@ const notes = '[...document.querySelectorAll("#notes li")].map((one) => one.text
 inBrowsers("one goes back along the steps and goals that were looked at", async (page) => {
   await open(page, "#example=quicksort&query=quicksort([3,1,2],R)&lines=leap 12", WIDE);
   assert.ok(await page.value('document.getElementById("trail-back").disabled'));
-  const goal = await page.value("Talk.run.goals[0].name");
+  const goal = await page.value("State.run.goals[0].name");
   await page.value(`(Canvas.choose({ step: 8 }), Canvas.choose({ goal: "${goal}" }), Canvas.choose({ step: 3 }), true)`);
   assert.equal(await page.value(text("trail")), `Looked at: step 8 → ${goal} → step 3`);
   await page.click("#trail-back");
@@ -42,7 +42,7 @@ inBrowsers("a note on a step is kept with the session and stands in its link; wo
   assert.deepEqual(await page.value(notes), ["step 26: <b>here</b> it ends ×"]);
   assert.equal(await page.value(text("trail")), "Looked at: step 8 → step 26");
   await page.value("(localStorage.clear(), true)");
-  await page.go(link, 'document.body.classList.contains("started") && !Talk.busy && Talk.entries.length > 0');
+  await page.go(link, 'document.body.classList.contains("started") && !State.busy && State.entries.length > 0');
   assert.deepEqual(await page.value(notes), ["step 26: <b>here</b> it ends ×"]);
   await page.click("#notes [data-goto]");
   assert.deepEqual(await page.value("Canvas.chosen"), { step: 26 });

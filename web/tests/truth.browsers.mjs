@@ -1,8 +1,10 @@
 // Tests of web/ghcdb.html, in a headless Chromium and a headless Firefox: one time is on the screen, useless clauses are
 // not offered, and what is said of refusals, waits and failures is what the console says.
 import assert from "node:assert/strict";
+import { engineOfPage } from "../../front/session/engine_of_page.mjs";
 import { inBrowsers, open } from "./lib/in_browsers.mjs";
-import { begin, lines, numbers, text, until, WIDE } from "./lib/using.mjs";
+import { rows } from "./lib/runs.mjs";
+import { begin, field, lines, numbers, text, until, WIDE } from "./lib/using.mjs";
 
 /** What the panels, the lanes' names and the count say, without the buttons that do something. */
 const SCREEN = `(() => {
@@ -24,45 +26,73 @@ async function slideTo(page, steps) {
   await page.idle();
 }
 
-inBrowsers("the slider shows one time: all that is said is that of a session of the first steps", async (page) => {
-  await open(page, "#example=quicksort&query=quicksort([3,1,2],R)", WIDE);
-  const told = await compareTimes(page, 27);
-  assert.equal(told[27].result, "done: R = [1,2,3]");
-  await page.value('(document.getElementById("play").click(), true)');
-  await until(page, "Overview.until === 3 && Overview.earlier.graph.count === 3");
-  await page.value('Talk.send("undo 27")');
-  assert.equal(await page.value(text("count")), told[26].count, "a line leads back to the present");
-  for (const [address, steps] of TIMES) {
-    await open(page, address, WIDE);
-    await compareTimes(page, steps);
+const MOST_STEPS = 30;
+/**
+ * In the page: steps a run, to its end where it has one, and compares what is said at each time then with what the
+ * slider shows of it. Gives the times at which something else is said, and the results and counts that were said.
+ */
+const TIMES = `async ({ program, query }) => {
+  const said = () => (${SCREEN}), line = document.getElementById("step"), slider = document.getElementById("until"), told = [], wrong = [];
+  Page.begin({ program, query });
+  await Talk.settled();
+  told.push(said());
+  for (; !line.disabled && told.length <= ${MOST_STEPS}; told.push(said())) await Talk.send(line.dataset.line);
+  const all = told.length - 1;
+  for (let at = 0; at < all; at++) {
+    slider.value = String(at);
+    slider.dispatchEvent(new Event("input"));
+    do await new Promise((done) => setTimeout(done, 5)); while (State.busy || State.asked > 0 || OnScreen.until !== at);
+    const count = told[at].count.replace(/^(\\d+) steps?/, "$1 of " + all + (all === 1 ? " step" : " steps"));
+    if (JSON.stringify(said()) !== JSON.stringify({ ...told[at], count })) wrong.push([at, told[at], said()]);
+    if (document.querySelectorAll("#goals [data-line^=step]").length > 0) wrong.push([at, "a step is offered"]);
   }
+  document.getElementById("show-all-steps").click();
+  if (JSON.stringify(said()) !== JSON.stringify(told[all])) wrong.push([all, told[all], said()]);
+  return { wrong, results: told.map(({ result }) => result), counts: told.map(({ count }) => count) };
+}`;
+
+inBrowsers("the slider shows one time: all that is said is that of a session of the first steps", async (page) => {
+  await open(page, "#example=quicksort", WIDE);
+  const program = await page.value(field("program")), given = JSON.stringify({ program, query: "quicksort([3,1,2],R)" });
+  const { wrong, results, counts } = await page.value(`(${TIMES})(${given})`);
+  assert.deepEqual([wrong, results[27], results.length], [[], "done: R = [1,2,3]", 28]);
+  await page.value('(document.getElementById("play").click(), true)');
+  await until(page, "OnScreen.until === 3 && OnScreen.earlier.graph.count === 3");
+  await page.value('Talk.send("undo 27")');
+  assert.equal(await page.value(text("count")), counts[26], "a line leads back to the present");
 });
 
-const TIMES = [
-  ["#example=bill&query=bill(12,3,T)", 6], ["#example=append&query=append([1,2],[3],R)", 6], ["#example=merge&query=merge([1,2],[a],Z)", 6],
-  ["#example=deadlock&query=after(A,B), after(B,C), A = done", 5], ["#example=reverse&query=reverse([1,2],R)", 10],
+const ROWS = 20, FEWEST_STEPS = 3;
+
+/** Runs of the rows, of as many programs as there are, by their program and query: those of a few steps. */
+async function runsOfRows() {
+  const { engine } = await engineOfPage(), runs = new Map();
+  for (const { program, query } of rows()) {
+    const session = engine.open({ program, query });
+    session.line("leap 100");
+    const count = session.hasEnded ? 0 : session.line("records").length;
+    if (count >= FEWEST_STEPS && count <= MOST_STEPS && !runs.has(program)) runs.set(program, { program, query });
+  }
+  return [...runs.values()].slice(0, ROWS);
+}
+
+const EXAMPLES = [
+  ["bill", "bill(12,3,T)", 6], ["append", "append([1,2],[3],R)", 6], ["merge", "merge([1,2],[a],Z)", 6],
+  ["deadlock", "after(A,B), after(B,C), A = done", 5], ["reverse", "reverse([1,2],R)", 10],
 ];
 
-/** Steps to the end, and compares what is said of each time then with what the slider shows of it; gives what is said. */
-async function compareTimes(page, steps) {
-  const told = [await page.value(SCREEN)];
-  while (await page.value("Talk.run.goals.length > 0")) {
-    await page.value('Talk.send(document.getElementById("step").dataset.line)');
-    told.push(await page.value(SCREEN));
+inBrowsers("for each k of 20 rows, and of some examples, the panels are those of a session of the first k steps", async (page) => {
+  const runs = await runsOfRows();
+  assert.equal(runs.length, ROWS);
+  await open(page, "", WIDE);
+  const examples = await page.value("EXAMPLES.map(({ name, program }) => [name, program])").then((all) => new Map(all));
+  const known = EXAMPLES.map(([name, query, count]) => ({ program: examples.get(name), query, count }));
+  for (const { program, query, count } of [...known, ...runs]) {
+    const { wrong, counts } = await page.value(`(${TIMES})(${JSON.stringify({ program, query })})`), all = counts.length - 1;
+    assert.deepEqual(wrong, [], query);
+    assert.ok(count === undefined ? all >= FEWEST_STEPS : all === count, `${query}: ${all} steps`);
   }
-  const all = told.length - 1;
-  assert.equal(all, steps);
-  for (let at = 0; at < all; at++) {
-    await slideTo(page, at);
-    const count = told[at].count.replace(/^(\d+) steps?/, `$1 of ${all} steps`);
-    assert.deepEqual(await page.value(SCREEN), { ...told[at], count });
-  }
-  const offered = await page.value("document.querySelectorAll('#goals [data-line^=step]').length");
-  assert.equal(offered, 0, "no step is offered at an earlier time");
-  await page.click("#show-all-steps");
-  assert.deepEqual(await page.value(SCREEN), told[all]);
-  return told;
-}
+});
 
 inBrowsers("of a run of more than 3,000 steps the slider moves the picture, and the page says so", async (page) => {
   const goals = 'document.querySelectorAll("#goals .row").length';
@@ -96,7 +126,7 @@ inBrowsers("a menu asks what clauses say: one that says yes can be clicked, othe
   await page.value('Talk.send("step 0.2")');
   assert.deepEqual(await menu(), [["clause 3:", false], ["clause 2: waits for X", true], ["clause 1: says no", true]]);
   await page.value('Talk.send("step 0.1 1", "step 0.1 2")');
-  const replies = await page.value("Talk.entries.slice(-2).map((entry) => entry.reply[0])");
+  const replies = await page.value("State.entries.slice(-2).map((entry) => entry.reply[0])");
   assert.deepEqual(replies, ["F10 no clause matches", "F9 waits"]);
   await menu();
   await page.click("#menu .clause");
@@ -110,7 +140,7 @@ inBrowsers("a menu asks what clauses say: one that says yes can be clicked, othe
 
 const CHOICE = "c(R) :- true | R = 1.\nc(R) :- true | w(R).\nc(R) :- true | R = 2, R = 3.\nw(X) :- wait(X) | true.\n";
 const ENDS = [
-  [2, "stuck: 3.1 w(R) waits", /Nothing is ready, and a goal waits\. \d+\.1 waits for R: nobody can bind it/],
+  [2, "stuck: 3.1 w(R) waits", /Nothing is ready, and a goal waits\. w \d+\.1 waits for R, which no other goal has/],
   [3, "failed: R = 3; 3.1 3 = 2", /Goal \d+\.\d has failed: .* are two different things/],
 ];
 
@@ -133,12 +163,12 @@ inBrowsers("beside a run that is kept a deadlock and a failure are told, too", a
 
 const CIRCLES = [
   ["p(1) :- true | true.\nr(1,2) :- true | true.\ns(2,X) :- true | true.\n", "p(X), r(X,Y), s(Y,X)", ["0.2", "0.3"],
-    "A deadlock: s waits for r to bind Y; r waits for s to bind X. Show these lanes alone"],
+    "A deadlock: s waits for r to bind Y; r waits for s to bind X. Show these lanes alone Why?"],
   ["p(a,_) :- true | true.\np(_,b) :- true | true.\n", "p(X,Y), p(Y,X)", ["0.1", "0.2"],
-    "A deadlock: p 1 waits for p 2 to bind X; p 2 waits for p 1 to bind X. Show these lanes alone"],
+    "A deadlock: p 1 waits for p 2 to bind X; p 2 waits for p 1 to bind X. Show these lanes alone Why?"],
 ];
 
-inBrowsers("`F1 = 2` is a value and no refusal; a circle is one on the page as at the terminal", async (page) => {
+inBrowsers("`F1 = 2` is a value and no refusal; a circle is told in its order", async (page) => {
   await open(page, "#example=append&query=F1 = 2&lines=leap;show F1", WIDE);
   assert.equal(await page.value(text("answer")), "");
   assert.equal(await page.value("document.querySelectorAll('#told .refused').length"), 0);
@@ -149,7 +179,6 @@ inBrowsers("`F1 = 2` is a value and no refusal; a circle is one on the page as a
     assert.equal(await page.value(text("note")), told);
     const links = await page.value('[...document.querySelectorAll("#note [data-go-goal]")].map((one) => one.dataset.goGoal)');
     assert.deepEqual([...new Set(links)].sort(), names);
-    const atTerminal = await page.value("Stuck.linesOf(Talk.run.goals, (variable) => variable)"), way = links.filter((link, at) => at % 2 === 0);
-    assert.ok(atTerminal.includes(`a circle: ${[...way, way[0]].join(" waits for ")}`), atTerminal.join("; "));
+    assert.deepEqual(await page.value("State.run.waits.circle.map(({ from }) => from)"), links.filter((link, at) => at % 2 === 0));
   }
 });

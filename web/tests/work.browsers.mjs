@@ -52,7 +52,11 @@ inBrowsers("a refused program, query and line are told with their cause, and the
   assert.match(await answer(), /^undefined: no clause has the head q with 1 argument[^]*= defined are: p\/1×$/);
   await start(`p(${"f(".repeat(70)}1${")".repeat(70)}).\n`, "true");
   assert.equal(await answer(), "the brackets that are open at one place: 64 at most; the most operators that may stand inside one another in what is asked for: 1,000×");
+  const panels = async () => [await page.value(text("store")), await page.value('document.getElementById("keep-run").disabled')];
+  await start("p(1).\n", "q(X)");
+  assert.deepEqual(await panels(), ["nothing is bound", true], "there is no run");
   await start("p(1).\n", "p(1)");
+  assert.deepEqual(await panels(), ["nothing is bound", false]);
   assert.ok(await page.value('document.getElementById("answer").hidden'), "nothing is told of a program that is right");
   await page.value('Talk.send("ask Y is 1")');
   assert.match(await answer(), /^ask Y is 1 was refused: F2 syntax at 1:3syntax: `is` is written := --> ask:1:3[^]*= Y := 1×$/);
@@ -113,7 +117,7 @@ inBrowsers("a part of a value is explained by a click, who and why light up, a v
   const ringed = await page.value(numbers("#canvas .going")), told = await page.value('document.querySelector("#menu .danger").textContent');
   assert.equal(told, `Take back ${ringed.length}`);
   await page.click("#menu .danger");
-  assert.equal(await page.value("Talk.run.graph.count"), 55 - ringed.length);
+  assert.equal(await page.value("State.run.graph.count"), 55 - ringed.length);
   assert.equal(await page.value('Service.ask("lines", { lines: ["show _2_3"] }).then((told) => told.replies[0][0])'), "_2_3 = [8,9]");
 });
 
@@ -130,9 +134,9 @@ inBrowsers("after a reload the page offers to go on; Open tells the first reply 
   await page.value("Keeping.makeLink()");
   const link = await page.value("location.href"), entries = await page.value(lines);
   assert.ok(link.includes("#s=") && link.length < 8400);
-  await page.go(link, 'document.body.classList.contains("started") && !Talk.busy && Talk.entries.length > 0');
+  await page.go(link, 'document.body.classList.contains("started") && !State.busy && State.entries.length > 0');
   assert.deepEqual(await page.value(lines), entries);
-  assert.equal(await page.value("Talk.given.query"), "quicksort([3,1],R)");
+  assert.equal(await page.value("State.given.query"), "quicksort([3,1],R)");
   await open(page, "#s=none", WIDE);
   assert.equal(await page.value(text("answer")), "The address holds no session that can be read.×");
   const out = `(async () => {
@@ -171,7 +175,7 @@ inBrowsers("the chosen step's clause is marked in the program, lines wrap, the d
   assert.deepEqual(await page.value(marked), ["price(N,P) :- N > 0 | P := N * 10."]);
   await page.value('Canvas.choose({ step: 3 })');
   assert.deepEqual(await page.value(marked), []);
-  const high = 'document.getElementById("program-lines").offsetHeight', before = await page.value(high);
+  const high = 'document.getElementById("program-lines").offsetHeight', before = await page.value(`(document.getElementById("program").focus(), ${high})`);
   assert.equal(await page.value('document.getElementById("program").scrollHeight - document.getElementById("program-lines").offsetHeight < 30 || document.getElementById("program").scrollHeight === document.getElementById("program").clientHeight'), true);
   await page.click("#wrap");
   assert.ok((await page.value(high)) < before, "a long line goes on in one row");
@@ -192,9 +196,9 @@ inBrowsers("the record is shown up to a step, steps are found, a lane folds to a
   assert.equal(await page.value('document.querySelectorAll("#canvas .mark").length'), 27);
   await page.value('(document.getElementById("search").value = "part", Looking.seek())');
   const hits = await page.value(numbers("#canvas .hit"));
-  assert.deepEqual(hits, await page.value('Talk.run.graph.steps.filter((step) => step.clause >= 4).map((step) => step.number)'));
+  assert.deepEqual(hits, await page.value('State.run.graph.steps.filter((step) => step.clause >= 4).map((step) => step.number)'));
   assert.equal(await page.value(text("hits")), `1 of ${hits.length}`);
-  const under = await page.value('Overview.stepsUnder(Overview.laneOf({ goal: "2.1", step: 3 }))');
+  const under = await page.value('OnScreen.stepsUnder(OnScreen.laneOf({ goal: "2.1", step: 3 }))');
   await page.value('Looking.fold("2.1", true)');
   assert.equal((await page.value('document.querySelector("#canvas .bar").textContent')).startsWith(`${under} steps`), true);
   assert.equal(await page.value('document.querySelectorAll("#canvas .mark").length'), 27 - under);
@@ -228,7 +232,7 @@ inBrowsers("arrows from outside the window end at their steps, tell where they c
   assert.ok(coming.length > 3);
   for (const [from, to] of coming) {
     assert.ok(!shown.has(from) && shown.has(to), `${from} to ${to}`);
-    assert.ok(await page.value(`Talk.run.graph.causes.get(${to}).some((cause) => cause.from === ${from})`));
+    assert.ok(await page.value(`State.run.graph.causes.get(${to}).some((cause) => cause.from === ${from})`));
   }
   await page.value('document.querySelector("#canvas .coming path").dispatchEvent(new MouseEvent("click", { bubbles: true }))');
   assert.deepEqual(await page.value("Canvas.chosen"), { step: coming[0][0] });

@@ -3,7 +3,7 @@ import assert from "node:assert/strict";
 import fs from "node:fs";
 import path from "node:path";
 import { fileURLToPath } from "node:url";
-import Graph from "../../../front/run/graph.mjs";
+import * as Graph from "../../../front/run/graph.mjs";
 
 const HERE = path.dirname(fileURLToPath(import.meta.url));
 

@@ -12,7 +12,7 @@ const LONGEST_TEST = 600000; // milliseconds
 
 export const FILE = path.join(path.dirname(fileURLToPath(import.meta.url)), "..", "..", "ghcdb.html");
 export const PAGE = pathToFileURL(FILE).href;
-export const STARTED = 'document.body.classList.contains("started") && !Talk.busy';
+export const STARTED = 'document.body.classList.contains("started") && !State.busy';
 
 const BROWSERS = [{ name: "Chromium", Page: ChromiumPage, isThere: chromiumName() }, { name: "Firefox", Page: FirefoxPage, isThere: firefoxName() }];
 

@@ -3,12 +3,13 @@ import assert from "node:assert/strict";
 import fs from "node:fs";
 import path from "node:path";
 import { fileURLToPath } from "node:url";
-import Asking from "../../../front/protocol/asking.mjs";
-import ExampleNotes from "../../example_notes.mjs";
-import Graph from "../../../front/run/graph.mjs";
-import SessionText from "../../../front/protocol/session_text.mjs";
+import * as Asking from "../../../front/protocol/asking.mjs";
+import * as Clauses from "../../../front/text/clauses.mjs";
+import * as ExampleNotes from "../../example_notes.mjs";
+import * as Graph from "../../../front/run/graph.mjs";
+import * as SessionText from "../../../front/protocol/session_text.mjs";
 import { engineOfPage } from "../../../front/session/engine_of_page.mjs";
-import Replies from "../../../front/protocol/replies.mjs";
+import * as Replies from "../../../front/protocol/replies.mjs";
 
 const HERE = path.dirname(fileURLToPath(import.meta.url));
 
@@ -50,7 +51,7 @@ function runOf(session, play) {
   const told = Asking.whereItStands(session, play.query), steps = Replies.readRecords(told.records), goals = Replies.readGoals(told.goals);
   const texts = new Map();
   Asking.completeTexts(texts, steps, session);
-  return { given: play, graph: Graph.graphOf(told.records), goals, shelf: Replies.readShelf(told.shelf), texts, clauses: Graph.readClauses(play.program), told };
+  return { given: play, graph: Graph.graphOf(told.records), goals, shelf: Replies.readShelf(told.shelf), why: [], texts, clauses: Clauses.clausesOf(play.program), told };
 }
 
 /** Plays all: calls `look(play, session, run)` where the lines of each are told, unless it was refused, has ended, or is too long. */
@@ -77,7 +78,7 @@ function askedRun() {
     "6.1 ready append([],_4_1,_6_1)", "6.2 waits _2_1 append(_2_1,_1_1,_6_2)"]);
   const texts = new Map(goals.map((goal) => [goal.name, goal.text]));
   for (const [name, text] of [["0.1", "append([1],[2],_0_1)"], ["1.1", "_0_1 = [1|_1_1]"], ["2.1", "append(_0_1,[3],_2_1)"]]) texts.set(name, text);
-  return { graph: Graph.graphOf(steps), goals, shelf: Replies.readShelf(["7 - ask append(_6_1,[],_7_1)"]), texts, clauses: Graph.readClauses(program) };
+  return { graph: Graph.graphOf(steps), goals, shelf: Replies.readShelf(["7 - ask append(_6_1,[],_7_1)"]), texts, clauses: Clauses.clausesOf(program) };
 }
 
 export { askedRun, eachPlay, plays, rows, runOf };

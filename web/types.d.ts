@@ -1,0 +1,79 @@
+// What the parts of the page hand to each other, for tools/lint: elements by their names, and what one does at another's wish.
+import type { Opening } from "../front/types";
+
+/** The elements that are more than any element, by their names in page.html or where they are made. */
+export interface Places {
+  program: HTMLTextAreaElement;
+  query: HTMLInputElement;
+  examples: HTMLSelectElement;
+  line: HTMLInputElement;
+  search: HTMLInputElement;
+  until: HTMLInputElement;
+  file: HTMLInputElement;
+  "note-text": HTMLInputElement;
+  "larger-query": HTMLButtonElement;
+  "link-text": HTMLInputElement;
+  overview: HTMLCanvasElement;
+  help: HTMLDialogElement;
+  start: HTMLFormElement;
+  play: HTMLButtonElement;
+  step: HTMLButtonElement;
+  leap: HTMLButtonElement;
+  "leap-ten": HTMLButtonElement;
+  "undo-last": HTMLButtonElement;
+  tidy: HTMLButtonElement;
+  "ask-more": HTMLButtonElement;
+  "keep-run": HTMLButtonElement;
+  "trail-back": HTMLButtonElement;
+}
+
+/** What can be chosen in the picture: a step or a goal. */
+export interface Choice { step?: number; goal?: string }
+
+/** A clause's lines in the program. */
+export interface Lines { from: number; to: number }
+
+/** A text, or an element. */
+export type Part = string | Node;
+
+/** The texts in the fields, or of a session; no history is an empty one. */
+export type Texts = Omit<Opening, "history"> & { history?: string };
+
+/** What the parts do at each other's wish; deeds.mjs has the names, and page.mjs says who does what. */
+export interface Doers {
+  begin(texts: Texts): void;
+  beginOther(begins: () => unknown): Promise<void>;
+  typed(): Texts;
+  isChanged(): boolean;
+  setTyped(texts: Texts): void;
+  keepSoon(): void;
+  showTab(name: string): void;
+  setOrder(by: string): void;
+  showNow(): void;
+  showTime(): void;
+  timeRows(): { key: string | null; does: () => HTMLElement }[];
+  showNote(): void;
+  showDetail(chosen: Choice | null): void;
+  draw(): void;
+  drawStrip(): void;
+  goToPart(from: number): void;
+  choose(chosen: Choice | null): void;
+  scrollTo(chosen: Choice): void;
+  visit(step: number): void;
+  markWay(steps: number[]): void;
+  ring(steps: { has(number: number): boolean }): void;
+  markClause(clause: Lines | null): void;
+  markLit(clauses: number[]): void;
+  lightClause(number: number): void;
+  size(factor: number): void;
+  selectRange(one: number, other: number): void;
+  resultOf(kept: object): HTMLElement;
+  tell(isBad: boolean, ...parts: Part[]): void;
+  hideAnswer(): void;
+  tellSlice(name: string, slice: object): void;
+  openMenu(chosen: object, anchor: Element): void;
+  openMenuWith(parts: Part[], anchor: Element, focus?: string): void;
+  closeMenu(): void;
+  pointAgain(): void;
+  savePicture(how: object): Promise<void>;
+}
