@@ -131,6 +131,23 @@ SHELLS = [
         1,
     ),
     Shell(
+        "a schedule has no end: it is skipped as one line that is too long, in no more memory, until it is stopped",
+        "ulimit -v 60000; timeout 2 $ghcdb append.ghc --query true --schedule /dev/zero; echo $?",
+        "124\n",
+    ),
+    Shell(
+        "a line of a schedule is large",
+        "ulimit -v 60000; { head -c 100000000 /dev/zero; echo; echo note 0.1; } |"
+        " $ghcdb append.ghc --query 'X = 1' --schedule /dev/stdin",
+        "F6 limit: line\nnoted 0.1\nnone\n",
+    ),
+    Shell(
+        "each line of a schedule is answered before the next one is written",
+        "mkfifo lines; $ghcdb append.ghc --query 'X = 1' --schedule lines |"
+        " { exec 3>lines; echo propose 1 0.1 >&3; read -r one; echo commit 1 >&3; read -r two; exec 3>&-; echo $two, $one; cat; }",
+        "step 1, held 1\n1 0.1 eq reads - binds _0_1=1 makes -\n",
+    ),
+    Shell(
         "what was replied before a run is written when a signal ends it",
         f"echo '{BUSY}' >busy.ghc; printf 'leap 1\\nsave\\nleap\\n' |"
         " timeout -s INT 2 $ghcdb busy.ghc --query 'list(200,L,D), list(200,M,E), busy(D,E,L,M)'; echo $?",

@@ -3,7 +3,8 @@
 
 Each session below is played at a size and at four times that size. The processor time may grow to SLOWER times four,
 which leaves room for a logarithm and for caches; what grows with the square grows to sixteen times. Of each, the least
-of three runs counts. The last line is `N passed, M failed`, and the status is 1 where one failed.
+of three runs counts. Below them stand sessions of which the memory at its highest may grow by so many bytes a step.
+The last line is `N passed, M failed`, and the status is 1 where one failed.
 """
 import os
 import resource
@@ -32,6 +33,12 @@ waits(N,X) :- N > 0 | M := N - 1, w(X), waits(M,X).
 w(a) :- true | true.
 loop :- true | loop.
 """
+# Goals that are ready, and a loop beside them.
+READY = """ready(0) :- true | loop.
+ready(N) :- N > 0 | M := N - 1, ready(M), r.
+r :- true | true.
+loop :- true | loop.
+"""
 # Goals that carry a closed list.
 WALK = """walk([]) :- true | true.
 walk([_|X]) :- true | walk(X).
@@ -51,6 +58,11 @@ LISTED = """listed(0,X,Y) :- true | X = [Y].
 listed(N,X,Y) :- N > 0 | M := N - 1, X = [a|Z], listed(M,Z,Y).
 """
 
+# gen(N,L) makes a list of N cells behind L, each by a step of a call, an equation and an assignment.
+MADE = """gen(0,L) :- true | L = [].
+gen(N,L) :- N > 0 | L = [N|T], M := N - 1, gen(M,T).
+"""
+
 # A small call, and a count beside it.
 BESIDE = """start(N) :- true | p(_), count(N).
 p(X) :- true | X = a.
@@ -68,6 +80,8 @@ class Session(NamedTuple):
     history: str = ""
     last: str | None = None
     workers: int = 1
+    # The kilobytes of address space that the program may take, or None for all that there is.
+    room: int | None = None
 
 
 def causes(size):
@@ -95,6 +109,11 @@ def beside_many(size):
     return Session(WAITING, f"waits({size},X), loop", [f"leap {4 * size}"] + ["leap 1"] * size)
 
 
+def beside_many_ready(size):
+    """Runs of one step beside so many goals that are ready."""
+    return Session(READY, f"ready({size})", [f"leap {2 * size + 1}"] + ["leap 1"] * size)
+
+
 def walks(size):
     """Two goals walk along closed lists of so many elements, by two workers."""
     listed = ",".join(size * "1")
@@ -111,6 +130,11 @@ def undone(size):
         ["leap"] + [f"undo {step}" for step in range(size + 1, 0, -1)] + ["save 1"],
         last=f"end {size + 2}",
     )
+
+
+def rolled_without_room(size):
+    """A run that ends where memory does, so that the record finds no room for its index, and the `roll` of its first step."""
+    return Session("loop(X) :- true | loop(X).\n", "loop(X)", ["leap", "roll 1"], room=size)
 
 
 def doubled(size):
@@ -160,6 +184,15 @@ def loaded_written(first, second):
     return session
 
 
+def loaded_list(size):
+    """The history of a list of so many cells is loaded."""
+    calls = ["0.1"] + [f"{step}.3" for step in range(1, 3 * size, 3)]
+    cells = "".join(f"{step} {call} by 2\n{step + 1} {step}.1 eq\n{step + 2} {step}.2 is\n" for step, call in zip(range(1, 3 * size, 3), calls))
+    last = 3 * size + 1
+    history = f"ghc-history 1\nsteps {last + 1}\n{cells}{last} {calls[-1]} by 1\n{last + 1} {last}.1 eq\nend {last + 2}\n"
+    return Session(MADE, f"gen({size},L)", ["leap"], history, "stopped quiet")
+
+
 def parts_beside_many(size):
     """`part` of a small call so many times, beside twice as many other steps."""
     return Session(BESIDE, f"start({size})", ["leap"] + ["part 1.1"] * size, last="2 1.1 by 2")
@@ -171,15 +204,27 @@ class Growth(NamedTuple):
     size: int
 
 
+class Memory(NamedTuple):
+    """A session of which each step more may take so many bytes."""
+
+    what: str
+    session: Callable[[int], Session]
+    size: int
+    steps: int  # in one of this size
+    most: int
+
+
 GROWTHS = [
     Growth("why of a step with many causes", causes, 10_000),
     Growth("blame with many calls told wrong, the innermost first", blamed, 2_500),
     Growth("a history whose numbers were searched for the hash of numbers", searched(hash_of_numbers), 40_000),
     Growth("a history whose numbers were searched for the hash of the kit", searched(hash_of_kit), 40_000),
     Growth("runs of one step beside many goals that wait", beside_many, 8_000),
+    Growth("runs of one step beside many goals that are ready", beside_many_ready, 4_000),
     Growth("parts of a small call beside many other steps", parts_beside_many, 8_000),
     Growth("walks along closed lists by two workers", walks, 20_000),
     Growth("undos of all steps of a run", undone, 10_000),
+    Growth("the roll of the first step behind a run that memory stopped, by kilobytes", rolled_without_room, 12_875),
     Growth("two terms doubled through variables made equal", doubled, 4_000),
     Growth("blame of the last place of a list", blamed_place, 5_000),
     Growth("an open term doubled as written", written("f(X,X)", "Y"), 250),
@@ -188,7 +233,9 @@ GROWTHS = [
     Growth("an open term of twenty variables doubled as written", written("f(X,X)", "Y", f"k({','.join(f'V{index}' for index in range(20))})"), 250),
     Growth("two open terms doubled as written by four workers", written_twice, 250),
     Growth("an open term doubled as written, loaded", loaded_written("f(X,Y)", "g(Y,X)"), 250),
+    Growth("a list made by steps that are loaded", loaded_list, 20_000),
 ]
+MEMORIES = [Memory("a list made by steps that are loaded", loaded_list, 20_800, 3, 430)]
 
 
 def processor_time():
@@ -202,8 +249,17 @@ def share_a_processor():
     os.sched_setaffinity(0, {min(os.sched_getaffinity(0))})
 
 
-def played(session, folder):
-    """The least processor time that the session takes, in seconds, and the last line that it prints."""
+def held(session):
+    """What holds the program to one processor, or to its room, if anything does."""
+    if session.workers > 1:
+        return share_a_processor
+    if session.room is not None:
+        return lambda: resource.setrlimit(resource.RLIMIT_AS, (1024 * session.room, 1024 * session.room))
+    return None
+
+
+def words_of(session, folder):
+    """The words that start the session, whose files are put into the folder."""
     (folder / "program.ghc").write_text(session.program)
     words = [PROGRAM, "program.ghc", "--query", session.query]
     if session.history:
@@ -211,12 +267,17 @@ def played(session, folder):
         words += ["--load", "run.history"]
     if session.workers > 1:
         words += ["--workers", str(session.workers)]
-    times = []
+    return words
+
+
+def played(session, folder):
+    """The least processor time that the session takes, in seconds, and the last line that it prints."""
+    words, times = words_of(session, folder), []
     for _ in range(RUNS):
         before = processor_time()
         text = "".join(f"{line}\n" for line in session.lines)
         how = {"input": text, "capture_output": True, "text": True, "cwd": folder, "timeout": SECONDS}
-        run = subprocess.run(words, **how, preexec_fn=share_a_processor if session.workers > 1 else None)
+        run = subprocess.run(words, **how, preexec_fn=held(session))
         times.append(processor_time() - before)
     if run.returncode:
         raise AssertionError(f"status {run.returncode}: {run.stderr.strip()}")
@@ -237,14 +298,39 @@ def wrong_with(growth, folder):
     return f"{large / small:.1f} times as long" if large > 4 * SLOWER * max(small, 0.01) else None
 
 
+def most_memory(session, folder):
+    """The memory that the session has at its highest, in bytes."""
+    words, text = words_of(session, folder), "".join(f"{line}\n" for line in session.lines)
+    (folder / "lines").write_text(text)
+    with open(folder / "lines") as lines:
+        run = subprocess.Popen(words, stdin=lines, stdout=subprocess.DEVNULL, cwd=folder)
+        _, status, spent = os.wait4(run.pid, 0)
+    run.returncode = os.waitstatus_to_exitcode(status)
+    if run.returncode:
+        raise AssertionError(f"status {run.returncode}")
+    return 1024 * spent.ru_maxrss
+
+
+def too_much_of(memory, folder):
+    """What is wrong with the memory that the session takes, if anything."""
+    small, large = (most_memory(memory.session(size), folder) for size in (memory.size, 4 * memory.size))
+    each = (large - small) / (3 * memory.size * memory.steps)
+    print(f"memory: {memory.what}: {each:.0f} bytes a step")
+    return f"{each:.0f} bytes a step, more than {memory.most}" if each > memory.most else None
+
+
 def main():
     wrong = []
     for growth in GROWTHS:
         with tempfile.TemporaryDirectory(prefix="ghcdb-growth-") as folder:
             found = wrong_with(growth, Path(folder))
         wrong += [f"{growth.what}: {found}"] if found else []
+    for memory in MEMORIES:
+        with tempfile.TemporaryDirectory(prefix="ghcdb-growth-") as folder:
+            found = too_much_of(memory, Path(folder))
+        wrong += [f"{memory.what}: {found}"] if found else []
     print("".join(f"failed: {it}\n" for it in wrong), end="")
-    print(f"{len(GROWTHS) - len(wrong)} passed, {len(wrong)} failed")
+    print(f"{len(GROWTHS) + len(MEMORIES) - len(wrong)} passed, {len(wrong)} failed")
     return 1 if wrong else 0
 
 

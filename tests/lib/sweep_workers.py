@@ -88,11 +88,11 @@ class SharedCase:
         self.plain = self.session.play()
 
     def trials(self):
-        """The trials of the start and of all runs but the last."""
+        """The trials of the start, of which each request is refused, and of all runs but the last."""
         runs = [at for at, line in enumerate(self.lines, 1) if line.split()[0] in RUNS]
         for at in [0, *runs[:-1]]:
             count = self.plain.requests[at]
-            for first in range(1, count + 1, max(1, -(-count // MOST))):
+            for first in range(1, count + 1, max(1, -(-count // MOST)) if at else 1):
                 yield Trial(at, first, first)
                 yield Trial(at, first, ALL_BEHIND)
 

@@ -63,6 +63,7 @@ def steps_of(records, texts):
     steps = {}
     for line, told in zip(records, texts):
         number, goal, act, reads, binds, makes = RECORD.fullmatch(line).groups()
+        taken = told.rstrip("\n").removeprefix(f"{number} {goal} {act} ")
         bound = dict(it.split("=", 1) for it in binds.split(";")) if binds != "-" else {}
         steps[int(number)] = Step(
             int(number),
@@ -71,7 +72,7 @@ def steps_of(records, texts):
             [] if reads == "-" else reads.split(","),
             {x: read(t) for x, t in bound.items()},
             [] if makes == "-" else makes.split(","),
-            told.rstrip("\n").removeprefix(f"{number} {goal} {act} "),
+            re.sub(r" line \d+$", "", taken) if act.startswith("by ") else taken,
         )
     return steps
 

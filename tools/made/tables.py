@@ -43,6 +43,7 @@ REFUSED_BY: dict[str, list] = {
     "arrange": [("ghc_core", "Fails", "arrange")],
     "clauses": [("ghc_console", "TellsClausesFor")],
     "explain": [("ghc_console", "RepliesToExplain"), ("ghc_console", "RepliesToExplainGoal")],
+    "whynot": [("ghc_console", "RepliesToWhyNot"), ("ghc_console", "RepliesToWhyNotGoal")],
     "keep": [("ghc_console", "RepliesToKeep"), ("ghc_console", "RepliesToKeepGoal")],
     "save": [("ghc_console", "RepliesToSaveSteps")],
     "leap": [],
