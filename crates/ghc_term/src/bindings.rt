@@ -22,8 +22,10 @@ pub struct Bindings {
     held: Held,
 }
 
+// A search from the term of `Near` was seen to be short.
 enum Held {
     Nothing(Global),
+    Near(Global, (VarName, Term)),
     One(Global, (VarName, Term)),
     Listed(Vec<(VarName, Term)>),
     Tabled(Box<BindingTable>),
@@ -34,6 +36,7 @@ impl Drop for Held {
     fn drop(self) {
         match self {
             Held::Nothing(_) => {}
+            Held::Near(_, _entry) => {}
             Held::One(_, _entry) => {}
             Held::Listed(_list) => {}
             Held::Tabled(_table) => {}
@@ -105,6 +108,7 @@ impl Held {
     {
         match self {
             Held::Nothing(_) => &[],
+            Held::Near(_, entry) => slice::from_ref(entry),
             Held::One(_, entry) => slice::from_ref(entry),
             Held::Listed(list) => list.as_slice(),
             Held::Tabled(table) => table.entries(),
@@ -119,6 +123,7 @@ impl Held {
     {
         match self {
             Held::Nothing(alloc) => Ok(Held::Nothing(*alloc)),
+            Held::Near(alloc, (x, value)) => Ok(Held::Near(*alloc, (*x, value.share()?))),
             Held::One(alloc, (x, value)) => Ok(Held::One(*alloc, (*x, value.share()?))),
             Held::Listed(list) => Ok(Held::Listed(share_entries(*list.allocator(), list)?)),
             Held::Tabled(table) => Ok(Held::Tabled(table.share()?)),
@@ -133,6 +138,7 @@ impl Held {
     {
         match self {
             Held::Nothing(_) => {}
+            Held::Near(_, (x, value)) => map.put(x, value),
             Held::One(_, (x, value)) => map.put(x, value),
             Held::Listed(list) => put_each(map, list),
             Held::Tabled(table) => put_each(map, Box::into_inner(table).into_entries()),
@@ -193,6 +199,12 @@ impl Bindings {
                 self.held = Held::One(*alloc, (x, value));
                 Ok(())
             }
+            Held::Near(alloc, entry) => {
+                let mut list = listed(*alloc, entry)?;
+                let done = put(&mut list, x, value);
+                self.held = Held::Listed(list);
+                done
+            }
             Held::One(alloc, entry) => {
                 let mut list = listed(*alloc, entry)?;
                 let done = put(&mut list, x, value);
@@ -210,6 +222,35 @@ impl Bindings {
             }
             Held::Tabled(table) => table.insert(x, value),
         }
+    }
+
+    /// Binds a variable as `insert` does, to a term from which a search was seen to be short. Where it is the only one, `Store::put`
+    /// does not look at the term again. It shows in what that costs and in what searches cost, and in nothing else.
+    #[inline(always)]
+    pub fn insert_near(&mut self, x: VarName, value: Term) -> Result<(), AllocError>
+        ensures ok { OnOk result (self.new ≡ finite.insert self.old x value) }
+        ensures err { OnErr result (self.new ≡ self.old) }
+    {
+        if let Held::Nothing(alloc) = &self.held {
+            self.held = Held::Near(*alloc, (x, value));
+            return Ok(());
+        }
+        self.insert_more(x, value)
+    }
+
+    // Binds a variable as `insert` does, beside others.
+    #[inline(never)]
+    fn insert_more(&mut self, x: VarName, value: Term) -> Result<(), AllocError>
+        ensures ok { OnOk result (self.new ≡ finite.insert self.old x value) }
+        ensures err { OnErr result (self.new ≡ self.old) }
+    {
+        self.insert(x, value)
+    }
+
+    // Whether there is one binding, and a search from its term was seen to be short.
+    #[inline(always)]
+    pub(crate) fn is_near(&self) -> bool {
+        matches!(&self.held, Held::Near(_, _))
     }
 
     /// Binds a variable that is not bound here: one step, where a few are bound and there is room.
@@ -292,6 +333,7 @@ impl Bindings {
 }
 
 impl Drop for Bindings {
+    #[inline(always)]
     fn drop(self) {
         let Bindings { held: _held } = self;
     }

@@ -21,6 +21,8 @@ pub struct Store {
     map: VariableMap<Term>,
     // variables that reach none but each other, so that a search for another one goes past them
     known: VariableList,
+    // whether a variable was unbound: from then on a step may come again, whose search was seen to be short in an earlier store
+    has_unbound: bool,
 }
 
 impl Model for Store {
@@ -53,6 +55,7 @@ impl Store {
         Store {
             map: VariableMap::new(alloc),
             known: VariableList::new(alloc),
+            has_unbound: false,
         }
     }
 
@@ -134,11 +137,20 @@ impl Store {
         self.map.reserve(count, newest)
     }
 
-    // The first of the bindings: its variable, and whether a search from its value is long. A look-up for each argument of the value,
-    // and where it has an open one, a few steps.
+    // Whether there is one binding, and a search from its value was seen to be short in this store.
+    #[inline(always)]
+    fn is_near(&self, binds: &Bindings) -> bool {
+        !self.has_unbound && binds.is_near()
+    }
+
+    // The first of the bindings: its variable, and whether a search from its value is long. No look-up where it was seen to be short,
+    // else one for each argument of the value, and where it has an open one, a few steps.
     fn first_of(&self, binds: &Bindings) -> (VarName, bool) {
         match binds.entries().first() {
-            Some((x, value)) => (*x, goes_far(&self.map, &self.known, value)),
+            Some((x, value)) => (
+                *x,
+                !self.is_near(binds) && goes_far(&self.map, &self.known, value),
+            ),
             None => (VarName { step: 0, place: 0 }, false),
         }
     }
@@ -159,13 +171,18 @@ impl Store {
     }
 
     /// Binds each variable to its value, where there is room and the store stays acyclic. It cannot fail, and costs a look-up for
-    /// each. What a long search from a single value comes to is known from then on, if there is memory for that, and so is what a
-    /// known variable is bound to; it is gone through once more for this, as far as it is not known. It shows in what searches cost.
+    /// each. What a long search from a single value comes to is known from then on, if there is memory for that and the search was
+    /// not seen to be short before, and so is what a known variable is bound to; it is gone through once more for this, as far as it
+    /// is not known. It shows in what searches cost.
     pub fn put(&mut self, binds: Bindings)
         requires room { finite.len binds ≤ self.old.room }
         requires acyclic { IsAcyclic (value_at (with_binds (finite.entries binds) self.old.held)) }
         ensures { self.new.held ≡ with_binds (finite.entries binds) self.old.held }
     {
+        if self.is_near(&binds) && self.known.is_empty() {
+            binds.put_into(&mut self.map);
+            return;
+        }
         let (x, is_far) = self.first_of(&binds);
         if !is_far && has_none(&self.known, binds.entries(), x) {
             binds.put_into(&mut self.map);
@@ -217,6 +234,7 @@ impl Store {
         ensures held { self.new.held ≡ finite.remove self.old.held x }
         ensures room { self.old.room ≤ self.new.room }
     {
+        self.has_unbound = true;
         self.map.remove(x)
     }
 }
@@ -226,6 +244,7 @@ impl Drop for Store {
         let Store {
             map: _map,
             known: _known,
+            has_unbound: _,
         } = self;
     }
 }

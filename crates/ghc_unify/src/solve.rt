@@ -79,7 +79,7 @@ fn bind_at_once(
     if store.get(x).is_some() || !is_apart(store, right, x) {
         return Ok(false);
     }
-    binds.insert(x, right.share()?)?;
+    binds.insert_near(x, right.share()?)?;
     Ok(true)
 }
 

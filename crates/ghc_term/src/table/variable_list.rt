@@ -1,5 +1,5 @@
 // Distinct variables in the order in which they came.
-ghost use Rattle.std.specs.Prelude.{◌≡◌, ◌≢◌, [], ◌∷◌, ◌++◌, IfOk, IfSome, IfNone, OnOk, OnErr, Some, All, slice_get};
+ghost use Rattle.std.specs.Prelude.{◌≡◌, ◌≢◌, [], ◌∷◌, ◌++◌, IfOk, IfSome, IfNone, IsTrue, OnOk, OnErr, Some, All, slice_get};
 ghost use Rattle.ghc_term.specs.Lists.{In};
 ghost use Rattle.ghc_term.specs.inner.VariableList.{AreDifferent};
 
@@ -126,6 +126,14 @@ impl VariableList {
         ensures different { AreDifferent self.now }
     {
         self.held.as_slice()
+    }
+
+    // Whether there are no variables.
+    #[inline(always)]
+    pub fn is_empty(&self) -> bool
+        ensures { IsTrue result → self.now ≡ [] }
+    {
+        matches!(&self.held, Held::Nothing(_))
     }
 
     // Where the variable stands, from 0 on: eight comparisons at most, or one look-up.

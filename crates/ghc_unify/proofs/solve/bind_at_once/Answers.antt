@@ -8,5 +8,5 @@ returns-clause-bound c _ =
     let S = value_at c.args.store.now.held in
     let x = c.in-Var.x in
     let free : S x ≡ None = search rules in
-    let new = c.in_ok-insert.ensures.ok ∙ ap (λ m. finite.insert m x c.in_ok-share.field-0) c.requires ∙ ap (finite.insert finite.empty x) c.in_ok-share.ensures in
-    bound_at_once S x c.args.left.now c.args.right.now c.insert.new.self c.in-Var.ensures.shown free (c.is_apart.ensures c.if-not-is_apart.false) new
+    let new = c.in_ok-insert_near.ensures.ok ∙ ap (λ m. finite.insert m x c.in_ok-share.field-0) c.requires ∙ ap (finite.insert finite.empty x) c.in_ok-share.ensures in
+    bound_at_once S x c.args.left.now c.args.right.now c.insert_near.new.self c.in-Var.ensures.shown free (c.is_apart.ensures c.if-not-is_apart.false) new
