@@ -9,7 +9,8 @@ use Rattle.ghc_core.specs.declared.world.World.{World as Played}
 use Rattle.ghc_console.specs.inner.Device.{WritesFront}
 use Rattle.ghc_console.specs.Lines.{lines_of}
 use Rattle.ghc_console.specs.Listings.{TellsListing, records_listed}
-use Rattle.ghc_console.specs.ScheduleReplies.{Hears, told_text}
+use Rattle.ghc_console.specs.ScheduleReplies.{Hears, HearsLine, told_text}
+use Rattle.ghc_console.specs.declared.devices.reading.Line.{Line}
 
 -- how many hands play a schedule
 abbrev pub hand_count : ℕ
@@ -58,10 +59,10 @@ TellsSchedule old unread written now new result = IfSome unread (λ text. ArePla
 abbrev pub IsScheduleOf : {E : Type 0} → Core → Option (List ℕ) → Option (List ℕ) → Option (List ℕ) → Core → Result Unit E → Type 0
 IsScheduleOf core unread written now left result = (new : Played) × (new.core ≡ left) × TellsSchedule (with_hands core) unread written now new result
 
--- One line was played: the line of its reply was written, or a beginning of it where it was broken off.
-pub record PlaysLine {E : Type 0} (bytes : List ℕ) (old new : Played) (written now : Option (List ℕ)) (result : Result Unit E) : Type 0 where
+-- One line that was read was played: the line of its reply was written, or a beginning of it where it was broken off.
+pub record PlaysLine {E : Type 0} (line : Line) (old new : Played) (written now : Option (List ℕ)) (result : Result Unit E) : Type 0 where
   pub reply : Option Reply
-  pub heard : Hears bytes old reply new
+  pub heard : HearsLine line old reply new
   pub told : WritesFront written now result (told_text reply)
 
 -- It ends without an error and with no failure of the device; or for memory, with none; or with one, which is the error then.

@@ -1,9 +1,8 @@
-// Playing a schedule that is in memory.
+// Playing the lines of a schedule.
 ghost use Rattle.std.specs.Prelude.{◌≡◌, ℕ, List, [], MatchResult, map};
 ghost use Rattle.ghc_core.specs.EventCode.{reply_of};
 ghost use Rattle.ghc_console.specs.inner.Device.{WritesFront};
 ghost use Rattle.ghc_console.specs.inner.OnlyWrites.{ReadsNothing};
-ghost use Rattle.ghc_console.specs.Reading.{LineSays};
 ghost use Rattle.ghc_console.specs.inner.WritesTold.{WritesTold};
 ghost use Rattle.ghc_console.specs.TextLines.{lined};
 ghost use Rattle.ghc_console.specs.Listings.{records_listed};
@@ -60,7 +59,7 @@ fn play_line<D: Device>(
     device: &mut D,
     text: &mut String,
 ) -> Result<(), Fault>
-    ensures played { (bytes : List ℕ) → LineSays line.now bytes → PlaysLine bytes world.old world.new (D.written device.old) (D.written device.new) result }
+    ensures played { PlaysLine line.now world.old world.new (D.written device.old) (D.written device.new) result }
     ensures reads { ReadsNothing D.Device device.old device.new }
     ensures ends { EndsSo (D.failures device.old) (D.failures device.new) result }
 {

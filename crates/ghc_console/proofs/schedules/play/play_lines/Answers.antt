@@ -21,9 +21,9 @@ pub returns-in_err-play_line-clause-played : goal.returns-in_err-play_line-claus
 returns-in_err-play_line-clause-played g c =
     let read = c.in-Ok-Some.ensures in
     let taken = rw c.in-Ok-Some.field-0-is at read.line in
+    let played = c.in_err-play_line.ensures.played in
     rw (err_from_is_err_and c.from_residual.result c.from_residual.ensures.1).1 (known_broken _ _ _ _ _ _ _ _ _ _ c.loop.invariant.2 taken (λ bytes says.
-    let played = c.in_err-play_line.ensures.played bytes says in
-    (played.reply, played.heard, (played.told.0, kept_then _ _ _ _ read.written played.told.1))))
+    (played.reply, record { line = c.in-Ok-Some.line; says = says; heard = played.heard }, (played.told.0, kept_then _ _ _ _ read.written played.told.1))))
 
 pub loop-preserved : goal.loop-preserved
 loop-preserved g c =
@@ -34,7 +34,6 @@ loop-preserved g c =
       tt,
       tt,
       known_on _ _ _ _ _ _ _ _ _ _ c.loop.invariant.2 left (λ bytes says.
-          let played = line.played bytes says in
-          (played.reply, played.heard, kept_then _ _ _ _ read.written played.told)),
+          (line.played.reply, record { line = c.in-Ok-Some.line; says = says; heard = line.played.heard }, kept_then _ _ _ _ read.written line.played.told)),
       line.ends ∙ read.count ∙ c.loop.invariant.3,
     )
