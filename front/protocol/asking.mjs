@@ -7,9 +7,6 @@ import { plural } from "../text/plural.mjs";
 const MOST_LETTERS = 500000; // of the goals' texts that are asked for at once
 const MOST_CLAUSES = 12; // that are named
 
-/** The replies to several lines: all at once where the session can do that. */
-const replies = (session, lines) => (session.lines ? session.lines(lines) : lines.map((line) => session.line(line)));
-
 /** The variables of a query as the state names them, by their names: `_0_1` is the first that stands there, and each `_` is one of its own. */
 function queryVariables(query) {
   const found = new Map();
@@ -22,17 +19,11 @@ function queryVariables(query) {
   return found;
 }
 
-/** The names of a query's variables, in the order in which they come. */
-const variablesOf = (query) => [...queryVariables(query).keys()];
-
-/** What a session tells beside its record: three lists of lines. */
-function besideRecord(session, query) {
-  const [goals, shelf, ...values] = replies(session, ["goals", "shelf", ...variablesOf(query).map((name) => `show ${name}`)]);
-  return { goals, shelf, values: values.flat() };
-}
-
 /** What a session tells of where it stands: four lists of lines. */
-const whereItStands = (session, query) => ({ records: session.line("records"), ...besideRecord(session, query) });
+function whereItStands(session, query) {
+  const [records, goals, shelf] = ["records", "goals", "shelf"].map((line) => session.line(line));
+  return { records, goals, shelf, values: [...queryVariables(query).keys()].flatMap((name) => session.line(`show ${name}`)) };
+}
 
 /** Adds to `texts` what CALL lines tell: the text of each goal, by its name. */
 function addCalls(texts, lines) {
@@ -89,5 +80,5 @@ function clausesTold({ numbers, clauses }, count) {
 }
 
 export {
-  variablesOf, queryVariables, whereItStands, addCalls, textOfGoal, completeTexts, sliceIn, clausesTold,
+  queryVariables, whereItStands, addCalls, textOfGoal, completeTexts, sliceIn, clausesTold,
 };

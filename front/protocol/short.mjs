@@ -1,4 +1,5 @@
 // Shortens terms that are too long to be shown, before the worker hands them over: `…` stands for what is left out. Pure.
+import { joined } from "../text/bytes.mjs";
 import * as Replies from "./replies.mjs";
 
 const MOST = 20000; // letters of a term, a goal or a binding
@@ -51,16 +52,6 @@ function longLines(bytes, most) {
     if (end - at > most) found.push([at, end]);
   }
   return found;
-}
-
-function joined(parts) {
-  const all = new Uint8Array(parts.reduce((sum, part) => sum + part.length, 0));
-  let at = 0;
-  for (const part of parts) {
-    all.set(part, at);
-    at += part.length;
-  }
-  return all;
 }
 
 /** The bytes of lines, each long one shortened by `record` or `goal`; the same bytes where none is long. */

@@ -1,6 +1,7 @@
 // The engine: the program ghcdb itself, as a WebAssembly module. A session is one instance of it, which waits for the next line.
 //
 // `web/build` has prepared the module so that it can be left where it reads its input, and entered again there.
+import { joined } from "../text/bytes.mjs";
 import Heap from "./heap.mjs";
 import Host from "./host.mjs";
 
@@ -86,8 +87,10 @@ class Run {
     return this.host.takeWritten(Host.OUTPUT);
   }
 
+  // With why it stopped, where it did not end by itself.
   takeErrors() {
-    return this.host.takeWritten(Host.ERRORS);
+    const why = this.broken === undefined ? "" : `the engine stopped: ${this.broken}\n`;
+    return joined([this.host.takeWritten(Host.ERRORS), encode(why)]);
   }
 }
 
@@ -99,10 +102,8 @@ class Session {
     this.start = decode(run.takeOutput()) + this.errors();
   }
 
-  // What standard error was told, and why the program stopped if it did.
   errors() {
-    const { broken } = this.run;
-    return decode(this.run.takeErrors()) + (broken === undefined ? "" : `the engine stopped: ${broken}\n`);
+    return decode(this.run.takeErrors());
   }
 
   // It takes no line any more: it was refused, it was told to quit, or the engine stopped.
@@ -164,19 +165,6 @@ class Engine {
       files.set(HISTORY, encode(history));
     }
     return new Session(this.start({ words: words.map(encode), files }));
-  }
-
-  /**
-   * A whole session: its exit status, all that was told, and the lines of the reply to each line.
-   * @param {import("../types").Opening & { lines: string[] }} given
-   */
-  run({ program, query, history, lines }) {
-    const session = this.open({ program, query, history });
-    const replies = session.lines(lines);
-    session.run.end();
-    const told = [session.refused ? "" : session.start, ...replies.flat().map((line) => `${line}\n`)];
-    const out = told.join("") + decode(session.run.takeOutput());
-    return { status: session.run.status, out, err: (session.refused ? session.start : "") + session.errors(), replies };
   }
 }
 

@@ -3,6 +3,7 @@ import fs from "node:fs";
 import { parentPort, workerData } from "node:worker_threads";
 import { readWords } from "../protocol/words.mjs";
 import Engine from "./engine.mjs";
+import { tried } from "./files.mjs";
 
 const encode = (text) => new TextEncoder().encode(text);
 const decode = (bytes) => Buffer.from(bytes).toString("latin1");
@@ -13,12 +14,9 @@ const bytesOf = (name) => (fs.statSync(name).isCharacterDevice() ? Buffer.alloc(
 /** The files that the words name, where they can be read; the engine tells which cannot. `handed` are those known. */
 function filesOf(words, handed) {
   const { file, load } = readWords(words), files = new Map(handed);
-  for (const name of [file, load]) {
-    try {
-      if (name !== undefined && !files.has(name)) files.set(name, bytesOf(name));
-    } catch {
-      continue;
-    }
+  for (const name of [file, load].filter((one) => one !== undefined && !files.has(one))) {
+    const bytes = tried(() => bytesOf(name));
+    if (bytes !== undefined) files.set(name, bytes);
   }
   return files;
 }
@@ -27,8 +25,7 @@ function main() {
   const { words, files, compiled } = workerData;
   const run = new Engine(compiled).start({ words: words.map(encode), files: filesOf(words, files) });
   const tellEnd = () => {
-    const errors = decode(run.takeErrors()) + (run.broken === undefined ? "" : `the engine stopped: ${run.broken}\n`);
-    parentPort.postMessage({ errors, status: run.status ?? 70 });
+    parentPort.postMessage({ errors: decode(run.takeErrors()), status: run.status ?? 70 });
     parentPort.close();
   };
   if (!run.waits) return tellEnd();

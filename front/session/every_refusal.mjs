@@ -27,7 +27,7 @@ async function refusalOfNative(text, query, native) {
 
 /** What the page's engine says of them: at once, for it only reads. */
 function refusalOfEngine(program, query) {
-  const session = new Engine(ofPage().compiled).open({ program, query });
+  const session = new Engine(ofPage()).open({ program, query });
   return session.refused ? session.start.trim() : undefined;
 }
 

@@ -2,6 +2,8 @@
 //
 // The words of the command line and the files are given; standard input is fed piece by piece; what is written to standard
 // output and standard error is gathered. There are no folders, no environment and no threads.
+import { joined } from "../text/bytes.mjs";
+
 const INPUT = 0, OUTPUT = 1, ERRORS = 2, FIRST_FILE = 3;
 // Errors by their numbers on Linux.
 const NO_SUCH_FILE = 2, BAD_DESCRIPTOR = 9, NO_THREAD = 11, NO_SPACE = 28, CANNOT_SEEK = 29;
@@ -56,12 +58,8 @@ class Host {
 
   // Adds bytes to the input that is not read yet.
   feed(bytes) {
-    const input = this.open.get(INPUT);
-    const rest = input.bytes.subarray(input.at);
-    const joined = new Uint8Array(rest.length + bytes.length);
-    joined.set(rest);
-    joined.set(bytes, rest.length);
-    this.open.set(INPUT, new Reader(joined));
+    const { bytes: before, at } = this.open.get(INPUT);
+    this.open.set(INPUT, new Reader(joined([before.subarray(at), bytes])));
   }
 
   // Behind what was fed, the input ends.
@@ -72,14 +70,8 @@ class Host {
   // What was written to a stream since it was taken last.
   takeWritten(stream) {
     const pieces = this.written.get(stream);
-    const whole = new Uint8Array(pieces.reduce((sum, piece) => sum + piece.length, 0));
-    let at = 0;
-    for (const piece of pieces) {
-      whole.set(piece, at);
-      at += piece.length;
-    }
     this.written.set(stream, []);
-    return whole;
+    return joined(pieces);
   }
 
   // So many bytes of the memory, from a place on.

@@ -8,6 +8,7 @@ import { Worker } from "node:worker_threads";
 import { fileURLToPath } from "node:url";
 import { spawn } from "node:child_process";
 import { moduleOfPage, THREAD } from "./engine_of_page.mjs";
+import { tried } from "./files.mjs";
 
 const HERE = path.dirname(fileURLToPath(import.meta.url));
 
@@ -175,11 +176,7 @@ class NativeSession extends Talk {
   /** Sends a signal to the program, and to those who hand it its texts. */
   signal(name) {
     if (this.ended || this.child.pid === undefined) return;
-    try {
-      process.kill(-this.child.pid, name);
-    } catch {
-      // they have ended by now
-    }
+    tried(() => process.kill(-this.child.pid, name)); // they may have ended by now
   }
 
   /** Is the reply whole? Its last line is the mark's, and it has another one. */
@@ -248,20 +245,15 @@ class NativeSession extends Talk {
   }
 }
 
+let compiled;
+
 /** The module that the page carries, which is compiled once. */
-const ofPage = (() => {
-  let made;
-  return () => {
-    if (made !== undefined) return made;
-    made = { compiled: new WebAssembly.Module(moduleOfPage()) };
-    return made;
-  };
-})();
+const ofPage = () => (compiled ??= new WebAssembly.Module(moduleOfPage()));
 
 class EngineSession extends Talk {
   constructor(words, files) {
     super();
-    this.worker = new Worker(THREAD, { workerData: { words, files, ...ofPage() } });
+    this.worker = new Worker(THREAD, { workerData: { words, files, compiled: ofPage() } });
     this.worker.on("message", (told) => this.hear(told));
     this.worker.on("error", (error) => this.close(new Ended(error.message, 70)));
     this.worker.on("exit", () => this.close(new Ended("the engine ended", 70)));
@@ -291,14 +283,7 @@ class EngineSession extends Talk {
   }
 }
 
-const isProgram = (file) => {
-  try {
-    fs.accessSync(file, fs.constants.X_OK);
-    return true;
-  } catch {
-    return false;
-  }
-};
+const isProgram = (file) => tried(() => fs.accessSync(file, fs.constants.X_OK) ?? true, false);
 
 /** The native program to use: the one that is named, else the proved one where it was built; undefined for the page's engine. */
 function nativeProgram(named = process.env.GHCDB) {

@@ -199,14 +199,13 @@ function transferable(answer) {
   return [...replies, ...parts].filter((part) => ArrayBuffer.isView(part) && part.byteLength > 0).map((part) => part.buffer);
 }
 
-/** Lets a host tell from time to time how much memory its run has, while the page cannot ask. */
-function tellProgress(TheHost, post) {
-  const { calls } = TheHost.prototype;
+/** Lets hosts tell from time to time how much memory their runs have, while the page cannot ask. */
+function tellProgress(post) {
+  const { calls } = Host.prototype;
   let lastTold = 0;
-  TheHost.prototype.calls = function callsThatTell() {
+  Host.prototype.calls = function callsThatTell() {
     const all = calls.call(this), take = all.rattle_alloc;
     let requests = 0;
-    if (take === undefined) return all;
     all.rattle_alloc = (at, bytes) => {
       requests += 1;
       if (requests % EVERY === 0 && performance.now() - lastTold > LEAST_PAUSE) {
@@ -219,22 +218,13 @@ function tellProgress(TheHost, post) {
   };
 }
 
-/** What answers messages: `post` tells what was asked. */
+/** What answers messages, of which `what` names what the side does: `post` tells what was asked. */
 function answerer(post, loadEngine) {
   let side = null;
-  const does = {
-    load: async ({ bytes }) => { side = new WorkerSide(await loadEngine(bytes)); return {}; },
-    open: (message) => side.open(message),
-    reload: (message) => side.reload(message),
-    lines: (message) => side.lines(message),
-    ask: (message) => side.ask(message),
-    slice: (message) => side.slice(message),
-    trial: (message) => side.trial(message),
-    without: (message) => side.without(message),
-  };
+  const load = async ({ bytes }) => { side = new WorkerSide(await loadEngine(bytes)); return {}; };
   return async (message) => {
     try {
-      const answer = await does[message.what](message);
+      const answer = await (message.what === "load" ? load(message) : side[message.what](message));
       post({ id: message.id, answer }, transferable(answer));
     } catch (error) {
       post({ id: message.id, error: String(error && error.message) }, []);
@@ -244,7 +234,7 @@ function answerer(post, loadEngine) {
 
 /** Serves a page from a worker. */
 function serve() {
-  tellProgress(Host, (message) => postMessage(message));
+  tellProgress((message) => postMessage(message));
   const answers = answerer((message, moved) => postMessage(message, moved), (bytes) => Engine.load(bytes));
   onmessage = ({ data }) => answers(data);
 }

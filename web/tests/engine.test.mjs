@@ -117,11 +117,12 @@ test("a session that was told to quit has ended, with status 0", async () => {
 });
 
 test("a whole session is told with its status, its output and the reply to each line", async () => {
-  const { engine } = await engineOfPage();
-  const told = engine.run({ program: APPEND, query: QUERY, lines: ["step 0.1", "undo 7", "quit"] });
+  const { engine } = await engineOfPage(), session = engine.open({ program: APPEND, query: QUERY });
+  const replies = session.lines(["step 0.1", "undo 7", "quit"]);
+  session.run.end();
   const reply = ["REDU 1 0.1 by 2", "CALL 1.1 _0_1 = [1|_1_1]", "CALL 1.2 append([],[2],_1_1)"];
-  const out = [...reply, "F16 not a kept step", ""].join("\n");
-  assert.deepEqual(told, { status: 0, out, err: "", replies: [reply, ["F16 not a kept step"], []] });
+  const told = { status: session.run.status, start: session.start, rest: session.run.takeOutput().length, err: session.errors(), replies };
+  assert.deepEqual(told, { status: 0, start: "", rest: 0, err: "", replies: [reply, ["F16 not a kept step"], []] });
 });
 
 test("where the program fails within, nothing in it is called again", async () => {
