@@ -3,21 +3,18 @@ import * as Replies from "../front/protocol/replies.mjs";
 import * as Terms from "../front/run/terms.mjs";
 import * as Causes from "../front/text/causes.mjs";
 import Deeds from "./deeds.mjs";
-import { find, make, linkedLine } from "./elements.mjs";
+import { find, make, closeButton, linkedLine } from "./elements.mjs";
 import * as Holes from "./holes.mjs";
 import * as Names from "./names.mjs";
-import Shown from "./shown.mjs";
 import State from "./state.mjs";
 
 const MOST_SHOWN = 8; // lines
-let shown = 0;
 
 const wordsOf = (line) => line.trim().replace(/ +/g, " ");
-const isRefused = (entry) => entry.length === 1 && Replies.isRefusal(entry.reply[0]);
 const isBroken = (entry) => entry.length > 1 && Holes.isBroken(entry);
 
 function put(isBad, ...parts) {
-  const area = find("answer"), close = make("button", { class: "small", id: "close-answer", title: "Closes this line", "aria-label": "Close the answer" }, "×");
+  const area = find("answer"), close = closeButton("close-answer", "Close the answer", "Closes this line");
   area.replaceChildren(Names.dress(make("span", { class: "answer-words" }, ...parts)), close);
   area.classList.toggle("refused", isBad);
   area.hidden = false;
@@ -64,8 +61,7 @@ function light(entry) {
   const [word, name] = wordsOf(entry.line).split(" ");
   const steps = word === "why" ? [Number(name)] : stepsBy(entry.reply);
   if (steps.length === 0 || !State.run.graph.byNumber.has(steps[0])) return;
-  Deeds.choose({ step: steps[0] });
-  Deeds.scrollTo(Shown.chosen);
+  Deeds.goTo({ step: steps[0] });
   Deeds.markWay(steps.slice(1));
 }
 
@@ -90,9 +86,8 @@ const tellBroken = ({ line }) => put(true, make("code", null, wordsOf(line)),
   ` told no whole history: ${Holes.HOLE}. ${Holes.AGAIN}.`);
 
 /** After lines: what was not taken, else the last refusal among them, else the answer to a question. */
-function show(what) {
-  const fresh = what === "lines" ? State.entries.slice(shown) : [], refused = fresh.filter(isRefused).pop(), last = fresh[fresh.length - 1];
-  shown = State.entries.length;
+function show(what, fresh) {
+  const refused = fresh.findLast(State.isRefused), last = fresh.at(-1);
   if (State.refusal && last && last.note) return; // why the text was refused stands there
   hide();
   const asked = refused ? partsOfAsked(refused) : [];

@@ -7,7 +7,6 @@ import Deeds from "./deeds.mjs";
 import { find, make, goTo } from "./elements.mjs";
 import Naming from "./naming.mjs";
 import * as Picture from "./picture.mjs";
-import Shown from "./shown.mjs";
 import * as StepWords from "./step_words.mjs";
 import State from "./state.mjs";
 import * as Talk from "./talk.mjs";
@@ -22,9 +21,12 @@ function frozen() {
   return { graph: own, goals, shelf, why, waits, texts: new Map(texts), clauses, given: State.given, lines: Talk.typedLines(), shown: (text) => naming.shown(text) };
 }
 
+/** Has the run no more steps than two runs side by side may have? */
+const isComparable = () => State.run.graph.count <= MOST_STEPS;
+
 /** Keeps the run beside; says whether it did. */
 function keep() {
-  if (State.run.graph.count > MOST_STEPS) {
+  if (!isComparable()) {
     Deeds.tell(true, `This run has more than ${MOST_STEPS} steps: too many to be seen beside another one. Save keeps it as a file.`);
     return false;
   }
@@ -49,8 +51,7 @@ function tryClause(number, clause) {
 /** The run that was kept goes on, and this one is kept. */
 function swap() {
   const { kept } = beside, now = frozen();
-  Deeds.begin(kept.given);
-  if (kept.lines.length > 0) Talk.sendAll(kept.lines);
+  Deeds.begin(kept.given, kept.lines);
   beside.kept = now;
 }
 
@@ -61,7 +62,6 @@ function follow() {
   if (isOn() && (beside.kept.given.program !== State.given.program || beside.kept.given.query !== State.given.query)) beside.kept = null;
 }
 
-const isComparable = () => State.run.graph.count <= MOST_STEPS;
 const told = () => Compare.compare(beside.kept.graph, State.run.graph);
 
 /** Rings the steps that the other run has not. */
@@ -92,6 +92,7 @@ const columns = () => (isOn() ? Math.max(beside.kept.graph.deepestChain, Math.mi
 
 /** What is said of both runs. */
 function noteParts() {
+  if (!isOn()) return [];
   const drops = make("button", { class: "small", id: "drop-run" }, "Drop it");
   if (!isComparable()) return [`Above is the run that you kept. This one has more than ${MOST_STEPS} steps: too many to be compared. `, drops];
   const { pairs, alone, otherAlone, first, instead } = told(), step = first === null ? null : beside.kept.graph.byNumber.get(first);
@@ -105,13 +106,12 @@ function noteParts() {
 function onClick(number) {
   const pairs = isComparable() ? told().pairs : new Map();
   if (pairs.has(number)) {
-    Deeds.choose({ step: pairs.get(number) });
-    Deeds.scrollTo(Shown.chosen);
+    Deeds.goTo({ step: pairs.get(number) });
   } else Deeds.tell(false, `Only in the run that was kept: ${Terms.cut(beside.kept.shown(Picture.tellStep(beside.kept, beside.kept.graph.byNumber.get(number))).split("\n").join(", "), 300)}`);
 }
 
 const Beside = Object.assign(beside, {
-  MOST_STEPS, isOn, keep, drop, swap, tryClause, follow, draw, columns, noteParts, onClick,
+  isComparable, isOn, keep, drop, swap, tryClause, follow, draw, columns, noteParts, onClick,
 });
 
 export default Beside;

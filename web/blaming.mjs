@@ -1,17 +1,13 @@
 // The place "Why?": what a call was given and gave, side by side, with two buttons that answer `blame`'s question; and its verdict, the wrong clause.
 import * as BlameLines from "../front/protocol/blame_lines.mjs";
-import * as Effects from "../front/protocol/effects.mjs";
-import * as Replies from "../front/protocol/replies.mjs";
-import * as Graph from "../front/run/graph.mjs";
 import * as Terms from "../front/run/terms.mjs";
 import * as Printed from "../front/text/printed.mjs";
-import Canvas from "./canvas.mjs";
 import Deeds from "./deeds.mjs";
-import { find, make, goTo, goToGoal } from "./elements.mjs";
-import * as Guide from "./guide.mjs";
-import * as Menus from "./menus.mjs";
+import { find, make, closeButton, ringing, goTo, goToGoal } from "./elements.mjs";
 import * as Names from "./names.mjs";
+import OnScreen from "./on_screen.mjs";
 import * as Parts from "./parts.mjs";
+import { pauses } from "./pausing.mjs";
 import Shown from "./shown.mjs";
 import State from "./state.mjs";
 import * as Talk from "./talk.mjs";
@@ -20,29 +16,24 @@ import { plural } from "../front/text/plural.mjs";
 const MOST_LETTERS = 2000, MOST_IN_LINE = 400; // of an argument that is shown on a side; of what stands within a line
 const MOST_ASKS = 12; // that are named
 const SLICE = 8; // milliseconds that the part of a call is looked for without a pause
-let seen = 0; // lines of the console that were looked at
 let asked = null; // the last question or verdict: its line, what its reply tells, and whether the verdict's step was rolled back
 let leaving = null, left = null; // the session that is left to try a call alone; the one that was
 let sought = 0; // how often a part was looked for
 
-const isRefused = (entry) => entry.length === 1 && Replies.isRefusal(entry.reply[0]);
-
 /** What is asked after a line: another question, the same one, or none where the run has changed. */
 function askedAfter(entry) {
-  if (entry.note) return asked;
-  if (BlameLines.isBlame(entry.line)) {
+  if (!entry.note && BlameLines.isBlame(entry.line)) {
     const { line, reply } = entry, isTold = BlameLines.isQuestion(reply) || BlameLines.isVerdict(reply);
     return isTold ? { line, told: BlameLines.read(reply), isRolled: false } : asked;
   }
-  if (Effects.effectOf(entry.line) === "looks" || isRefused(entry)) return asked;
+  if (!State.mayChange(entry) || State.isRefused(entry)) return asked;
   const isRoll = asked !== null && asked.told.fault !== null && entry.line.trim() === `roll ${asked.told.fault.step}`;
   return isRoll ? { ...asked, isRolled: true } : null;
 }
 
 /** After lines: shows the last question or verdict; a line that changes the run closes it, but for the one that rolls back the wrong step. */
-function show(what) {
-  const fresh = what === "lines" ? State.entries.slice(seen) : [], before = asked;
-  seen = State.entries.length;
+function show(what, fresh) {
+  const before = asked;
   if (what !== "lines") asked = null;
   if (what === "start") {
     left = leaving;
@@ -54,21 +45,10 @@ function show(what) {
   else if (asked !== null && Shown.chosen === null) light();
 }
 
-/** Fills the place anew; what had the focus in it has it afterwards, or the first button. */
-function fill() {
-  const area = find("blame"), had = area.contains(document.activeElement) ? document.activeElement.id : null;
-  const parts = asked !== null ? askedParts() : left !== null ? aloneParts() : [];
-  area.hidden = parts.length === 0;
-  area.replaceChildren(...parts);
-  Names.dress(area);
-  if (had === null || area.hidden) return;
-  const same = /** @type {HTMLButtonElement | null} */ (had === "" ? null : find(had));
-  (same && !same.disabled ? same : area.querySelector("button:not([disabled])")).focus({ preventScroll: true });
-}
+const fill = () => Names.fill("blame", asked !== null ? askedParts() : left !== null ? aloneParts() : []);
 
-const closeButton = () => make("button", { class: "small", id: "blame-close", title: "Closes this", "aria-label": "Close the question" }, "×");
-const titleRow = (...words) => make("div", { class: "blame-title" }, make("span", { role: "status" }, ...words), closeButton());
-const buttons = (...all) => make("div", { class: "buttons", role: "group", "aria-label": "Your answer" }, ...all.filter(Boolean));
+const titleRow = (...words) => make("div", { class: "blame-title" }, make("span", { role: "status" }, ...words), closeButton("blame-close", "Close the question"));
+const answerRow = (...all) => make("div", { class: "buttons", role: "group", "aria-label": "Your answer" }, ...all);
 const inCode = (text) => make("code", null, Terms.cut(text, MOST_IN_LINE));
 
 function askedParts() {
@@ -110,12 +90,6 @@ function warnings({ asked: asks, inTurns, left: goal, ask, fault }) {
   ].filter(Boolean);
 }
 
-/** The step that took a goal; undefined where none did. */
-function takerOf(goal) {
-  const index = State.run.graph.consumerOf(goal);
-  return index === undefined || index === Graph.NONE ? undefined : State.run.graph.stepAt(index);
-}
-
 /** What the two answers mean for this call. */
 function hintFor({ ask, gave, left: goal }) {
   if (gave === null) return goal !== null && goal.status === "failed" ? "Right: no clause should answer this call. Wrong: one should." : "Right: it should wait. Wrong: a clause should have answered.";
@@ -127,14 +101,14 @@ function hintFor({ ask, gave, left: goal }) {
 const questionsLeft = (of) => Math.ceil(Math.log2(of + 1));
 
 function questionParts(told) {
-  const { line } = asked, { goal, of } = told.ask, count = BlameLines.answersOn(line).length, taker = takerOf(goal);
+  const { line } = asked, { goal, of } = told.ask, count = BlameLines.answersOn(line).length, taker = OnScreen.takerOf(goal);
   const answer = (isRight, id, key, words) => make("button", { id, "data-line": BlameLines.answered(line, goal, isRight), title: `${BlameLines.answered(line, goal, isRight)} (key ${key})` }, words);
   const by = taker === undefined ? "" : [", which step ", goTo(taker.number), ` took${taker.clause ? ` by clause ${taker.clause}` : ""}`];
   return [
     titleRow(make("b", null, "Is this right?"), ` Question ${count + 1} of about ${count + questionsLeft(of)}: call `, make("button", { class: "link", id: "blame-light", title: "lights the part of this call" }, goal), ...by, ". ",
       make("span", { class: "dim" }, `Of ${plural(of, "call")} it is not known yet.`)),
     sides(told), ...warnings(told),
-    buttons(answer(true, "blame-right", "y", "Right"), answer(false, "blame-wrong", "n", "Wrong"), backButton(), make("span", { class: "dim" }, hintFor(told))),
+    answerRow(answer(true, "blame-right", "y", "Right"), answer(false, "blame-wrong", "n", "Wrong"), backButton(), make("span", { class: "dim" }, hintFor(told))),
   ].filter(Boolean);
 }
 
@@ -175,11 +149,9 @@ function madeList({ made }) {
 /** Takes back the wrong step; where one points at it, all that goes is ringed. */
 function rollButton({ step }) {
   if (step === null) return null;
-  const gone = Menus.goneWith(step), button = make("button", { class: "danger", id: "blame-roll", "data-line": `roll ${step}`, title: `roll ${step}: all other steps stay` },
-    gone.size > 1 ? `Roll back step ${step}, with ${plural(gone.size - 1, "consequence")}` : `Roll back step ${step}`);
-  button.addEventListener("mouseenter", () => Canvas.ring(gone));
-  button.addEventListener("mouseleave", () => Canvas.ring(new Set()));
-  return button;
+  const gone = OnScreen.goneWith(step), title = `roll ${step}: all other steps stay`;
+  const words = `Roll back step ${step}${gone.size > 1 ? `, with ${plural(gone.size - 1, "consequence")}` : ""}`;
+  return ringing(make("button", { class: "danger", id: "blame-roll", "data-line": `roll ${step}`, title }, words), gone);
 }
 
 /** Tries the call alone, where what it gave rests on what it was given and on no order. */
@@ -191,7 +163,7 @@ function aloneButton({ given, asked: asks, inTurns }) {
 function verdictParts(told) {
   return [
     titleRow(...verdictWords(told)), sides(told), ...warnings(told), madeList(told),
-    buttons(rollButton(told.fault), aloneButton(told), backButton()),
+    answerRow(rollButton(told.fault), aloneButton(told), backButton()),
   ].filter(Boolean);
 }
 
@@ -208,8 +180,7 @@ function point() {
   const { told, isRolled } = asked, { ask, fault } = told, step = fault === null ? undefined : fault.step;
   if (isRolled) return;
   if (step !== undefined && step !== null) {
-    Deeds.choose({ step });
-    Deeds.scrollTo({ step });
+    Deeds.goTo({ step });
   } else {
     Deeds.choose(null);
     if (ask !== null) askAbout(ask.goal);
@@ -219,22 +190,10 @@ function point() {
 
 /** Brings the call asked about into sight, marks the clause by which it went, and lights its part. */
 function askAbout(goal) {
-  const taker = takerOf(goal);
+  const taker = OnScreen.takerOf(goal);
   Deeds.scrollTo(taker === undefined ? { goal } : { step: taker.number });
   Deeds.markClause((taker && taker.clause && State.run.clauses[taker.clause - 1]) || null);
   light();
-}
-
-/** Does what yields, with a pause after each slice of time; says whether it came to its end before `isOver`. */
-async function inSlices(work, isOver) {
-  let until = performance.now() + SLICE;
-  for (let next = work.next(); !next.done; next = work.next()) {
-    if (performance.now() < until) continue;
-    await Talk.pause();
-    if (isOver()) return false;
-    until = performance.now() + SLICE;
-  }
-  return true;
 }
 
 /** Flags the part of the call asked about, and the parts that were told right. */
@@ -250,7 +209,9 @@ async function lightPart(goal, answers) {
   const own = sought, last = new Map(answers.map((answer) => [answer.goal, answer]));
   const flags = { goal, isIn: new Uint8Array(graph.count), isRight: new Uint8Array(graph.count), count: 0 };
   const isOver = () => own !== sought || run !== State.run || version !== run.version;
-  if (await inSlices(marking(graph, goal, last.values(), flags), isOver) && !isOver()) Canvas.showAsked(flags);
+  const pause = pauses(SLICE), work = marking(graph, goal, last.values(), flags);
+  for (let next = work.next(); !next.done; next = work.next()) if (await pause() && isOver()) return;
+  if (!isOver()) Deeds.showAsked(flags);
 }
 
 /** Lights the part of the call that is asked about. */
@@ -277,16 +238,14 @@ function close() {
 /** Begins a session with the call as its query, and keeps the way back. */
 function tryAlone() {
   const query = Names.now().asQuery(asked.told.given), { program } = State.given, from = { given: State.given, lines: Talk.typedLines() };
-  Guide.end();
+  Deeds.endTour();
   leaving = from;
   Deeds.begin({ program, query });
 }
 
 /** Begins the whole run again, and plays its lines. */
 function goBack() {
-  const { given, lines } = left;
-  Deeds.begin(given);
-  if (lines.length > 0) Talk.sendAll(lines);
+  Deeds.begin(left.given, left.lines);
 }
 
 /** What a key does: the button of this name, where it is there. */

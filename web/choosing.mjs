@@ -1,13 +1,11 @@
 // The place "Why?" where it tells what the other choices of a value lead to: a table of outcomes, which a session beside
 // this one finds out in a worker of its own; and after a run, how many of its steps could have gone otherwise.
-import * as Effects from "../front/protocol/effects.mjs";
 import * as Replies from "../front/protocol/replies.mjs";
 import { MOST_STEPS, gathered } from "../front/run/other_choices.mjs";
 import { plural, some } from "../front/run/reasons.mjs";
 import { freeSteps, tryingOf } from "../front/session/trying.mjs";
-import Beside from "./beside.mjs";
 import Deeds from "./deeds.mjs";
-import { find, make } from "./elements.mjs";
+import { make, closeButton } from "./elements.mjs";
 import * as Names from "./names.mjs";
 import * as Service from "./service.mjs";
 import State from "./state.mjs";
@@ -16,7 +14,6 @@ import * as Talk from "./talk.mjs";
 const NONE = { count: 0, first: undefined };
 let table = null; // the outcomes of a value as far as they are found out
 let free = NONE; // how many steps of the run could have gone by another clause, and the first value that rests on one
-let seen = 0; // lines of the console that were looked at
 
 /** A program in a worker, once that is ready, which goes on from a history of this session. */
 function programIn(side, isReady, history) {
@@ -109,12 +106,11 @@ function rowOf({ words, choices, asItIs }) {
 }
 
 function tableParts() {
-  const close = { class: "small", id: "choices-close", title: "Closes this", "aria-label": "Close the table" };
   const stops = table.isAtWork ? make("button", { class: "small danger", id: "choices-stop" }, "Stop") : null;
   const words = make("span", { role: "status" }, make("b", null, `What else could ${table.name} be? `), howFar(table));
   const head = make("tr", null, make("th", null, "Outcome"), make("th", null, "By"));
   return [
-    make("div", { class: "blame-title" }, words, stops, make("button", close, "×")),
+    make("div", { class: "blame-title" }, words, stops, closeButton("choices-close", "Close the table")),
     make("table", { class: "outcomes" }, head, ...gathered(table.outcomes).map(rowOf)),
   ];
 }
@@ -125,14 +121,7 @@ function freeParts({ count, first }) {
   return [make("div", null, `${plural(count, "step")} could have gone by another clause. `, asks)];
 }
 
-function show() {
-  const area = find("choices"), parts = table !== null ? tableParts() : free.count > 0 ? freeParts(free) : [];
-  const had = area.contains(document.activeElement) ? document.activeElement.id : "";
-  area.replaceChildren(...parts);
-  area.hidden = parts.length === 0;
-  Names.dress(area);
-  if (had !== "") (find(had) ?? find("choices-close"))?.focus({ preventScroll: true });
-}
+const show = () => Names.fill("choices", table !== null ? tableParts() : free.count > 0 ? freeParts(free) : []);
 
 /** Looks for the steps that were free, where a run has come to its end. */
 async function lookForFree() {
@@ -145,10 +134,8 @@ async function lookForFree() {
 }
 
 /** After lines: one that changes the run closes the table, but on the way to a choice; the run is looked at anew. */
-function follow(what) {
-  const fresh = what === "lines" ? State.entries.slice(seen) : [];
-  seen = State.entries.length;
-  if (what === "lines" && fresh.every(({ line, note }) => note || Effects.effectOf(line) === "looks")) return;
+function follow(what, fresh) {
+  if (what === "lines" && !fresh.some(State.mayChange)) return;
   free = NONE;
   if (table?.isGoing) show();
   else close();
@@ -158,9 +145,7 @@ function follow(what) {
 /** Brings the run of a table back, where one of its choices was gone to; says whether it stands there. */
 async function comeBack({ chosen, way: { given, lines, steps } }) {
   if (chosen === "") return true;
-  Deeds.begin(given);
-  if (lines.length > 0) await Talk.sendAll(lines);
-  else await Talk.settled();
+  await Deeds.begin(given, lines);
   return State.run.graph.count === steps;
 }
 
@@ -168,7 +153,7 @@ async function comeBack({ chosen, way: { given, lines, steps } }) {
 async function goThere(step, goal, other) {
   const own = table;
   own.isGoing = true;
-  if (await comeBack(own) && Beside.keep()) {
+  if (await comeBack(own) && Deeds.keepRun()) {
     own.chosen = `${step} ${goal} ${other}`;
     await Talk.send(`roll ${step}`, `step ${goal} ${other}`, `leap ${MOST_STEPS}`);
   }

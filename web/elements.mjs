@@ -1,5 +1,6 @@
 // Makes elements of the page in few words.
 import * as Replies from "../front/protocol/replies.mjs";
+import Deeds from "./deeds.mjs";
 
 /** @typedef {import("./types").Places} Places */
 
@@ -24,6 +25,19 @@ function make(tag, attributes, ...children) {
 /** A button that, where it is clicked, types a line at the console. */
 const lineButton = (words, line, attributes) => make("button", { "data-line": line, title: line, ...attributes }, words);
 
+/** A row of buttons, and of words beside them. */
+const buttons = (...all) => make("div", { class: "buttons" }, ...all);
+
+/** A button that rings some steps while one points at it. */
+function ringing(button, steps) {
+  button.addEventListener("mouseenter", () => Deeds.ring(steps));
+  button.addEventListener("mouseleave", () => Deeds.ring(new Set()));
+  return button;
+}
+
+/** The button that closes a place. */
+const closeButton = (id, label, title = "Closes this") => make("button", { class: "small", id, title, "aria-label": label }, "×");
+
 /** A text with `such` parts as code. */
 function withCode(text) {
   return text.split("`").map((part, index) => (index % 2 === 1 ? make("code", null, part) : part));
@@ -45,14 +59,27 @@ function linkedLine(line) {
 /** The lines of a reply, as one text with links. */
 const linkedLines = (lines) => lines.flatMap((line, index) => (index === 0 ? linkedLine(line) : ["\n", ...linkedLine(line)]));
 
+/** What an element is known by, when it was made anew. */
+const nameOf = (element) => ["data-line", "data-goal", "data-variable", "data-root", "data-path", "data-goto", "id"].map((name) => element.getAttribute(name) || "").join(" ") + element.textContent;
+
+/** Makes a panel anew; what had the focus in it has it afterwards, or what stands in its place. */
+function keepFocus(name, does) {
+  const panel = find(name), buttons = () => [...panel.querySelectorAll("button:not(.variable)")], before = buttons();
+  const at = before.indexOf(document.activeElement), was = at < 0 ? "" : nameOf(before[at]);
+  does();
+  if (at < 0) return;
+  const after = buttons(), same = after.find((button) => nameOf(button) === was);
+  (same || after[Math.min(at, after.length - 1)] || find("step")).focus({ preventScroll: true });
+}
+
 const keys = new WeakMap();
 
 /**
- * Fills an element with rows, each of them `{ key, does }`: a row that stood there under the same key stays as it is, and `does` makes the
+ * Fills a panel with rows, each of them `{ key, does }`: a row that stood there under the same key stays as it is, and `does` makes the
  * others. A key that is null is no other row's.
  */
-function fillRows(area, rows) {
-  const stood = new Map([...area.childNodes].map((child) => [keys.get(child), child])), wanted = rows.map(({ key, does }) => {
+function fillRows(name, rows) {
+  const area = find(name), stood = new Map([...area.childNodes].map((child) => [keys.get(child), child])), wanted = rows.map(({ key, does }) => {
     const row = (key !== null && stood.get(key)) || does();
     keys.set(row, key === null ? undefined : key);
     return row;
@@ -62,4 +89,4 @@ function fillRows(area, rows) {
   wanted.forEach((row, at) => { if (area.childNodes[at] !== row) area.insertBefore(row, area.childNodes[at] || null); });
 }
 
-export { find, make, lineButton, withCode, goTo, goToGoal, linkedLine, linkedLines, fillRows };
+export { keepFocus, find, make, lineButton, buttons, closeButton, ringing, withCode, goTo, goToGoal, linkedLine, linkedLines, fillRows };

@@ -125,8 +125,7 @@ function openText(text) {
   }
   if (!isWhole(session.history)) return;
   Deeds.beginOther(() => {
-    Deeds.begin(session);
-    if (session.lines.length > 0) Talk.sendAll(session.lines).then(() => compare(session));
+    Deeds.begin(session, session.lines).then(() => compare(session));
   });
 }
 

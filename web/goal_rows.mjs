@@ -2,6 +2,7 @@
 import * as Graph from "../front/run/graph.mjs";
 import * as GoalTree from "../front/run/goal_tree.mjs";
 import { make, goTo } from "./elements.mjs";
+import { withGoalText } from "./goal_texts.mjs";
 import * as Names from "./names.mjs";
 import * as StepWords from "./step_words.mjs";
 import State from "./state.mjs";
@@ -41,7 +42,7 @@ function rowsOf(graph, { numbers, isIn }, most) {
 }
 
 /** A row, whose goal stands there when the console has told it. */
-function rowOf({ step, depth, below, store }, withGoalText) {
+function rowOf({ step, depth, below, store }) {
   const goal = make("span"), how = StepWords.howOf(step), indent = Math.min(depth, MOST_INDENTS) * INDENT;
   const more = below > 0 ? make("span", { class: "dim" }, ` and ${told(below)} below`) : null;
   withGoalText(step, (text) => { goal.textContent = GoalTree.goalText(text, store); Names.dress(goal); });
@@ -49,11 +50,11 @@ function rowOf({ step, depth, below, store }, withGoalText) {
   return make("li", { style: `padding-left: ${indent}px` }, ...words);
 }
 
-/** The tree of a slice: its steps by number, and flags by their places. `withGoalText` hands on the text of a step's goal. */
-function of(slice, withGoalText) {
+/** The tree of a slice: its steps by number, and flags by their places. */
+function of(slice) {
   const { graph } = State.run, area = make("div", { class: "goal-tree" }), count = slice.numbers.length;
   const fill = (most) => {
-    const rows = rowsOf(graph, slice, most), list = make("ul", { "aria-label": "Its goals, each below the one that made it" }, ...rows.map((row) => rowOf(row, withGoalText)));
+    const rows = rowsOf(graph, slice, most), list = make("ul", { "aria-label": "Its goals, each below the one that made it" }, ...rows.map(rowOf));
     area.replaceChildren(list, ...(rows.length < count ? [moreOf(rows.length, count, most, fill)] : []));
   };
   fill(MOST_ROWS);

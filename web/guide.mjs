@@ -1,6 +1,6 @@
 // Leads through the tour: shows its words, points at what is to be clicked, and goes on when its line was typed.
 import Deeds from "./deeds.mjs";
-import { find, make, withCode } from "./elements.mjs";
+import { find, make, buttons, withCode } from "./elements.mjs";
 import State from "./state.mjs";
 import * as Talk from "./talk.mjs";
 import * as Tour from "./tour.mjs";
@@ -18,9 +18,7 @@ function billProgram() {
 function putThere() {
   const { session } = station(), { program } = Tour.SESSIONS[session];
   isAside = false;
-  Deeds.begin({ program: program(billProgram()), query: Tour.QUERY });
-  const lines = Tour.linesBefore(at);
-  if (lines.length > 0) Talk.sendAll(lines);
+  Deeds.begin({ program: program(billProgram()), query: Tour.QUERY }, Tour.linesBefore(at));
   show();
 }
 
@@ -37,10 +35,7 @@ function end() {
 }
 
 /** Types the station's line for the user. */
-function doIt() {
-  Deeds.closeMenu();
-  Talk.send(station().line);
-}
+const doIt = () => Talk.send(station().line);
 
 function show() {
   const area = find("guide"), here = station();
@@ -57,7 +52,7 @@ function show() {
   const back = at > 0 ? make("button", { id: "tour-back", title: "One station back" }, "Back") : null;
   area.replaceChildren(make("div", { class: "tour-place" }, make("b", null, here ? here.chapter : "Done"), make("span", { class: "dim" }, place)),
     make("p", null, words, ...(isAside ? [] : withCode(here ? here.words : Tour.END))),
-    make("div", { class: "buttons" }, ...[again, forth, back].filter(Boolean), make("button", { id: "tour-end" }, "End the tour")));
+    buttons(again, forth, back, make("button", { id: "tour-end" }, "End the tour")));
   pointAgain();
 }
 
@@ -96,13 +91,7 @@ function onChange(what) {
   show();
 }
 
-function onClick(id) {
-  const does = { "tour-do": doIt, "tour-back": () => goTo(at - 1), "tour-end": end, "tour-again": putThere }[id];
-  if (does) does();
-  return Boolean(does);
-}
-
-const begin = () => goTo(0);
+const begin = () => goTo(0), back = () => goTo(at - 1);
 const isOn = () => at !== null;
 
-export { begin, end, onChange, onClick, pointAgain, isOn };
+export { begin, back, end, doIt, putThere, onChange, pointAgain, isOn };

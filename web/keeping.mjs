@@ -4,11 +4,9 @@ import * as SessionText from "../front/protocol/session_text.mjs";
 import * as Terms from "../front/run/terms.mjs";
 import Deeds from "./deeds.mjs";
 import { find, make } from "./elements.mjs";
-import * as Guide from "./guide.mjs";
 import * as Links from "./links.mjs";
 import State from "./state.mjs";
 import * as Talk from "./talk.mjs";
-import * as Trail from "./trail.mjs";
 
 const NAME = "ghcdb.session", MOST = 5, MOST_OF_ONE = 3; // sessions of one's own programs that are kept; of one text
 const PAUSE = 400; // milliseconds after a letter was typed
@@ -32,12 +30,12 @@ function setKept(isSo) {
 const linesText = () => SessionText.write({ ...State.given, entries: Talk.typedLines().map((line) => ({ line, reply: [] })) });
 
 const isExample = (program) => EXAMPLES.some((example) => example.program === program);
-const isOwn = () => !Guide.isOn() && !(isExample(Deeds.typed().program) && isExample(State.given.program));
+const isOwn = () => !Deeds.isOnTour() && !(isExample(Deeds.typed().program) && isExample(State.given.program));
 
 /** What there is to be kept: the session, and what was typed since its Start; null where all of it stands in an example. */
 function now() {
   const typed = Deeds.typed(), draft = Deeds.isChanged() ? { program: typed.program, query: typed.query } : null;
-  if (State.entries.length > 0 || State.given.history !== "") return { text: linesText(), draft, looked: Trail.saved() };
+  if (State.entries.length > 0 || State.given.history !== "") return { text: linesText(), draft, looked: Deeds.looked() };
   return typed.program.trim() === "" || isExample(typed.program) ? null : { text: SessionText.write({ ...State.given, ...typed, entries: [] }), draft: null };
 }
 
@@ -221,12 +219,10 @@ function forget() {
 async function goOn(index) {
   const { program, query, history, lines, draft, key, of, looked } = before[index];
   leave();
-  Deeds.begin({ program, query, history });
-  if (lines.length > 0) Talk.sendAll(lines);
-  await Talk.settled();
+  await Deeds.begin({ program, query, history }, lines);
   if (!isOfGiven(before[index])) return;
   if (draft !== null) Deeds.setTyped(draft);
-  Trail.takeUp(looked);
+  Deeds.takeUpLooked(looked);
   source = key;
   origin = of;
   keep();
@@ -237,7 +233,7 @@ async function address() {
   const text = linesText(), told = (number) => number.toLocaleString("en"), { MOST, MOST_READ, MOST_LINES } = Links;
   const isLong = text.length > MOST_READ || State.entries.length > MOST_LINES;
   if (isLong) return { tooLong: `${told(MOST_READ)} bytes and ${told(MOST_LINES)} lines at most` };
-  const looked = Trail.saved(), notes = looked === null ? "" : `&n=${await Links.pack(JSON.stringify(looked))}`;
+  const looked = Deeds.looked(), notes = looked === null ? "" : `&n=${await Links.pack(JSON.stringify(looked))}`;
   const letters = `${await Links.pack(text)}${notes}`;
   if (letters.length > MOST) return { tooLong: `${told(letters.length)} letters, ${told(MOST)} at most` };
   return { link: `${location.href.split("#")[0]}#s=${letters}` };

@@ -23,8 +23,7 @@ function goTo(place) {
   if (hits.length === 0) return;
   at = (place + hits.length) % hits.length;
   const step = State.run.graph.numbers.at(hits[at]);
-  Deeds.choose({ step });
-  Deeds.scrollTo({ step });
+  Deeds.goTo({ step });
   showHits(true);
 }
 

@@ -3,13 +3,11 @@ import * as Asking from "../front/protocol/asking.mjs";
 import * as Replies from "../front/protocol/replies.mjs";
 import * as Terms from "../front/run/terms.mjs";
 import * as Printed from "../front/text/printed.mjs";
-import Beside from "./beside.mjs";
-import Canvas from "./canvas.mjs";
 import Deeds from "./deeds.mjs";
-import { find, make, lineButton } from "./elements.mjs";
+import { find, make, lineButton, buttons, ringing } from "./elements.mjs";
+import { withGoalText } from "./goal_texts.mjs";
 import * as Names from "./names.mjs";
 import OnScreen from "./on_screen.mjs";
-import * as Resting from "./resting.mjs";
 import * as StepWords from "./step_words.mjs";
 import State from "./state.mjs";
 import * as Talk from "./talk.mjs";
@@ -21,13 +19,6 @@ const FIRST = "input, button:not([disabled]):not(.variable)"; // what has the fo
 
 const title = (words, dim) => make("div", { class: "menu-title" }, make("b", null, words), " ", make("span", { class: "dim" }, dim));
 const code = (first, ...lines) => make("div", { class: "code" }, ...(typeof first === "string" ? [[first, ...lines].filter(Boolean).join("\n")] : [first, lines.filter(Boolean).join("\n")]));
-const buttons = (...all) => make("div", { class: "buttons" }, ...all.filter(Boolean));
-
-/** What a roll of a step takes back, with the step itself: how many, and whether a number is one of them. */
-function goneWith(number) {
-  const { graph } = State.run, { isIn, count } = OnScreen.reachOf(number).effects;
-  return { size: count, has: (one) => isIn[graph.indexOf(one)] === 1, isIn };
-}
 
 /** The numbers of the first of some steps in recorded order. */
 function firstOf({ isIn }, most) {
@@ -39,7 +30,7 @@ function firstOf({ isIn }, most) {
 /** Rings what a roll takes back, and asks once more before it is done. */
 function askRoll(number, gone) {
   const names = firstOf(gone, MOST_NAMED).sort((one, other) => one - other).join(", ");
-  Canvas.ring(gone);
+  Deeds.ring(gone);
   find("menu").replaceChildren(title(`Roll back step ${number}`, ""), make("p", null, `The ringed ${plural(gone.size, "step")} will be taken back: ${Terms.cut(names, 200)}. All others stay.`),
     buttons(lineButton(`Take back ${gone.size}`, `roll ${number}`, { class: "danger" }), make("button", { "data-close": true }, "Leave it")));
   find("menu").querySelector("button").focus();
@@ -50,9 +41,7 @@ function rollButton(number, gone) {
   const button = make("button", { "data-roll": number }, gone.size > 1 ? `Roll back, with ${plural(gone.size - 1, "consequence")} …` : "Roll back");
   if (gone.size === 1) button.dataset.line = `roll ${number}`;
   else button.addEventListener("click", () => askRoll(number, gone));
-  button.addEventListener("mouseenter", () => Canvas.ring(gone));
-  button.addEventListener("mouseleave", () => Canvas.ring(new Set()));
-  return button;
+  return ringing(button, gone);
 }
 
 /** What a clause says, in words: nothing where it says yes, or the console has not told it yet. */
@@ -97,7 +86,7 @@ function clausesOf(predicate) {
 function otherClauses(step) {
   const { number, goal, clause } = step, own = clause ? State.run.clauses[clause - 1] : undefined;
   const others = own ? clausesOf(own.predicate).filter((other) => other.number !== clause) : [];
-  if (others.length === 0 || State.run.graph.count > Beside.MOST_STEPS) return [];
+  if (others.length === 0 || !Deeds.canKeepRun()) return [];
   const does = (other) => ({ "data-try": `${number} ${other}`, title: `roll ${number}, step ${goal} ${other}` });
   const words = make("p", { class: "dim" }, "Keep this run beside, and try here:");
   return [words, clauseButtons(others, Talk.askWithout(number, `clauses ${goal}`), does)];
@@ -118,11 +107,11 @@ function clauseButtonOf({ clause }) {
 /** The menu of a kept step. */
 function ofStep(number) {
   const { graph, clauses } = State.run, step = graph.byNumber.get(number);
-  const gone = goneWith(number), [first] = graph.effects.get(number);
+  const gone = OnScreen.goneWith(number), [first] = graph.effects.get(number);
   const undo = first ? make("button", { disabled: true }, "Undo") : lineButton("Undo", `undo ${number}`);
   const why = first ? make("p", { class: "dim" }, `Undo alone is not lawful: step ${first.to} depends on it.`) : null;
   const clause = step.clause && clauses[step.clause - 1] ? clauses[step.clause - 1].text : "", goal = make("span");
-  Resting.withGoalText(step, (text) => { goal.textContent = `${text}\n`; Names.dress(goal); });
+  withGoalText(step, (text) => { goal.textContent = `${text}\n`; Names.dress(goal); });
   return [title(`Step ${number}`, StepWords.of(step)),
     code(goal, step.goal === null ? step.act : "", clause, ...step.binds.map((binding) => `${binding.variable} = ${Terms.cut(binding.term, 300)}`)),
     buttons(lineButton("Why?", `why ${number}`), undo, rollButton(number, gone), foldButton({ step: number }), clauseButtonOf(step)), why, ...otherClauses(step)];
@@ -212,7 +201,7 @@ function covered(boxes, place, width, height) {
 
 /** Places for a menu beside what it belongs to, the nearest first, and below the picture, all of them within the run's part of the page. */
 function placesFor(box, width, height) {
-  const svg = find("canvas").querySelector("svg"), bottom = svg ? svg.getBoundingClientRect().top + Canvas.view.bottom : box.bottom;
+  const svg = find("canvas").querySelector("svg"), bottom = svg ? svg.getBoundingClientRect().top + Deeds.lanesBottom() : box.bottom;
   const right = box.right + OFFSET, left = box.left - width - OFFSET, below = box.bottom + OFFSET, above = box.top - height - OFFSET;
   const all = [{ x: right, y: below }, { x: right, y: above }, { x: left, y: below }, { x: left, y: above }, { x: box.left, y: bottom + 6 }, { x: right, y: bottom + 6 }];
   const area = find("view").getBoundingClientRect();
@@ -275,7 +264,7 @@ function openWith(parts, anchor, focus = FIRST) {
 function close() {
   if (find("menu").hidden) return;
   find("menu").hidden = true;
-  Canvas.ring(new Set());
+  Deeds.ring(new Set());
   Deeds.pointAgain();
 }
 
@@ -287,4 +276,4 @@ function onTab(event) {
   all[(at + (event.shiftKey ? all.length - 1 : 1)) % all.length].focus();
 }
 
-export { open, openWith, close, onTab, goneWith };
+export { open, openWith, close, onTab };

@@ -1,6 +1,6 @@
 // The names of the variables of the run, wherever the page shows some: what one points at tells the number, and a click
 // types it at the console.
-import { make } from "./elements.mjs";
+import { find, make } from "./elements.mjs";
 import Naming from "./naming.mjs";
 import State from "./state.mjs";
 
@@ -43,6 +43,20 @@ function dress(area, { isInList = false } = {}) {
   return area;
 }
 
+/**
+ * Fills a place with parts, and hides it where there are none; what had the focus in it has it afterwards, or the first
+ * button.
+ */
+function fill(name, parts) {
+  const area = find(name), had = area.contains(document.activeElement) ? document.activeElement.id : null;
+  area.hidden = parts.length === 0;
+  area.replaceChildren(...parts);
+  dress(area);
+  if (had === null || area.hidden) return;
+  const same = /** @type {HTMLButtonElement | null} */ (had === "" ? null : find(had));
+  (same && !same.disabled ? same : area.querySelector("button:not([disabled])"))?.focus({ preventScroll: true });
+}
+
 const shown = (text) => (text.includes("_") ? now().shown(text) : text);
 
-export { now, dress, shown };
+export { now, dress, fill, shown };

@@ -140,6 +140,18 @@ function laneOf(chosen) {
   return chosen.step !== undefined ? lanes.ofStep[graph.indexOf(chosen.step)] : lanes.ofGoal(graph, chosen.goal);
 }
 
+/** The step that took a goal; undefined where none did. */
+function takerOf(goal) {
+  const { graph } = State.run, index = graph.consumerOf(goal);
+  return index === undefined || index === Graph.NONE ? undefined : graph.stepAt(index);
+}
+
+/** What a roll of a step takes back, with the step itself: how many, and whether a number is one of them. */
+function goneWith(number) {
+  const { graph } = State.run, { isIn, count } = reachOf(number).effects;
+  return { size: count, has: (one) => isIn[graph.indexOf(one)] === 1, isIn };
+}
+
 /** How many steps there are in a lane and in all that came of it. */
 function stepsUnder(lane) {
   const { lanes } = run(), foldOf = Lanes.foldsOf(lanes, new Set([lane.name]));
@@ -183,6 +195,7 @@ function reachOf(number) {
 }
 
 const OnScreen = Object.assign(onScreen, {
+  takerOf, goneWith,
   LEAST_STEPS, MOST_SIZE, run, reachOf, incoming, isOn, count, shownRun, follow, show, showUntil, laneOf, stepsUnder, zoom,
   fit, hitFlags, setFrom, sizeNow: size,
 });

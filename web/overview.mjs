@@ -4,10 +4,10 @@ import { between } from "../front/run/lanes.mjs";
 import Deeds from "./deeds.mjs";
 import { find } from "./elements.mjs";
 import OnScreen from "./on_screen.mjs";
+import { pauses } from "./pausing.mjs";
 import * as Picture from "./picture.mjs";
 import Shown from "./shown.mjs";
 import State from "./state.mjs";
-import * as Talk from "./talk.mjs";
 
 const EDGE = 10, FOOT = 18, TOP = 8; // points of the strip beside its dots
 const MOST_AT_ONCE = 5000, DOTS = 1024, SLICE = 8; // steps whose dots are drawn at once; dots between two looks at the clock; milliseconds
@@ -109,13 +109,8 @@ async function drawInSlices(dots, parts, of) {
   const isOver = (at) => of !== wanted || at >= run().lanes.ofStep.length || !run().isWhole;
   await State.showing;
   if (isOver(0)) return;
-  let until = performance.now() + SLICE;
-  for (const at of parts) {
-    if (performance.now() < until) continue;
-    await Talk.pause();
-    if (isOver(at)) return;
-    until = performance.now() + SLICE;
-  }
+  const pause = pauses(SLICE);
+  for (const at of parts) if (await pause() && isOver(at)) return;
   put(dots, of);
   draw();
 }

@@ -22,6 +22,7 @@ import OnScreen from "./on_screen.mjs";
 import * as Overview from "./overview.mjs";
 import * as Paper from "./paper.mjs";
 import * as Panels from "./panels.mjs";
+import { pauses } from "./pausing.mjs";
 import * as Program from "./program.mjs";
 import * as Refusing from "./refusing.mjs";
 import * as Reloading from "./reloading.mjs";
@@ -74,22 +75,23 @@ function startTyped() {
 }
 
 /**
- * Begins a session, and shows its texts.
+ * Begins a session, shows its texts, and types lines; it is done when these are played.
  * @param {import("./types").Texts} texts
  */
-function begin({ program: text, ...others }) {
+function begin({ program: text, ...others }, lines = []) {
   const given = { ...others, program: text.replace(/\r\n?/g, "\n") }; // as the field holds it
   Program.setText(given.program);
   find("query").value = given.query;
   Menus.close();
   Shown.chosen = null;
   Keeping.leaveDone();
-  Talk.start({ program: given.program, query: given.query, history: given.history || "" });
+  const begun = Talk.start({ program: given.program, query: given.query, history: given.history || "" });
+  return lines.length > 0 ? Talk.sendAll(lines) : begun;
 }
 
-function chooseExample(name, query) {
+function chooseExample(name, query, lines) {
   const example = EXAMPLES.find((other) => other.name === name);
-  begin({ program: example.program, query: query || ExampleNotes.read(example).query });
+  return begin({ program: example.program, query: query || ExampleNotes.read(example).query }, lines);
 }
 
 let standing = ""; // the example that stands here, by name
@@ -111,16 +113,6 @@ function onExampleKey(event) {
 
 const SLICE = 16; // milliseconds that the page shows what has changed without a pause
 
-/** Gives a pause where a slice of time is over since the last one: each pause may cost a drawing of the page. */
-function pauses() {
-  let until = performance.now() + SLICE;
-  return async () => {
-    if (performance.now() < until) return;
-    await Talk.pause();
-    until = performance.now() + SLICE;
-  };
-}
-
 /** Names the example that stands here, where one does, with what its comment says. */
 function nameExample(what) {
   if (what !== "start") return;
@@ -130,7 +122,7 @@ function nameExample(what) {
   Panels.showLookAt(example && !Guide.isOn() ? ExampleNotes.read(example) : null);
 }
 
-let wasCount = 0; // steps, before a change
+let wasCount = 0, seen = 0; // steps, before a change; entries that were shown
 
 function redraw() {
   Canvas.forget();
@@ -158,10 +150,6 @@ function lightClause(number) {
   Answers.put(false, `Clause ${number} of ${clause.predicate}: `, ...parts);
 }
 
-function leaveWelcome() {
-  Welcome.hide();
-}
-
 /** Where program or query was refused, it says why; else what is noted on the program. */
 function tellCause(what) {
   if (what !== "start" || Refusing.show(State.given, State.refusal)) return;
@@ -169,11 +157,17 @@ function tellCause(what) {
   if (notes.length > 0) Answers.put(false, ...notes);
 }
 
-/** What shows a change, in its order. */
+const showDetail = () => Panels.showDetail(Shown.chosen);
+
+/** What shows a change, in its order: each is told what it is, and the fresh entries of the console. */
 const parts = () => [
-  nameExample, leaveWelcome, OnScreen.follow, Beside.follow, Result.show, redraw, showNewSteps, Looking.follow, ...Panels.PARTS, Trail.follow, Why.show, Blaming.show, Choosing.follow, Guide.onChange,
+  nameExample, Welcome.hide, OnScreen.follow, Beside.follow, Result.show, redraw, showNewSteps, Looking.follow, Panels.showTold, Panels.showGoals, Store.show,
+  Panels.showShelf, Panels.showCount, showDetail, Answers.show, Trail.follow, Why.show, Blaming.show, Choosing.follow, Guide.onChange,
   tellCause, Reloading.follow, Fitting.showLit, Keeping.keep,
 ];
+
+/** What shows the run at the time that is on the screen. */
+const PARTS_OF_TIME = [Result.show, Panels.showGoals, Store.show, Panels.showShelf, Panels.showCount, showDetail];
 
 /** Shows what has changed, in parts between which the page may pause. A fault in one is thrown after the others. */
 async function onChange(what) {
@@ -182,11 +176,12 @@ async function onChange(what) {
   if (!["start", "again", "lines"].includes(what)) return;
   if (what !== "lines") Shown.chosen = null;
   wasCount = OnScreen.wasCount;
-  const pause = pauses(), faults = [];
+  const pause = pauses(SLICE), faults = [], fresh = what === "lines" ? State.entries.slice(seen) : [];
+  seen = State.entries.length;
   for (const part of parts()) {
     await pause();
     try {
-      part(what);
+      part(what, fresh);
     } catch (error) {
       faults.push(error);
     }
@@ -255,6 +250,7 @@ const BUTTONS = {
   "go-without": () => Keeping.goWithout(),
   "why-close": Why.close, "choices-stop": Choosing.stop, "choices-close": Choosing.close,
   "blame-light": () => Blaming.lightAgain(), "blame-close": () => Blaming.close(), "blame-alone": () => Blaming.tryAlone(), "blame-return": () => Blaming.goBack(),
+  "tour-do": () => Guide.doIt(), "tour-back": () => Guide.back(), "tour-again": () => Guide.putThere(), "tour-end": () => Guide.end(),
   forget: () => Keeping.forget(), "make-link": () => Keeping.makeLink(), "copy-link": () => Keeping.copyLink(),
 };
 
@@ -273,20 +269,24 @@ function goToStep(step) {
   if (!State.run.graph.byNumber.has(step)) return;
   Menus.close();
   if (document.body.dataset.tab === "console") showTab("run");
-  Canvas.choose({ step });
-  Canvas.scrollTo({ step });
+  goTo({ step });
+}
+
+/** Chooses a step or a goal, and brings it into sight. */
+function goTo(chosen) {
+  Canvas.choose(chosen);
+  Canvas.scrollTo(chosen);
 }
 
 /** Chooses a goal that is there, and opens what can be done with it; of one that is gone the step that took it. */
 function goToGoal(goal) {
-  const chosen = { goal }, taken = State.run.graph.consumerOf(goal);
+  const chosen = { goal }, taker = OnScreen.takerOf(goal);
   Menus.close();
-  if (taken !== undefined && taken !== Graph.NONE) {
-    goToStep(State.run.graph.numbers.at(taken));
+  if (taker !== undefined) {
+    goToStep(taker.number);
     return;
   }
-  Canvas.choose(chosen);
-  Canvas.scrollTo(chosen);
+  goTo(chosen);
   if (Canvas.elementOf(chosen)) Menus.open(chosen, Canvas.elementOf(chosen));
 }
 
@@ -331,13 +331,12 @@ const CLICKS = [
 ];
 
 function onClick(event) {
-  const { target } = event, button = target.closest("button");
+  const { target } = event;
   if (!target.isConnected) return; // the button has put something else in its own place
   for (const [hit, does] of CLICKS) {
     const found = target.closest(hit);
     if (found) return does(found);
   }
-  if (button && Guide.onClick(button.id)) return undefined;
   if (target.closest("#menu") && !target.closest("[data-close]")) return undefined;
   return chooseAt(target);
 }
@@ -429,21 +428,13 @@ function listenToAll() {
   find("examples").addEventListener("pointerdown", () => { isPassing = false; });
   find("examples").addEventListener("blur", () => { find("examples").value = standing; });
   for (const field of ["program", "query"]) find(field).addEventListener("input", Panels.followText);
-  Files.listenToAll();
   find("canvas").addEventListener("scroll", () => {
     Canvas.stayInSight();
     if (!Canvas.isOwnScroll()) Menus.close();
   }, { passive: true });
   find("canvas").addEventListener("mouseover", (event) => Canvas.addTitle(event.target));
   window.addEventListener("resize", () => { if (State.session) Canvas.draw(); });
-  Overview.listenToAll();
-  Program.listenToAll();
-  Looking.listenToAll();
-  Selecting.listenToAll();
-  Trail.listenToAll();
-  Paper.listenToAll();
-  Reloading.listenToAll();
-  Keeping.listenToAll();
+  for (const part of [Files, Overview, Program, Looking, Selecting, Trail, Paper, Reloading, Keeping]) part.listenToAll();
   window.addEventListener("hashchange", () => Keeping.beginOther(() => { Guide.end(); return fromAddress(); }));
   setInterval(() => { if (State.busy) Panels.showBusy(); }, 100);
   Talk.listen(onChange);
@@ -477,33 +468,33 @@ async function fromAddress() {
   const asked = new URLSearchParams(location.hash.slice(1)), name = asked.get("example"), letters = asked.get("s");
   const { session, why } = letters === null ? { session: null, why: undefined } : await readLink(letters);
   if (session !== null) {
-    begin(session);
-    if (session.lines.length > 0) Talk.sendAll(session.lines);
-    await Talk.settled();
+    await begin(session, session.lines);
     Trail.takeUp(await readNotes(asked.get("n")));
     return true;
   }
   const example = EXAMPLES.some((other) => other.name === name) ? name : FIRST_EXAMPLE;
   if (asked.get("theme")) setTheme(asked.get("theme") === "dark" ? "dark" : "light");
   if (asked.get("by") === "depth") setOrder("depth");
-  chooseExample(example, asked.get("query") || (name ? "" : FIRST_QUERY));
   const lines = (asked.get("lines") || "").split(";").filter(Boolean);
-  if (lines.length > 0) Talk.sendAll(lines);
-  await Talk.settled();
+  await chooseExample(example, asked.get("query") || (name ? "" : FIRST_QUERY), lines);
   if (why !== undefined) Answers.put(true, why);
   goToStep(Number(asked.get("step")));
   return false;
 }
 
-Deeds.give({
-  begin, beginOther: Keeping.beginOther, typed, isChanged, setTyped, keepSoon: Keeping.keepSoon,
-  showTab, setOrder, showNow: Looking.showNow, showTime: () => { Result.show(); Panels.showTime(); }, timeRows: Panels.timeRows, showNote: Panels.showNote, showDetail: (chosen) => { Panels.showDetail(chosen); Trail.look(chosen); },
+/** @type {import("./types").Doers} */
+const doers = {
+  begin, beginOther: Keeping.beginOther, typed, isChanged, setTyped, keepSoon: Keeping.keepSoon, leaveDone: Keeping.leaveDone, wayBack: Keeping.wayBack,
+  showTab, setOrder, showNow: Looking.showNow, showTime: () => PARTS_OF_TIME.forEach((part) => part()), timeRows: Panels.timeRows, showNote: Panels.showNote, showDetail: (chosen) => { Panels.showDetail(chosen); Trail.look(chosen); },
   draw: Canvas.draw, drawStrip: Overview.draw, goToPart: Overview.goTo,
-  choose: Canvas.choose, scrollTo: Canvas.scrollTo, visit: Canvas.visit, markWay: Canvas.markWay, ring: Canvas.ring,
-  markClause: Program.markClause, markLit: Program.markLit, lightClause, size: Fitting.size, selectRange: Selecting.selectRange,
+  choose: Canvas.choose, scrollTo: Canvas.scrollTo, goTo, visit: Canvas.visit, markWay: Canvas.markWay, ring: Canvas.ring,
+  showSlice: Canvas.showSlice, showAsked: Canvas.showAsked, lanesBottom: () => Canvas.view.bottom, wholePicture: Files.wholePicture,
+  markClause: Program.markClause, markLit: Program.markLit, showPlace: Program.showPlace, lightClause, size: Fitting.size, selectRange: Selecting.selectRange,
   resultOf: Result.ofKept, tell: Answers.put, hideAnswer: Answers.hide, tellSlice: Resting.tell, openMenu: Menus.open, openMenuWith: Menus.openWith, closeMenu: Menus.close,
-  pointAgain: Guide.pointAgain, savePicture: Files.savePicture,
-});
+  showRefusal: Refusing.show, notesOn: Refusing.notes, whyInShort: Why.inShort, besideParts: Beside.noteParts, canKeepRun: Beside.isComparable, keepRun: Beside.keep,
+  looked: Trail.saved, takeUpLooked: Trail.takeUp, isOnTour: Guide.isOn, endTour: Guide.end, pointAgain: Guide.pointAgain, savePicture: Files.savePicture,
+};
+Object.assign(Deeds, doers);
 
 async function startPage() {
   if (typeof WebAssembly === "undefined") throw new Error("it has no WebAssembly, in which the program comes; some browsers switch it off in a strict mode");

@@ -3,21 +3,17 @@ import * as Replies from "../front/protocol/replies.mjs";
 import * as Explain from "../front/run/explain.mjs";
 import * as Terms from "../front/run/terms.mjs";
 import { plural } from "../front/text/plural.mjs";
-import * as Answers from "./answers.mjs";
-import Beside from "./beside.mjs";
 import Deeds from "./deeds.mjs";
-import { find, make, lineButton, withCode, goTo, linkedLines, fillRows } from "./elements.mjs";
+import { find, make, lineButton, withCode, goTo, linkedLines, fillRows, keepFocus } from "./elements.mjs";
+import { withGoalText } from "./goal_texts.mjs";
 import * as Names from "./names.mjs";
 import * as Outcome from "./outcome.mjs";
 import OnScreen from "./on_screen.mjs";
 import * as Picture from "./picture.mjs";
-import * as Resting from "./resting.mjs";
 import Shown from "./shown.mjs";
 import * as StepWords from "./step_words.mjs";
-import * as Store from "./store.mjs";
 import * as Summing from "./summing.mjs";
 import State from "./state.mjs";
-import * as Why from "./why.mjs";
 
 const MOST_ROWS = 100, MOST_LINES = 1000, MOST_TIDIED = 3000;
 const LONGEST_GOAL = 200; // letters
@@ -27,7 +23,7 @@ const MOST_TOLD = 100; // lines that were typed at once, and are shown
 const LEAST_SUMMED = 4; // causes or consequences of a step that are summed
 const MOST_LINKED = 60; // lines of a reply in which numbers are links
 const isRefusal = (line) => Replies.isRefusal(line) || /^(program|query|history|session): /.test(line);
-let shown = 0, wasChanged = false;
+let wasChanged = false;
 
 function addTold(entry) {
   const told = find("told");
@@ -44,17 +40,15 @@ function addTold(entry) {
 /** With what the page was made. */
 const madeWith = () => `ghcdb, commit ${MADE_WITH.commit}, ${MADE_WITH.kit}, ${MADE_WITH.proved ? "a proved build" : "a build without a proof"}`;
 
-/** Adds to the console what was typed and told since it was filled last. */
-function showTold(what) {
-  if (what === "start" || what === "again") {
+/** Adds to the console what was typed and told; of a session that begins, or is played again, all of it. */
+function showTold(what, fresh) {
+  const entries = what === "lines" ? fresh : State.entries, more = entries.length - MOST_TOLD;
+  if (what !== "lines") {
     find("told").replaceChildren(make("div", { class: "made-with dim" }, madeWith()));
-    shown = 0;
     if (State.refusal) find("told").append(make("div", { class: "refused" }, State.refusal));
   }
-  const first = Math.max(shown, State.entries.length - MOST_TOLD);
-  const more = `(${plural(first - shown, "line")} more, which Save writes)`;
-  if (first > shown) find("told").append(make("div", { class: "dim" }, more));
-  for (shown = first; shown < State.entries.length; shown++) addTold(State.entries[shown]);
+  if (more > 0) find("told").append(make("div", { class: "dim" }, `(${plural(more, "line")} more, which Save writes)`));
+  entries.slice(-MOST_TOLD).forEach(addTold);
   find("told").scrollTop = find("told").scrollHeight;
 }
 
@@ -76,7 +70,7 @@ function goalRow(goal) {
 function fill(panel, rows, empty, count = rows.length, before = []) {
   const more = count - Math.min(rows.length, MOST_ROWS), told = more > 0 ? `and ${more} more` : rows.length === 0 ? empty : "";
   const after = told ? [{ key: null, does: () => make(more > 0 ? "div" : "span", { class: "dim" }, told) }] : [];
-  fillRows(find(panel), [...before, ...rows.slice(0, MOST_ROWS), ...after]);
+  fillRows(panel, [...before, ...rows.slice(0, MOST_ROWS), ...after]);
 }
 
 /** Where the picture is of an earlier time and the panels are not: a row that says so. */
@@ -86,7 +80,7 @@ function timeRows() {
   return [{ key: null, does: () => make("div", { class: "dim" }, words) }];
 }
 
-const showGoals = () => {
+const showGoals = () => keepFocus("goals", () => {
   const { goals, goalsRefused } = OnScreen.run(), isNow = OnScreen.until === null;
   const partsOf = ({ name, status, waitsFor, refusal }) => [isNow, name, status, waitsFor, refusal];
   const keyOf = (goal) => Names.shown([...partsOf(goal), Terms.cut(goal.text, LONGEST_GOAL)].join());
@@ -95,9 +89,9 @@ const showGoals = () => {
   fill("goals", rows, empty, goals.length, timeRows());
   const spied = [...State.spied].map((predicate) => lineButton(`spied: ${predicate} ×`, `nospy ${predicate}`, { class: "chip" }));
   if (spied.length > 0) find("goals").prepend(make("div", null, ...spied));
-};
+});
 
-function showShelf() {
+const showShelf = () => keepFocus("shelf", () => {
   const isNow = OnScreen.until === null, shelf = isNow ? State.run.shelf : [];
   const rows = shelf.slice(0, MOST_ROWS).map((step) => {
     const words = StepWords.shortOf(step), line = `redo ${step.number}`;
@@ -106,7 +100,7 @@ function showShelf() {
   });
   fill("shelf", rows, isNow ? "nothing" : "shown with all steps", shelf.length);
   find("redo-all").hidden = !isNow || shelf.length < 2;
-}
+});
 
 /**
  * On how many steps one rests, and how many rest on it, by predicate: where they are more than one reads one by one.
@@ -132,7 +126,7 @@ function showDetail(chosen) {
   const causes = run.graph.causes.get(step.number);
   const effects = run.graph.effects.get(step.number).map((edge) => edge.to);
   const isTold = run.texts.has(step.goal);
-  Resting.withGoalText(step, () => { if (!isTold && Shown.chosen && Shown.chosen.step === step.number) showDetail(Shown.chosen); });
+  withGoalText(step, () => { if (!isTold && Shown.chosen && Shown.chosen.step === step.number) showDetail(Shown.chosen); });
   const [does, goal = "", ...others] = Picture.tellStep(run, step).split("\n");
   const rest = others.map((line) => `\n${line}`).join("");
   const because = causes.flatMap((edge) => ["\nbecause step ", goTo(edge.from), ` ${StepWords.causeOf(edge)}`]);
@@ -154,9 +148,9 @@ function tellFailure(goal) {
  */
 function tellWhy({ goals, why: [first] }) {
   if (first === undefined) return [];
-  if (goals.length === 0) return Why.inShort(first);
+  if (goals.length === 0) return Deeds.whyInShort(first);
   const waits = goals.length === 1 ? "a goal waits" : `${goals.length} goals wait`;
-  return [`Nothing is ready, and ${waits}. `, ...Why.inShort(first), " ", ...withCode("`Add goals` adds one that binds it.")];
+  return [`Nothing is ready, and ${waits}. `, ...Deeds.whyInShort(first), " ", ...withCode("`Add goals` adds one that binds it.")];
 }
 
 /** The circle in which a run is stuck, as sentences of the names of its processes, and their lanes alone. */
@@ -165,7 +159,7 @@ function tellCircle(circle) {
   const words = told.sentences.flatMap((one, at) => [at > 0 ? "; " : "", ...sentenceOf(told, one)]);
   const isAlone = OnScreen.only !== null, id = isAlone ? "lanes-all" : "lanes-alone";
   const lanes = make("button", { class: "small", id }, isAlone ? "Show all lanes" : "Show these lanes alone");
-  return ["A deadlock: ", ...words, ". ", lanes, " ", ...Why.inShort(State.run.why[0])];
+  return ["A deadlock: ", ...words, ". ", lanes, " ", ...Deeds.whyInShort(State.run.why[0])];
 }
 
 /** What a process of a circle holds and waits for, with links to the goals. */
@@ -198,8 +192,8 @@ function noteParts() {
   if (State.session.hasEnded) return ["The session has ended. Start begins a new one."];
   if (OnScreen.until !== null) return timeParts();
   if (graph.count >= MOST_KEPT) return ["1,000,000 steps are kept, and there is no room for another one. ", ...withCode("`undo`, `roll` or Start lead back.")];
-  const state = stateParts();
-  return Beside.isOn() ? [...Beside.noteParts(), ...(state.length > 0 ? [make("br"), ...state] : [])] : state;
+  const beside = Deeds.besideParts(), state = stateParts();
+  return [...beside, ...(beside.length > 0 && state.length > 0 ? [make("br")] : []), ...state];
 }
 
 /** What is said of the run as it stands: a failure, a circle, who waits for what. */
@@ -264,34 +258,6 @@ function showLookAt(notes) {
   area.replaceChildren(make("p", null, make("b", null, "Look at: "), ...withCode(notes.lookAt)), ...(larger ? [larger] : []));
 }
 
-/** What an element is known by, when it was made anew. */
-const nameOf = (element) => ["data-line", "data-goal", "data-variable", "data-root", "data-path", "data-goto", "id"].map((name) => element.getAttribute(name) || "").join(" ") + element.textContent;
-
-/** Makes a panel anew; what had the focus in it has it afterwards, or what stands in its place. */
-function keepFocus(name, does) {
-  const panel = find(name), buttons = () => [...panel.querySelectorAll("button:not(.variable)")], before = buttons();
-  const at = before.indexOf(document.activeElement), was = at < 0 ? "" : nameOf(before[at]);
-  does();
-  if (at < 0) return;
-  const after = buttons(), same = after.find((button) => nameOf(button) === was);
-  (same || after[Math.min(at, after.length - 1)] || find("step")).focus({ preventScroll: true });
-}
-
-/** What is made anew after lines, in parts between which the page may pause. */
-const PARTS = [
-  (what) => showTold(what), () => keepFocus("goals", showGoals), () => keepFocus("store", Store.show), () => keepFocus("shelf", showShelf), () => showCount(),
-  (what) => { showDetail(Shown.chosen); Answers.show(what); },
-];
-
-/** What shows the run at the time that is on the screen. */
-function showTime() {
-  keepFocus("goals", showGoals);
-  keepFocus("store", Store.show);
-  keepFocus("shelf", showShelf);
-  showCount();
-  showDetail(Shown.chosen);
-}
-
 /** How far a line is that takes long. */
 function howFar({ read, played, memory }) {
   if (read > 0) return `, ${read.toLocaleString("en")} steps read`;
@@ -310,4 +276,4 @@ function showBusy() {
   find("stop").hidden = !busy.canStop;
 }
 
-export { PARTS, showTime, timeRows, showBusy, showNote, showLanesAlone, followText, showDetail, showLookAt, madeWith };
+export { showTold, showGoals, showShelf, showCount, timeRows, showBusy, showNote, showLanesAlone, followText, showDetail, showLookAt, madeWith };

@@ -1,6 +1,6 @@
 // What is printed: program, query, result, values, and the picture of the whole run, as far as a picture can show it.
+import Deeds from "./deeds.mjs";
 import { find, make } from "./elements.mjs";
-import * as Files from "./files.mjs";
 import OnScreen from "./on_screen.mjs";
 import State from "./state.mjs";
 
@@ -17,7 +17,7 @@ const values = () => [...find("store").querySelectorAll(".row")].map((row) => ma
 /** Fills what is printed alone. */
 function fill() {
   const { program, query } = State.given, isThere = State.session && !State.refusal, picture = make("div");
-  if (isThere) picture.innerHTML = Files.wholePicture();
+  if (isThere) picture.innerHTML = Deeds.wholePicture();
   const parts = [
     ["Program", make("pre", null, program)], ["Query", make("pre", null, query)],
     ["Result", make("p", null, find("result").textContent)],

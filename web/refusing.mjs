@@ -3,8 +3,8 @@
 import * as Terms from "../front/run/terms.mjs";
 import * as Causes from "../front/text/causes.mjs";
 import * as Answers from "./answers.mjs";
+import Deeds from "./deeds.mjs";
 import { make } from "./elements.mjs";
-import * as Program from "./program.mjs";
 
 const MOST_NOTED = 200000; // letters: of a longer program no notes are made, and no cause of a refusal is looked for
 
@@ -16,7 +16,7 @@ function show({ program, query }, refused, ...after) {
   const isLong = program.length + query.length > MOST_NOTED;
   const cause = isLong ? Answers.placeIn(refusal) : Causes.causeOf(refusal, given);
   const parts = isLong ? Answers.partsOfLong(refusal) : Answers.partsOfRefusal(refusal, given, cause);
-  if (cause) Program.showPlace(name, cause.line, Causes.letterOf(cause, given.text), cause.length, cause.title);
+  if (cause) Deeds.showPlace(name, cause.line, Causes.letterOf(cause, given.text), cause.length, cause.title);
   if (parts.length + after.length > 0) Answers.put(true, ...parts, ...after);
   return true;
 }

@@ -3,14 +3,9 @@
 import * as Reloads from "../front/run/reloads.mjs";
 import Deeds from "./deeds.mjs";
 import { find, make } from "./elements.mjs";
-import * as Guide from "./guide.mjs";
-import * as Keeping from "./keeping.mjs";
-import * as Program from "./program.mjs";
-import * as Refusing from "./refusing.mjs";
 import * as StepWords from "./step_words.mjs";
 import State from "./state.mjs";
 import * as Talk from "./talk.mjs";
-import * as Trail from "./trail.mjs";
 
 const PAUSE = 150; // milliseconds after a letter was typed
 const NO_STEP = { isIn: new Uint8Array(0), count: 0 };
@@ -20,7 +15,7 @@ let going = NO_STEP, timer = null; // the steps that go under the text in the fi
 function isOffered() {
   const { session, refusal, run, given } = State;
   if (!session || session.hasEnded || refusal || run.graph.count === 0) return false;
-  return Program.text() !== given.program && find("query").value === given.query.replace(/[\r\n]/g, "");
+  return find("program").value !== given.program && find("query").value === given.query.replace(/[\r\n]/g, "");
 }
 
 /** Shows the button, with how many steps stay. */
@@ -28,7 +23,7 @@ function follow() {
   const button = find("reload"), { count } = State.run.graph;
   clearTimeout(timer);
   button.hidden = !isOffered();
-  going = button.hidden ? NO_STEP : Reloads.goingUnder(State.run, Program.text());
+  going = button.hidden ? NO_STEP : Reloads.goingUnder(State.run, find("program").value);
   button.textContent = `Reload, keep ${StepWords.keptOf(count - going.count, count)}`;
 }
 
@@ -45,12 +40,12 @@ function ring(isOn) {
 
 /** Goes on under the text in the field, with the steps that stay. */
 async function reload() {
-  const program = Program.text(), before = { looked: Trail.saved(), undone: State.run.shelf.length };
+  const program = find("program").value, before = { looked: Deeds.looked(), undone: State.run.shelf.length };
   let told = /** @type {any} */ (null), key = null;
-  Guide.end();
+  Deeds.endTour();
   await Talk.reload(program, (answer) => {
     told = answer;
-    if (answer.given) key = Keeping.leaveDone();
+    if (answer.given) key = Deeds.leaveDone();
   });
   if (told === null) return;
   if (told.given) await tell(told, before, key);
@@ -60,17 +55,17 @@ async function reload() {
 /** Says why the text or the steps were refused, at the place in the text. */
 function tellRefusal(program, refusal) {
   const stands = make("div", null, "The run stands as it was."), { query } = State.given;
-  if (!Refusing.show({ program, query }, refusal, stands)) Deeds.tell(true, `Not reloaded: ${refusal}.`, stands);
+  if (!Deeds.showRefusal({ program, query }, refusal, stands)) Deeds.tell(true, `Not reloaded: ${refusal}.`, stands);
 }
 
 /** Tells which steps stay and which have gone, and how to go back. */
 async function tell(told, { looked, undone }, key) {
   const isThere = (spied) => State.run.clauses.some(({ predicate }) => predicate === spied);
   const lines = told.spied.filter(isThere).map((predicate) => `spy ${predicate}`);
-  Trail.takeUp(told.isRenumbered ? null : looked);
+  Deeds.takeUpLooked(told.isRenumbered ? null : looked);
   if (lines.length > 0) await Talk.sendAll(lines);
   const forgotten = State.run.shelf.length < undone ? " What was undone is forgotten." : "";
-  const back = Keeping.wayBack(key, "Go back to the run before"), notes = Refusing.notes(State.given.program);
+  const back = Deeds.wayBack(key, "Go back to the run before"), notes = Deeds.notesOn(State.given.program);
   Deeds.tell(false, `Reloaded: ${StepWords.reloaded(told)}${forgotten} `, ...back, make("div", null, ...notes));
   Deeds.keepSoon();
 }

@@ -1,7 +1,6 @@
 // On what a value or a goal rests, as the console's `explain` tells it: it is lit, and kept alone by `keep` when one has seen what would go.
 import * as Asking from "../front/protocol/asking.mjs";
 import * as Terms from "../front/run/terms.mjs";
-import Canvas from "./canvas.mjs";
 import Deeds from "./deeds.mjs";
 import * as Elements from "./elements.mjs";
 import * as GoalRows from "./goal_rows.mjs";
@@ -26,12 +25,12 @@ function choiceParts(others, number) {
 /** Lights the steps of a reply to `explain`, and tells what stands in front of them, on which clauses it rests, where another one could be chosen, and their goals as a tree. */
 function tell(name, slice) {
   const { head, numbers, others, last } = slice, rests = Asking.clausesTold(slice, State.run.clauses.length);
-  Canvas.showSlice(numbers, others.map(([step]) => step));
+  Deeds.showSlice(numbers, others.map(([step]) => step));
   const words = `${plural(others.length, "step")} decided, for another clause was open (ringed): `;
   const walk = () => Walking.along(others.length, (at) => others[at][0], (number) => choiceParts(others, number));
   const decided = others.length === 0 ? [] : [words, walk(), " "];
   Deeds.tell(false, make("code", null, `explain ${name}`), " ", ...head.slice(0, MOST_LINKS).flatMap((line, index) => [index > 0 ? ", " : "", ...Elements.linkedLine(Terms.cut(line, 160))]), `, ${last}. `, rests === undefined ? "" : `It ${rests}. `,
-    ...decided, ...(numbers.length > 0 ? [Elements.lineButton("Find the wrong clause", `blame ${name}`, { class: "small" }), GoalRows.of({ numbers, isIn: Shown.slice.isIn }, withGoalText)] : []));
+    ...decided, ...(numbers.length > 0 ? [Elements.lineButton("Find the wrong clause", `blame ${name}`, { class: "small" }), GoalRows.of({ numbers, isIn: Shown.slice.isIn })] : []));
 }
 
 /** Rings all that would go if a value or a goal were to stand alone, and asks once more. */
@@ -46,24 +45,12 @@ async function askKeep(name) {
   }
   const isIn = new Uint8Array(graph.count), gone = { size: graph.count - numbers.length, has: (number) => isIn[graph.indexOf(number)] === 0 };
   for (const number of numbers) isIn[graph.indexOf(number)] = 1;
-  const does = make("button", { class: "danger", disabled: gone.size === 0 }, gone.size === 0 ? "Nothing would go" : `Take back ${gone.size}`);
-  does.addEventListener("click", () => { Deeds.closeMenu(); Talk.send(`keep ${name}`); });
-  Canvas.choose(null);
+  const does = make("button", { class: "danger", "data-line": `keep ${name}`, disabled: gone.size === 0 }, gone.size === 0 ? "Nothing would go" : `Take back ${gone.size}`);
+  Deeds.choose(null);
   Deeds.openMenuWith([make("div", { class: "menu-title" }, make("b", null, `Keep what ${name} rests on`)),
     make("p", null, `It rests on ${plural(numbers.length, "step")} of ${graph.count}. The ringed ${plural(gone.size, "step")} would be taken back; redo brings them again.`),
-    make("div", { class: "buttons" }, does, make("button", { "data-close": true }, "Leave it"))], find("store"));
-  Canvas.ring(gone);
+    Elements.buttons(does, make("button", { "data-close": true }, "Leave it"))], find("store"));
+  Deeds.ring(gone);
 }
 
-/** Hands on the text of the goal that a step took, at once or when the console has told it. */
-async function withGoalText(step, does) {
-  const { run } = State;
-  if (run.texts.has(step.goal)) does(run.texts.get(step.goal));
-  if (step.goal === null || run.texts.has(step.goal)) return;
-  const reply = await Talk.ask(`goal ${step.number}`), text = reply === null ? undefined : Asking.textOfGoal(reply);
-  if (text === undefined) return;
-  run.texts.set(step.goal, text);
-  does(text);
-}
-
-export { tell, askKeep, withGoalText };
+export { tell, askKeep };

@@ -5,8 +5,8 @@ import { find, make, goToGoal } from "./elements.mjs";
 import * as Names from "./names.mjs";
 import * as Outcome from "./outcome.mjs";
 import OnScreen from "./on_screen.mjs";
-import * as Store from "./store.mjs";
 import State from "./state.mjs";
+import { resultOf } from "./value_parts.mjs";
 import { plural } from "../front/text/plural.mjs";
 
 const MOST_VALUES = 6, MOST_GOALS = 2, LONGEST_GOAL = 60;
@@ -32,7 +32,7 @@ const lackTold = ({ why }) => `${why.map(({ subject }) => subject).join(" and ")
 /** The values of the query's variables that are bound, each with what `valueOf` makes of it. */
 function valuesTold(graph, query, valueOf) {
   const bound = [...Asking.queryVariables(query)].filter(([, variable]) => graph.binderOf(variable) !== undefined);
-  const one = ([name, variable], at) => [at > 0 ? ", " : "", ...valueOf(name, variable)];
+  const one = ([name, variable], at) => [at > 0 ? ", " : "", ...valueOf(name, variable, graph)];
   const shown = bound.slice(0, MOST_VALUES).flatMap(one);
   return [...shown, bound.length > MOST_VALUES ? `, and ${bound.length - MOST_VALUES} more` : ""];
 }
@@ -51,13 +51,13 @@ function show() {
   const area = find("result"), isOff = !State.session || Boolean(State.refusal);
   area.hidden = isOff;
   if (isOff) return;
-  area.replaceChildren(...lineOf(OnScreen.run(), State.given.query, Store.resultOf, OnScreen.until === null));
+  area.replaceChildren(...lineOf(OnScreen.run(), State.given.query, resultOf, OnScreen.until === null));
   Names.dress(area);
 }
 
 /** The same of a run that is kept beside, which is looked at alone. */
 function ofKept(kept) {
-  const text = (name, variable) => [make("code", null, `${name} = ${Store.textOf(kept.graph, variable)}`)];
+  const text = (...one) => resultOf(...one).map((value) => make("code", null, value.textContent));
   const above = make("span", { class: "dim" }, "above: ");
   return make("div", { class: "result-line" }, above, ...lineOf(kept, kept.given.query, text, false));
 }

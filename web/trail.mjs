@@ -36,8 +36,7 @@ function back() {
   trail = left;
   if (last === undefined) return;
   isGoingBack = true;
-  Deeds.choose(last);
-  Deeds.scrollTo(last);
+  Deeds.goTo(last);
   isGoingBack = false;
   show();
 }

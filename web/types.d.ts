@@ -39,14 +39,16 @@ export type Part = string | Node;
 /** The texts in the fields, or of a session; no history is an empty one. */
 export type Texts = Omit<Opening, "history"> & { history?: string };
 
-/** What the parts do at each other's wish; deeds.mjs has the names, and page.mjs says who does what. */
+/** What the parts do at each other's wish; page.mjs says who does what. */
 export interface Doers {
-  begin(texts: Texts): void;
+  begin(texts: Texts, lines?: string[]): Promise<unknown>;
   beginOther(begins: () => unknown): Promise<void>;
   typed(): Texts;
   isChanged(): boolean;
   setTyped(texts: Texts): void;
   keepSoon(): void;
+  leaveDone(): string | null;
+  wayBack(key: string | null, words: string): HTMLElement[];
   showTab(name: string): void;
   setOrder(by: string): void;
   showNow(): void;
@@ -59,11 +61,17 @@ export interface Doers {
   goToPart(from: number): void;
   choose(chosen: Choice | null): void;
   scrollTo(chosen: Choice): void;
+  goTo(chosen: Choice): void;
   visit(step: number): void;
   markWay(steps: number[]): void;
   ring(steps: { has(number: number): boolean }): void;
+  showSlice(numbers: Iterable<number>, others: number[]): void;
+  showAsked(asked: object): void;
+  lanesBottom(): number;
+  wholePicture(): string;
   markClause(clause: Lines | null): void;
   markLit(clauses: number[]): void;
+  showPlace(name: string, line: number, letter: number, length: number, words?: string): void;
   lightClause(number: number): void;
   size(factor: number): void;
   selectRange(one: number, other: number): void;
@@ -74,6 +82,16 @@ export interface Doers {
   openMenu(chosen: object, anchor: Element): void;
   openMenuWith(parts: Part[], anchor: Element, focus?: string): void;
   closeMenu(): void;
+  showRefusal(given: Texts, refused: string, ...after: Part[]): boolean;
+  notesOn(program: string): Part[];
+  whyInShort(why: object): Part[];
+  besideParts(): Part[];
+  canKeepRun(): boolean;
+  keepRun(): boolean;
+  looked(): object | null;
+  takeUpLooked(kept: object | null): void;
+  isOnTour(): boolean;
+  endTour(): void;
   pointAgain(): void;
   savePicture(how: object): Promise<void>;
 }

@@ -3,13 +3,12 @@
 import * as Effects from "../front/protocol/effects.mjs";
 import * as Replies from "../front/protocol/replies.mjs";
 import * as WhyNotLines from "../front/protocol/why_not_lines.mjs";
-import { find, make, lineButton, goTo, goToGoal } from "./elements.mjs";
+import { make, lineButton, buttons, closeButton, goTo, goToGoal } from "./elements.mjs";
 import * as Names from "./names.mjs";
 import State from "./state.mjs";
 import * as WhyWords from "./why_words.mjs";
 
 const MOST_ROWS = 40;
-let seen = 0; // lines of the console that were looked at
 
 const known = () => ({ run: State.run, texts: Names.now().run });
 
@@ -45,33 +44,25 @@ function rowList(told) {
 function answerParts(subject, reply) {
   const told = WhyNotLines.read(reply), cause = told.staysUnbound ? WhyWords.causeIn(told) : undefined;
   const words = make("span", { role: "status" }, make("b", null, questionOn(subject, reply)), WhyWords.verdictOf(told));
-  const close = { class: "small", id: "why-close", title: "Closes this", "aria-label": "Close the answer" };
   const others = isGoal(subject) ? null : make("button", { "data-choices": subject }, "Other choices");
   return [
-    make("div", { class: "blame-title" }, words, make("button", close, "×")),
+    make("div", { class: "blame-title" }, words, closeButton("why-close", "Close the answer")),
     cause && make("p", null, ...elementsOf(WhyWords.causeWords(known(), cause))), rowList(told),
-    make("div", { class: "buttons" }, lineButton("What it rests on", `explain ${subject}`),
-      lineButton("Find the wrong clause", `blame ${subject}`), ...(others === null ? [] : [others])),
+    buttons(lineButton("What it rests on", `explain ${subject}`), lineButton("Find the wrong clause", `blame ${subject}`), others),
   ].filter(Boolean);
 }
 
-function close() {
-  find("why-not").hidden = true;
-  find("why-not").replaceChildren();
-}
+const close = () => Names.fill("why-not", []);
 
 const isAnswer = ({ line, reply }) => Effects.wordOf(line) === "whynot" && !Replies.isRefused(reply);
 
 /** After lines: the answer to the last question. A line that changes the run closes it. */
-function show(what) {
-  const fresh = what === "lines" ? State.entries.slice(seen) : [], asked = fresh.findLast(isAnswer), area = find("why-not");
-  seen = State.entries.length;
-  if (what !== "lines" || fresh.some(({ line, note }) => !note && Effects.effectOf(line) !== "looks")) close();
+function show(what, fresh) {
+  const asked = fresh.findLast(isAnswer);
+  if (what !== "lines" || fresh.some(State.mayChange)) close();
   if (asked === undefined) return;
   const [, subject] = asked.line.trim().split(/ +/);
-  area.replaceChildren(...answerParts(subject, asked.reply));
-  Names.dress(area);
-  area.hidden = false;
+  Names.fill("why-not", answerParts(subject, asked.reply));
 }
 
 export { show, inShort, close };
