@@ -23,10 +23,11 @@ const Beginning = part({
     return true;
   },
 
-  /** Another session takes the place of this one; false where it is refused. */
-  async goOnWith(next) {
+  /** Is what begins another session accepted? Where it is refused, tells why. */
+  async isAccepted(next, begins) {
     try {
-      await this.start(next);
+      await begins();
+      return true;
     } catch (error) {
       if (!(error instanceof Ended)) throw error;
       this.tellRefusal(error, next, this.out);
@@ -34,6 +35,11 @@ const Beginning = part({
       this.note("the session before stands");
       return false;
     }
+  },
+
+  /** Another session takes the place of this one; false where it is refused. */
+  async goOnWith(next) {
+    if (!await this.isAccepted(next, () => this.start(next))) return false;
     await this.session.end();
     this.session = next;
     this.blaming = new Blaming(next);

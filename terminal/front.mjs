@@ -344,13 +344,8 @@ class Front {
     return this.send({ ...meaning, words, line: [meaning.name, ...words].join(" ") }, typed);
   }
 
-  async on_whynot(meaning, typed) {
-    return this.on_explain(meaning, typed);
-  }
-
-  async on_keep(meaning, typed) {
-    return this.on_explain(meaning, typed);
-  }
+  on_whynot = this.on_explain;
+  on_keep = this.on_explain;
 
   async on_save({ words }) {
     const version = words[0] === "1" ? "1" : "", file = words.slice(version === "" ? 0 : 1).join(" ");

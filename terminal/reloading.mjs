@@ -2,7 +2,6 @@
 // still there go on under it, with all that rests on them alone.
 import * as ReloadPlan from "../front/run/reload_plan.mjs";
 import { isNoFile } from "../front/session/files.mjs";
-import { Ended } from "../front/session/program.mjs";
 import { NO_MEMORY, changesOf, keptOf, probeOf, reloadOf, reloadedLines } from "../front/session/reloading.mjs";
 import { Session } from "../front/session/session.mjs";
 import { part } from "./part.mjs";
@@ -24,17 +23,7 @@ const Reloading = part({
    */
   async probe() {
     const probe = probeOf(this.session);
-    try {
-      await probe.begin();
-      await probe.end();
-      return probe;
-    } catch (error) {
-      if (!(error instanceof Ended)) throw error;
-      this.tellRefusal(error, probe, this.out);
-      await this.tellOthers(error, probe, this.out);
-      this.note("the session before stands");
-      return undefined;
-    }
+    return await this.isAccepted(probe, () => probe.tryOut()) ? probe : undefined;
   },
 
   /** Shows what has changed, and which steps go; where some do, asks before they do. */

@@ -3,7 +3,8 @@
 import { usageOf } from "../front/protocol/commands.mjs";
 import * as Histories from "../front/protocol/histories.mjs";
 import * as Replies from "../front/protocol/replies.mjs";
-import { predicateOf, repeatedIn, whyRepeated } from "../front/run/patterns.mjs";
+import { repeatedIn, whyRepeated } from "../front/run/patterns.mjs";
+import { predicateOf } from "../front/text/print.mjs";
 import * as Reader from "../front/text/reader.mjs";
 import { part } from "./part.mjs";
 
@@ -44,14 +45,19 @@ const Spying = part({
     return this.send({ name, words: [predicate], line: `${name} ${predicate}` }, typed);
   },
 
-  async on_spy({ words, rest }, typed) {
-    const text = rest.replace(/\.$/, "");
-    if (text === "") return this.tellSpied();
-    if (IS_PATTERN.test(text)) return this.spyPattern(text);
+  async on_spy({ name, words, rest }, typed) {
+    const text = rest.replace(/\.$/, ""), isSpy = name === "spy";
+    if (text === "") return isSpy ? this.tellSpied() : this.spyNothing();
+    if (IS_PATTERN.test(text)) return isSpy ? this.spyPattern(text) : this.forgetPattern(text);
     const named = this.predicatesOf(words);
     for (const predicate of named.length > 0 ? named : words) this.patterns.forget(predicate);
-    for (const predicate of named) if (!this.isInterrupted) await this.sendSpy("spy", predicate, typed);
+    if (!isSpy) this.stoppedAt = undefined;
+    for (const predicate of named) if (!this.isInterrupted) await this.sendSpy(name, predicate, typed);
     return named.length > 0;
+  },
+
+  on_nospy(meaning, typed) {
+    return this.on_spy(meaning, typed);
   },
 
   /** Narrows what is spied to goals that fit a pattern. */
@@ -62,17 +68,6 @@ const Spying = part({
     if (!this.session.predicates.includes(predicate)) return undefined;
     this.patterns.add(pattern);
     return this.note(`runs stop at calls of ${this.spiedLine(predicate)}`);
-  },
-
-  async on_nospy({ words, rest }, typed) {
-    const text = rest.replace(/\.$/, "");
-    if (text === "") return this.spyNothing();
-    if (IS_PATTERN.test(text)) return this.forgetPattern(text);
-    const named = this.predicatesOf(words);
-    for (const predicate of named.length > 0 ? named : words) this.patterns.forget(predicate);
-    this.stoppedAt = undefined;
-    for (const predicate of named) if (!this.isInterrupted) await this.sendSpy("nospy", predicate, typed);
-    return named.length > 0;
   },
 
   async spyNothing() {

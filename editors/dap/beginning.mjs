@@ -8,7 +8,7 @@ import { Ended } from "../../front/session/program.mjs";
 import { whyNotRead } from "../../front/session/refused.mjs";
 import { FILTERS } from "./breakpoints.mjs";
 import { Places, queryOf } from "./places.mjs";
-import { refused } from "./refused.mjs";
+import { Refused } from "./refused.mjs";
 import { requests } from "./requests.mjs";
 import { EditorSession } from "./session.mjs";
 
@@ -37,22 +37,22 @@ function isEndless(file) {
 
 /** Refuses a name at which no file stands, but a device or a pipe. */
 function refuseEndless(file) {
-  if (isEndless(file)) throw refused(`${file}: it is a device or a pipe, and no file`);
+  if (isEndless(file)) throw new Refused(`${file}: it is a device or a pipe, and no file`);
 }
 
 /** The text of a program's file. */
 function textOf(file) {
   refuseEndless(file);
   const [why] = whyNotRead(file);
-  if (why !== undefined) throw refused(why);
+  if (why !== undefined) throw new Refused(why);
   return fs.readFileSync(file, "utf8");
 }
 
 /** What a launch configuration asks for: the program's file and text, the query, the words of ghcdb's command line. */
 function askedBy(given) {
-  if (typeof given.program !== "string") throw refused("no program: give `program` in the launch configuration");
+  if (typeof given.program !== "string") throw new Refused("no program: give `program` in the launch configuration");
   const file = path.resolve(given.program), text = textOf(file), query = given.query || queryOf(text);
-  if (query === undefined) throw refused(NO_QUERY);
+  if (query === undefined) throw new Refused(NO_QUERY);
   if (given.load) refuseEndless(given.load);
   return { given, file, text, query, words: wordsOf(given, file, query) };
 }
@@ -79,7 +79,7 @@ const Beginning = requests({
   /** A session takes the place of the one before, which stands where it is refused. */
   async goOnWith(session, asked) {
     const { given, text } = asked, places = this.placesOf(asked);
-    await this.accepted(session, places);
+    await this.accepted(session.begin().then(() => session.keepWayBack()), session, places); // any line can be ended
     await this.session?.end();
     this.show(session, places, given);
     const notes = Causes.notesOn(text, places.source().name).slice(0, MOST_NOTES);
@@ -90,14 +90,13 @@ const Beginning = requests({
     return new Places(file, text, query, this.first);
   },
 
-  /** Begins a session. Where ghcdb refuses it, all that it is refused for is told, and the first in the answer. */
-  async accepted(session, places) {
+  /** Waits for a session's beginning. Where ghcdb refuses it, all that it is refused for is told, and the first in the answer. */
+  async accepted(beginning, session, places) {
     try {
-      await session.begin();
-      await session.keepWayBack(); // any line can be ended
+      await beginning;
     } catch (error) {
       if (!(error instanceof Ended)) throw error;
-      throw refused(await this.tellRefusals(error, session, places), true);
+      throw new Refused(await this.tellRefusals(error, session, places), true);
     }
   },
 
@@ -119,7 +118,7 @@ const Beginning = requests({
   },
 
   on_attach() {
-    throw refused("there is nothing to attach to: use launch");
+    throw new Refused("there is nothing to attach to: use launch");
   },
 
   on_configurationDone() {

@@ -4,19 +4,25 @@ import { suggestionFor, NAMES } from "../../front/protocol/commands.mjs";
 import { termOf } from "./options.mjs";
 import { requests } from "./requests.mjs";
 import { goalsMade } from "./told.mjs";
-import { refused } from "./refused.mjs";
+import { Refused } from "./refused.mjs";
 import * as Replies from "../../front/protocol/replies.mjs";
 
 const TELLS_MORE = new Set(["explain", "part", "whynot"]); // lines of which the reply alone tells no goals, or no names
 
 const NO_VALUE = ": a value is one term, as 3, red or [1,2]; nothing is computed";
 
+/**
+ * The request for a line of a command and a step's number.
+ * @returns {(this: import("./adapter.mjs").Adapter, given: { step: number }) => Promise<void>}
+ */
+const byNumber = (word) => function changeStep({ step }) { return this.changed(`${word} ${step}`); };
+
 export default requests({
   /** A line of the console as it was typed; where it changed the session, the editor hears of a stop. `explain X all` asks for `explain X`. */
   async typed(given, word) {
     const isWhole = word === "explain" && / all$/.test(given), line = isWhole ? given.replace(/ +all$/, "") : given;
     const before = this.session.kept.changes, reply = await this.session.ask(line);
-    if (reply[0] === "F25 command" && !NAMES.includes(word)) throw refused(suggestionFor(line));
+    if (reply[0] === "F25 command" && !NAMES.includes(word)) throw new Refused(suggestionFor(line));
     return this.answered({ name: word, words: line.split(/ +/).slice(1), line, isWhole }, reply, before);
   },
 
@@ -38,31 +44,23 @@ export default requests({
 
   async bind(term, value) {
     const run = await this.session.look(), end = term && run.endOf(term);
-    if (term?.variable === undefined) throw refused("this is no variable");
-    if (end.variable === undefined) throw refused(`${run.labelOf(term.variable)} is bound: take back the step that bound it (who ${term.variable}), then set it`);
-    if (termOf(value) === undefined) throw refused(`${value}${NO_VALUE}`);
+    if (term?.variable === undefined) throw new Refused("this is no variable");
+    if (end.variable === undefined) throw new Refused(`${run.labelOf(term.variable)} is bound: take back the step that bound it (who ${term.variable}), then set it`);
+    if (termOf(value) === undefined) throw new Refused(`${value}${NO_VALUE}`);
     const asked = await this.change(`ask ${end.variable} = ${value}`), [goal] = goalsMade(asked);
     const reply = await this.session.ask(`step ${goal}`);
     if (Replies.isRefused(reply)) {
       await this.session.ask(`undo ${Replies.readTaken(asked[0]).number}`);
-      throw refused(reply[0]);
+      throw new Refused(reply[0]);
     }
     this.tell(reply);
     this.later(() => this.stoppedAnew(`${run.labelOf(end.variable)} was bound by hand`));
     return { value: String(value) };
   },
 
-  on_ghcdb_undo({ step }) {
-    return this.changed(`undo ${step}`);
-  },
-
-  on_ghcdb_roll({ step }) {
-    return this.changed(`roll ${step}`);
-  },
-
-  on_ghcdb_redo({ step }) {
-    return this.changed(`redo ${step}`);
-  },
+  on_ghcdb_undo: byNumber("undo"),
+  on_ghcdb_roll: byNumber("roll"),
+  on_ghcdb_redo: byNumber("redo"),
 
   async changed(line) {
     await this.change(line);

@@ -12,20 +12,11 @@ const flat = (name, value) => ({ name, value, variablesReference: 0 });
 // For terms in which every binding was followed by the console.
 const SETTLED = { endOf: (term) => term };
 
-/** A goal of the reply to `goals`, and a value of the reply to `show`; undefined where the text is nested too deeply to be read. */
-function read(what) {
-  try {
-    return what();
-  } catch (error) {
-    if (error instanceof RangeError || error instanceof SyntaxError) return undefined;
-    throw error;
-  }
-}
-
+/** A goal of the reply to `goals`; undefined where the text is nested too deeply to be read. */
 function goalOf({ status, text }) {
-  const stream = /^instream (\d+) (.*)$/.exec(text);
-  if (status === "stream") return { sort: "stream", tail: Reader.readTerm(stream[2]) };
-  return Reader.readQuery(text).goals[0];
+  if (status !== "stream") return Reader.goalIn(text);
+  const tail = Reader.termIn(/^instream \d+ (.*)$/.exec(text)[1]);
+  return tail && { sort: "stream", tail };
 }
 
 const isCell = ({ name, arguments: terms }) => name === "." && terms.length === 2;
@@ -134,7 +125,7 @@ class Inside {
   }
 
   in_parts(shown) {
-    const goal = read(() => goalOf(shown));
+    const goal = goalOf(shown);
     return goal === undefined ? [flat("goal", shown.text.slice(0, LONGEST))] : partsOf(goal).map(([part, term]) => this.variable(part, term, SETTLED));
   }
 
@@ -165,7 +156,7 @@ class Inside {
     for (const [name, { variable }] of this.session.run.environmentOf(0)) {
       if (!Reader.isWritten(name)) continue;
       const [line] = await this.session.ask(`show ${name}`), isTold = line.startsWith(`${name} = `);
-      const text = line.slice(isTold ? `${name} = `.length : 0), term = isTold ? read(() => Reader.readTerm(text)) : undefined;
+      const text = line.slice(isTold ? `${name} = `.length : 0), term = isTold ? Reader.termIn(text) : undefined;
       if (!isTold) await this.session.look();
       const found = !isTold ? this.variable(name, { variable }) : term === undefined ? flat(name, text.slice(0, LONGEST)) : this.variable(name, term, SETTLED);
       shown.push({ ...found, evaluateName: variable, type: this.session.run.labelOf(variable) });

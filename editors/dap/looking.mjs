@@ -5,7 +5,7 @@ import { NAMES, commandOf, helpLines } from "../../front/protocol/commands.mjs";
 import { completionsOf } from "../../front/protocol/complete.mjs";
 import { plural, whyNoClause } from "../../front/run/reasons.mjs";
 import { QUERY, STEPS, SHELF } from "./places.mjs";
-import { refused } from "./refused.mjs";
+import { Refused } from "./refused.mjs";
 import { requests } from "./requests.mjs";
 
 const MOST_THREADS = 1000, MOST_FRAMES = 200, LONGEST_NAME = 300;
@@ -60,14 +60,14 @@ export default requests({
   },
 
   async on_scopes({ frameId }) {
-    if (this.inside.referred(frameId) === undefined) throw refused("this frame is of a stop that is over");
+    if (this.inside.referred(frameId) === undefined) throw new Refused("this frame is of a stop that is over");
     return { scopes: this.inside.scopesOf(frameId, await this.session.goalsTold() ?? []) };
   },
 
   async on_variables({ variablesReference, filter, start = 0, count }) {
     const end = count ? start + count : undefined;
     const variables = await this.inside.variablesOf(variablesReference, { filter, start, end });
-    if (variables === undefined) throw refused("this is of a stop that is over");
+    if (variables === undefined) throw new Refused("this is of a stop that is over");
     return { variables };
   },
 
@@ -111,7 +111,7 @@ export default requests({
   async on_source({ source, sourceReference = source?.sourceReference }) {
     if (sourceReference === QUERY) return { content: this.session.given.query };
     if (sourceReference === SHELF) return { content: (await this.session.ask("shelf")).map((line) => `${line}\n`).join("") };
-    if (sourceReference !== STEPS) throw refused("no such text");
+    if (sourceReference !== STEPS) throw new Refused("no such text");
     const run = await this.session.look(), lines = [];
     for (const { number, goal, act } of this.session.kept.steps.values()) lines.push(`${String(number).padStart(5)} ${goal === null ? "" : run.textOf(goal)}   ${act}\n`);
     return { content: lines.join("") };
@@ -124,7 +124,7 @@ export default requests({
       const { value, type, variablesReference, indexedVariables, namedVariables } = this.inside.variable(line, term);
       return { result: value, type, variablesReference, indexedVariables, namedVariables };
     }
-    if (context === "hover" || context === "watch") throw refused(`${line} is no variable here`);
+    if (context === "hover" || context === "watch") throw new Refused(`${line} is no variable here`);
     return { result: (await this.consoleLine(line)).join("\n"), variablesReference: 0 };
   },
 

@@ -3,8 +3,8 @@
 import * as Print from "../../front/text/print.mjs";
 import * as Reader from "../../front/text/reader.mjs";
 import Run from "../../front/run/run.mjs";
-import { fits, formOf, predicateOf, repeatedIn, whyRepeated } from "../../front/run/patterns.mjs";
-import { refused } from "./refused.mjs";
+import { fits, formOf, repeatedIn, whyRepeated } from "../../front/run/patterns.mjs";
+import { Refused } from "./refused.mjs";
 
 /** @typedef {import("../../front/types").Clause} Clause */
 
@@ -16,12 +16,12 @@ const termOf = (text) => Reader.termIn(String(text));
 function readCondition(text, predicate) {
   if (!isGiven(text)) return undefined;
   const pattern = termOf(text), form = formOf(predicate);
-  if (predicateOf(pattern) !== predicate) {
-    throw refused(`${text}: a condition is a pattern of the whole goal, ${form} with values in some places`);
+  if (Print.predicateOf(pattern) !== predicate) {
+    throw new Refused(`${text}: a condition is a pattern of the whole goal, ${form} with values in some places`);
   }
   const [repeated] = repeatedIn(pattern);
   if (repeated === undefined) return pattern;
-  throw refused(`${text}: ${whyRepeated(repeated)}`);
+  throw new Refused(`${text}: ${whyRepeated(repeated)}`);
 }
 
 /**
@@ -32,9 +32,9 @@ function readFunction(text, predicates) {
   const name = String(text).trim(), isNamed = (predicate) => [predicate, predicate.split("/")[0]].includes(name);
   const named = predicates.filter(isNamed).map((predicate) => ({ predicate }));
   if (named.length > 0) return named;
-  const term = termOf(name), predicate = term && predicates.find((other) => predicateOf(term) === other);
+  const term = termOf(name), predicate = term && predicates.find((other) => Print.predicateOf(term) === other);
   if (predicate !== undefined) return [{ predicate, pattern: readCondition(name, predicate) }];
-  throw refused(`${name}: no predicate, and no pattern of one's goals; there are: ${predicates.map(formOf).join(" ")}`);
+  throw new Refused(`${name}: no predicate, and no pattern of one's goals; there are: ${predicates.map(formOf).join(" ")}`);
 }
 
 /** From which hit on a breakpoint stops. */
@@ -42,7 +42,7 @@ function readHits(text) {
   if (!isGiven(text)) return 1;
   const [, number] = /^\s*(?:>=)?\s*(\d+)\s*$/.exec(text) ?? [];
   if (number !== undefined) return Number(number);
-  throw refused(`${text}: a hit condition is a number, as 3 or >= 3; from that hit on it stops`);
+  throw new Refused(`${text}: a hit condition is a number, as 3 or >= 3; from that hit on it stops`);
 }
 
 const LONGEST = 200; // letters of a value in a text
@@ -81,8 +81,8 @@ function readMessage(text, clause, query) {
   if (!isGiven(text)) return undefined;
   const meant = (word) => readWord(word.trim(), clause, query), words = [...String(text).matchAll(IN_BRACES)];
   const wrong = words.find(([, word]) => meant(word) === undefined);
-  if (wrong !== undefined) throw refused(whyNoWord(wrong[1].trim(), clause, query));
-  if (/[{}]/.test(String(text).replace(IN_BRACES, ""))) throw refused(`${text}: a brace in it has no partner`);
+  if (wrong !== undefined) throw new Refused(whyNoWord(wrong[1].trim(), clause, query));
+  if (/[{}]/.test(String(text).replace(IN_BRACES, ""))) throw new Refused(`${text}: a brace in it has no partner`);
   return (run, name) => String(text).replace(IN_BRACES, (all, word) => meant(word)(run, name));
 }
 

@@ -6,8 +6,6 @@ class Refused extends Error {
   }
 }
 
-const refused = (words, isTold = false) => new Refused(words, isTold);
-
 // What is thrown where the editor has cancelled the request.
 class Cancelled extends Error {
   constructor() {
@@ -15,4 +13,4 @@ class Cancelled extends Error {
   }
 }
 
-export { Refused, refused, Cancelled };
+export { Refused, Cancelled };

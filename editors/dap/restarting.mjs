@@ -4,7 +4,7 @@ import { isDeepStrictEqual } from "node:util";
 import * as ReloadPlan from "../../front/run/reload_plan.mjs";
 import { NO_MEMORY, changesOf, probeOf, reloadOf, reloadedLines } from "../../front/session/reloading.mjs";
 import { askedBy } from "./beginning.mjs";
-import { Refused, refused } from "./refused.mjs";
+import { Refused } from "./refused.mjs";
 import { requests } from "./requests.mjs";
 import { EditorSession } from "./session.mjs";
 
@@ -37,10 +37,9 @@ export default requests({
   /** The steps by clauses that are still there stay; breakpoints and what is spied stay, too. */
   async reload(asked) {
     const { session } = this, probe = probeOf(session);
-    await this.accepted(probe, this.placesOf(asked));
-    await probe.end();
+    await this.accepted(probe.tryOut(), probe, this.placesOf(asked));
     const found = await reloadOf(session, probe);
-    if (found === undefined) throw refused(NO_MEMORY);
+    if (found === undefined) throw new Refused(NO_MEMORY);
     const next = new EditorSession(session.words, session.native, found.handed);
     next.savedInto = session.savedInto;
     await this.goOnWith(next, { ...asked, text: probe.text });

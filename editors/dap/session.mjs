@@ -6,17 +6,17 @@ import { whyNoName } from "../../front/session/files.mjs";
 import { Ended } from "../../front/session/program.mjs";
 import { Session } from "../../front/session/session.mjs";
 import { isWhole } from "../../front/session/way_back.mjs";
-import { Cancelled, refused } from "./refused.mjs";
+import { Cancelled, Refused } from "./refused.mjs";
 
 const CONTROL = /[\u0000-\u0008\u000a-\u001f\u007f-\u009f]/; // a line feed would make two lines of one
 
 class EditorSession extends Session {
   /** Sends a line; one that would be two, or that a terminal would not take, is refused and not sent. */
   async ask(line) {
-    if (CONTROL.test(line)) throw refused("a line feed or another control stands in it: one line is taken at a time");
+    if (CONTROL.test(line)) throw new Refused("a line feed or another control stands in it: one line is taken at a time");
     const reply = await this.askedUnlessCancelled(line);
     if (!/^ *save( |$)/.test(line) || isWhole(reply)) return reply;
-    throw refused("F1 no memory: lines of the history are missing, so it is none, and nothing was saved");
+    throw new Refused("F1 no memory: lines of the history are missing, so it is none, and nothing was saved");
   }
 
   async askedUnlessCancelled(line) {
@@ -49,10 +49,10 @@ class EditorSession extends Session {
   /** Writes the session into a file beside the program, and tells so. No file is written over but its own. */
   async saveInto(name, version) {
     const file = path.resolve(path.dirname(this.given.file), name), why = whyNoName(name);
-    if (why !== undefined) throw refused(why);
-    if (this.savedInto !== file && fs.existsSync(file)) throw refused(`${file} is there: name another file`);
+    if (why !== undefined) throw new Refused(why);
+    if (this.savedInto !== file && fs.existsSync(file)) throw new Refused(`${file} is there: name another file`);
     const refusal = await this.saved(file, version);
-    if (refusal !== undefined) throw refused(`${refusal}; nothing was saved`);
+    if (refusal !== undefined) throw new Refused(`${refusal}; nothing was saved`);
     this.savedInto = file;
     return [`saved in ${file}: with "load" in the launch configuration a session goes on from it`];
   }

@@ -3,7 +3,7 @@ import path from "node:path";
 import * as Reader from "../../front/text/reader.mjs";
 import { FILTERS } from "./breakpoints.mjs";
 import { readFunction, readOptions } from "./options.mjs";
-import { Refused, refused } from "./refused.mjs";
+import { Refused } from "./refused.mjs";
 import { requests } from "./requests.mjs";
 
 const KNOWN_FILTERS = FILTERS.map(({ filter }) => filter);
@@ -38,28 +38,20 @@ export default requests({
     return { breakpoints: found.map((clause) => ({ line: this.places.shown(clause.line) })) };
   },
 
-  async on_setBreakpoints(given) {
-    return { breakpoints: await this.setAtClauses(given) };
-  },
-
-  async on_setFunctionBreakpoints(given) {
-    return { breakpoints: await this.setAtPredicates(given) };
-  },
-
   /** Sets breakpoints at clauses and predicates again, for the program as it is now, and tells what became of each. */
   async setAgain() {
     for (const [how, { given, answered }] of this.breakpoints.asked) {
-      const set = await this[how](given, answered.map(({ id }) => id));
-      for (const breakpoint of set) this.event("breakpoint", { reason: "changed", breakpoint });
+      const { breakpoints } = await this[how](given, answered.map(({ id }) => id));
+      for (const breakpoint of breakpoints) this.event("breakpoint", { reason: "changed", breakpoint });
     }
   },
 
-  async setAtClauses(request, numbers = []) {
-    const { source, breakpoints } = request, points = [];
+  async on_setBreakpoints(request, numbers = []) {
+    const { source } = request, points = [];
     const isOurs = source.path !== undefined && path.resolve(source.path) === this.places.file;
-    const answered = await answers(this, breakpoints, numbers, (given, id) => {
+    const answered = await answers(this, request.breakpoints, numbers, (given, id) => {
       const clause = isOurs ? this.clauseAt(this.places.meant(given.line)) : undefined;
-      if (clause === undefined) throw refused("no clause stands here");
+      if (clause === undefined) throw new Refused("no clause stands here");
       const { predicate, number } = clause, query = this.session.variables;
       const options = readOptions(given, { predicate, clause, query });
       points.push({ id, kind: "clause", hits: 0, predicate, clause: number, ...options });
@@ -67,22 +59,23 @@ export default requests({
       const message = `stops before a goal to which clause ${number} says yes${fits}`;
       return { verified: true, line: this.places.shown(clause.line), source: this.places.source(), message };
     });
-    if (isOurs) this.breakpoints.clauses = points;
-    if (isOurs) this.breakpoints.asked.set("setAtClauses", { given: request, answered });
-    await this.breakpoints.spy(this.session);
-    return answered;
+    return isOurs ? this.goOnWithPoints("on_setBreakpoints", request, answered, { clauses: points }) : { breakpoints: answered };
   },
 
-  async setAtPredicates(request, numbers = []) {
+  async on_setFunctionBreakpoints(request, numbers = []) {
     const points = [], { predicates } = this.session;
     const answered = await answers(this, request.breakpoints, numbers, (given, id) => {
       points.push(...this.pointsAt(readFunction(given.name, predicates), given, id));
       return { verified: true };
     });
-    this.breakpoints.predicates = points;
-    this.breakpoints.asked.set("setAtPredicates", { given: request, answered });
+    return this.goOnWithPoints("on_setFunctionBreakpoints", request, answered, { predicates: points });
+  },
+
+  /** From now on breakpoints set by a request count, which is kept, so that it can be made again. */
+  async goOnWithPoints(how, given, answered, points) {
+    Object.assign(this.breakpoints, points).asked.set(how, { given, answered });
     await this.breakpoints.spy(this.session);
-    return answered;
+    return { breakpoints: answered };
   },
 
   /** A breakpoint at predicates: at those of which the condition is a pattern too, where there is one. */
@@ -105,8 +98,8 @@ export default requests({
   async on_setExceptionBreakpoints({ filters = [], filterOptions = [] }) {
     const set = new Set(), given = [...filters.map((filterId) => ({ filterId })), ...filterOptions];
     const answered = await answers(this, given, [], ({ filterId, condition }) => {
-      if (!KNOWN_FILTERS.includes(filterId)) throw refused(`no such filter; there are: ${KNOWN_FILTERS.join(", ")}`);
-      if (condition) throw refused("no condition is read here: a run stops at each such goal");
+      if (!KNOWN_FILTERS.includes(filterId)) throw new Refused(`no such filter; there are: ${KNOWN_FILTERS.join(", ")}`);
+      if (condition) throw new Refused("no condition is read here: a run stops at each such goal");
       set.add(filterId);
       return { verified: true };
     });
@@ -125,8 +118,8 @@ export default requests({
   async on_setDataBreakpoints({ breakpoints }) {
     const points = [];
     const answered = await answers(this, breakpoints, [], async ({ dataId, condition, hitCondition }, id) => {
-      if (!await this.isVariable(dataId)) throw refused(`${dataId} is no variable of the run; one is named as _1_2`);
-      if (condition || hitCondition) throw refused(NO_CONDITION);
+      if (!await this.isVariable(dataId)) throw new Refused(`${dataId} is no variable of the run; one is named as _1_2`);
+      if (condition || hitCondition) throw new Refused(NO_CONDITION);
       points.push({ id, variable: dataId });
       return { verified: true };
     });

@@ -1,7 +1,7 @@
 // Requests that take steps, forwards and back.
 import { requests } from "./requests.mjs";
 import { goalsMade } from "./told.mjs";
-import { refused } from "./refused.mjs";
+import { Refused } from "./refused.mjs";
 
 export default requests({
   /** The process that goes on after a step: that of the goal stepped where it goes on, else of the first ready goal that was made. */
@@ -14,7 +14,7 @@ export default requests({
   /** The goal to be stepped; refuses where the process is done. */
   async goalToStep(thread) {
     const goal = await this.goalOf(thread);
-    if (goal === undefined) throw refused(`${await this.whyNoGoal()}: step back, or end`);
+    if (goal === undefined) throw new Refused(`${await this.whyNoGoal()}: step back, or end`);
     return goal;
   },
 
@@ -54,7 +54,7 @@ export default requests({
    */
   async on_stepBack({ threadId }) {
     const steps = [...this.session.kept.steps.values()], mine = steps.findLast(({ goal }) => goal !== null && this.processes.of(goal) === threadId);
-    if (steps.length === 0) throw refused("nothing was done yet");
+    if (steps.length === 0) throw new Refused("nothing was done yet");
     const goal = await this.goalOf(threadId), first = mine ?? (goal && this.session.run.makerOf(goal.name)) ?? steps.at(-1);
     let last = first, reply = await this.session.ask(`undo ${first.number}`);
     if (reply[0].startsWith("F17") && mine !== undefined) reply = await this.session.ask(`roll ${first.number}`);
@@ -85,12 +85,12 @@ export default requests({
 
   on_restartFrame({ frameId }) {
     const { kind, what } = this.inside.referred(frameId) ?? {};
-    if (kind !== "step") throw refused("this goal was not stepped yet");
+    if (kind !== "step") throw new Refused("this goal was not stepped yet");
     this.later(() => this.rollTo(what, "restart"));
   },
 
   on_goto({ targetId }) {
-    if (!this.session.kept.steps.has(targetId)) throw refused(`step ${targetId} is not kept`);
+    if (!this.session.kept.steps.has(targetId)) throw new Refused(`step ${targetId} is not kept`);
     this.later(() => this.rollTo(targetId, "goto"));
   },
 });

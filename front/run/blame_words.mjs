@@ -77,12 +77,18 @@ function questionWords(session, told, answers) {
   return [question, ...warnings(told), ...takenWords(session, goal), ...(answers === 0 && told.given !== null ? [hint(Printed.predicateOf(told.given))] : [])];
 }
 
+/**
+ * How a step goes by another clause than it took.
+ * @param {[number, readonly number[], string]} choice
+ */
+const otherClauseWords = ([number, [first, ...more], goal]) =>
+  `another clause than step ${number} took: roll ${number}, step ${goal} ${first}${more.length > 0 ? ` (or ${more.join(", ")})` : ""}`;
+
 /** The other clauses by which the step at fault could have gone, or else how many other steps could, as `explain` of the same thing tells it. */
 async function otherClauses(session, subject, number) {
   const { others } = Asking.sliceIn(await session.ask(`explain ${subject}`)), other = others.find(([step]) => step === number);
   if (other === undefined) return others.length === 0 ? [] : [`or a choice is: explain ${subject} tells ${plural(others.length, "step")} that could have gone by another clause`];
-  const [, [first, ...more], goal] = other;
-  return [`another clause than step ${number} took: roll ${number}, step ${goal} ${first}${more.length > 0 ? ` (or ${more.join(", ")})` : ""}`];
+  return [otherClauseWords(other)];
 }
 
 const foundBy = (answers) => (answers === 0 ? "found without an answer" : `found by ${plural(answers, "answer")}`);
@@ -131,4 +137,4 @@ function afterPart(session, goal, reply) {
   return [callWords(session, told.gave === null && told.left === null ? { ...told, left: told.standing } : told, goal), ...warnings(told), ...made];
 }
 
-export { afterBlame, afterPart, callWords };
+export { afterBlame, afterPart, callWords, otherClauseWords };

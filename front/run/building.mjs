@@ -1,5 +1,7 @@
 // Whether a goal waits for what only heads would have to build: a head reads and does not build. Pure.
 import * as Builders from "../text/builders.mjs";
+import * as CheckerCauses from "../text/checker_causes.mjs";
+import * as Print from "../text/print.mjs";
 import * as Printed from "../text/printed.mjs";
 import { termOf } from "./named.mjs";
 import { isHelpless } from "./waits.mjs";
@@ -29,7 +31,7 @@ function causeOf(session, { goal, variable }, places) {
   const call = goal.sort === "call" ? termOf(goal.text) : undefined;
   const place = call?.arguments?.findIndex((argument) => argument.variable === variable) ?? -1;
   if (place < 0) return undefined;
-  const predicate = Builders.predicateOf(call), [clause] = Builders.readersOf(session.clauses, predicate, place);
+  const predicate = Print.predicateOf(call), [clause] = CheckerCauses.readersOf(session.clauses, predicate, place);
   if (clause === undefined) return undefined;
   const isBound = places.has(Builders.keyOf(predicate, place)), isLost = isNobodys(session, variable, places);
   const isSure = isBound || (isLost && Builders.isBuilt(clause, place));

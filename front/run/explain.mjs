@@ -76,9 +76,7 @@ function bindersOf(graph, text) {
 function writtenText({ given, graph, texts }, name) {
   if (texts.has(name)) return texts.get(name);
   if (graph.count > MOST_READ) return undefined;
-  const run = new Run(Reader.readProgram(given.program), given.query, { steps: new Map(graph.steps.map((step) => [step.number, step])), texts, changes: 0 });
-  run.learn(graph.told);
-  return run.textOf(name) || undefined;
+  return Run.ofSteps(Reader.readProgram(given.program), given.query, graph.steps, texts).textOf(name) || undefined;
 }
 
 /** Why a goal has failed, in words where `code` stands between back quotes, and the bindings that brought it there. */

@@ -4,6 +4,7 @@ import * as Printed from "../text/printed.mjs";
 import * as Print from "../text/print.mjs";
 import * as Reader from "../text/reader.mjs";
 import * as Replies from "../protocol/replies.mjs";
+import { cut } from "./named.mjs";
 
 const LONGEST = 20_000, SHOWN = 40, WIDEST = 90; // letters of a text that is read, of a longer one that is shown, of a goal in a line
 
@@ -89,17 +90,10 @@ class Values {
   }
 }
 
-const cut = (text) => (text.length > WIDEST ? `${text.slice(0, WIDEST - 1)}${Print.CUT}` : text);
-
 /** A goal as it was written, with the values of a store; as it was written where it is too long or too deep to be read. */
 function goalText(written, store) {
-  if (written.length > LONGEST) return cut(written);
-  try {
-    return cut(Print.goal(Reader.readQuery(written).goals[0], { store, most: WIDEST }));
-  } catch (error) {
-    if (error instanceof RangeError || error instanceof SyntaxError) return cut(written);
-    throw error;
-  }
+  const printed = (text) => Print.goal(Reader.readQuery(text).goals[0], { store, most: WIDEST });
+  return cut((written.length > LONGEST ? undefined : Reader.readable(printed, written)) ?? written, WIDEST);
 }
 
 /** The steps of a reply to `explain`, as its lines tell them. */

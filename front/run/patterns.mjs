@@ -19,9 +19,6 @@ function repeatedIn(term) {
 /** Why a variable that stands twice in a pattern is refused. */
 const whyRepeated = (variable) => `a variable of a pattern fits everything, so that ${variable} twice compares nothing`;
 
-/** The predicate of a term, as `price/2`; undefined where it is no goal. */
-const predicateOf = (term) => (term?.arguments === undefined ? undefined : `${term.name}/${term.arguments.length}`);
-
 /** Does a goal fit a pattern? A variable of the pattern fits everything. */
 function fits(pattern, term, run) {
   if (pattern.variable !== undefined) return true;
@@ -41,13 +38,13 @@ class Patterns {
 
   /** Narrows the goals of the predicate to those that fit this pattern, beside those that fit the others. */
   add(pattern) {
-    const predicate = predicateOf(pattern), patterns = this.ofPredicate.get(predicate) ?? new Map();
+    const predicate = Print.predicateOf(pattern), patterns = this.ofPredicate.get(predicate) ?? new Map();
     this.ofPredicate.set(predicate, patterns.set(Print.term(pattern), pattern));
   }
 
   /** Takes a pattern away; false where it is not there. */
   remove(pattern) {
-    const predicate = predicateOf(pattern), patterns = this.ofPredicate.get(predicate);
+    const predicate = Print.predicateOf(pattern), patterns = this.ofPredicate.get(predicate);
     const wasThere = patterns?.delete(Print.term(pattern)) ?? false;
     if (patterns?.size === 0) this.forget(predicate);
     return wasThere;
@@ -74,4 +71,4 @@ class Patterns {
   }
 }
 
-export { Patterns, fits, formOf, predicateOf, repeatedIn, whyRepeated };
+export { Patterns, fits, formOf, repeatedIn, whyRepeated };

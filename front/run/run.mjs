@@ -39,6 +39,13 @@ class Run {
     this.addQueryGoals();
   }
 
+  /** The run of steps alone, whatever else is kept. */
+  static ofSteps(clauses, query, steps, texts) {
+    const run = new Run(clauses, query, { steps: new Map(steps.map((step) => [step.number, step])), texts, changes: 0 });
+    run.learnSteps(steps);
+    return run;
+  }
+
   addQueryGoals() {
     let streams = 0;
     this.query.goals.forEach((goal, place) => {
@@ -183,7 +190,7 @@ class Run {
   /** The predicate of a call, as `append/3`, by the text alone; undefined where the goal is no call. */
   predicateOf(name) {
     const written = name === null ? undefined : this.writtenGoal(name);
-    return written?.sort === "call" ? `${written.call.name}/${written.call.arguments.length}` : undefined;
+    return Print.predicateOf(written?.call);
   }
 
   /** The goal of the text of which a goal came: of a clause, of the query, or of an ask. */

@@ -5,13 +5,14 @@ import * as Causes from "../text/causes.mjs";
 import * as GoalTree from "./goal_tree.mjs";
 import Run from "./run.mjs";
 import * as Print from "../text/print.mjs";
+import * as Printed from "../text/printed.mjs";
 import * as Reader from "../text/reader.mjs";
 import { nearest, predicatesNamed } from "../text/nearest.mjs";
 import Refusals from "../protocol/refusals.mjs";
 import { causeInTerm } from "../text/causes_in_terms.mjs";
 import * as Replies from "../protocol/replies.mjs";
 import * as WhyNotLines from "../protocol/why_not_lines.mjs";
-import { afterPart } from "./blame_words.mjs";
+import { afterPart, otherClauseWords } from "./blame_words.mjs";
 import { linesAtEnd, takenWords, whoLetGo } from "./let_go.mjs";
 import { holdersOf, lostLines } from "./waits.mjs";
 import { MOST, plural, some, labelOf, whyTheySayNo, whyNoClause, whyWaits, whyFailed, hasConsequences } from "./reasons.mjs";
@@ -171,17 +172,19 @@ async function afterShow(session, [name], reply) {
   return [`${session.run.labelOf(variable)} is unbound; ${who}`];
 }
 
-function afterGoals(session, reply) {
-  const waited = new Set(Replies.readGoals(reply).flatMap(({ waitsFor }) => waitsFor));
-  const named = [...waited].filter((variable) => session.run.nameOf(variable) !== undefined);
-  return named.length === 0 ? [] : [`waited for: ${some(named.map(labelOf(session))).join(", ")}`];
+/** The names that the text gives to variables; nothing where it names none. */
+function namesOf(session, variables, start = "") {
+  const named = [...new Set(variables)].filter((variable) => session.run.nameOf(variable) !== undefined);
+  return named.length === 0 ? [] : [`${start}${some(named.map(labelOf(session))).join(", ")}`];
 }
 
-/** The names that the text gives to variables that begin lines. */
-function namesOfFirst(session, lines) {
-  const named = [...new Set(lines.map((line) => line.split(" ")[0]))].filter((variable) => session.run.nameOf(variable) !== undefined);
-  return named.length === 0 ? [] : [some(named.map(labelOf(session))).join(", ")];
-}
+const afterGoals = (session, reply) => namesOf(session, Replies.readGoals(reply).flatMap(({ waitsFor }) => waitsFor), "waited for: ");
+
+/** The same of variables that begin lines. */
+const namesOfFirst = (session, lines) => namesOf(session, lines.map((line) => line.split(" ")[0]));
+
+/** The same of all variables of a reply. */
+const namesOfAll = (session, reply) => namesOf(session, reply.flatMap(Printed.variablesIn));
 
 /** The clause by which a step was taken, and what its variables stand for, as far as records have told it. */
 function clauseLines({ run, clauses }, step) {
@@ -197,27 +200,14 @@ async function afterGoal(session, [word]) {
   return clauseLines(session, step);
 }
 
-/** The names that the text gives to the variables of a reply. */
-function namesOfAll(session, reply) {
-  const named = [...new Set(reply.flatMap((line) => line.match(/\b_\d+_\d+\b/g) ?? []))].filter((variable) => session.run.nameOf(variable) !== undefined);
-  return named.length === 0 ? [] : [some(named.map(labelOf(session))).join(", ")];
-}
-
 const SCREEN = 20, DEEPEST = 12; // lines of a tree that are shown at once; how far its lines are moved in at most
-
-/** The run of the steps of an explanation, which tells their goals as written: none of them rests on another step. */
-function runOf({ clauses, given, kept: { texts } }, steps) {
-  const kept = { steps: new Map(steps.map((step) => [step.number, step])), texts, changes: 0 };
-  const run = new Run(clauses, given.query, kept);
-  run.learnSteps(steps);
-  return run;
-}
 
 /** The steps of an explanation as a tree, with their goals as they stood then; a screen of it, where not all is asked for. */
 async function treeLines(session, { words: [subject], isWhole }, reply) {
   const steps = GoalTree.stepsOf(reply), { rows, left } = GoalTree.treeOf(steps, isWhole ? Infinity : SCREEN), lines = [];
   const values = new GoalTree.Values(steps), places = new Map(steps.map(({ number }, place) => [number, place]));
-  const run = runOf(session, steps), textOf = async (step) => run.textOf(step.goal) || session.goalTaken(step);
+  const run = Run.ofSteps(session.clauses, session.given.query, steps, session.kept.texts); // none rests on another step
+  const textOf = async (step) => run.textOf(step.goal) || session.goalTaken(step);
   for (const row of rows) {
     const { step, depth } = row, store = values.before(places.get(step.number));
     const text = step.goal === null ? undefined : GoalTree.goalText(await textOf(step), store);
@@ -230,8 +220,7 @@ async function treeLines(session, { words: [subject], isWhole }, reply) {
 /** After an explanation: variables by the names of the text, the clauses and the steps on which it rests, and where another clause could be taken. */
 async function afterExplain(session, meaning, reply) {
   const slice = Asking.sliceIn(reply), rests = Asking.clausesTold(slice, session.clauses.length);
-  const lines = slice.others.map(([number, [first, ...more], goal]) =>
-    `another clause than step ${number} took: roll ${number}, step ${goal} ${first}${more.length > 0 ? ` (or ${more.join(", ")})` : ""}`);
+  const lines = slice.others.map(otherClauseWords);
   return [...namesOfFirst(session, reply), ...(rests === undefined ? [] : [rests]), ...await treeLines(session, meaning, reply), ...some(lines)];
 }
 

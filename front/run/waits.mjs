@@ -28,32 +28,29 @@ function gathered(reply) {
   return { holders: byVariable(holders), lost: byVariable(lost), staysUnbound };
 }
 
-// What `whynot` tells of goals. A reply tells of all for which goals wait behind the one asked about, so that where
-// these stay unbound nobody has to ask about those goals.
-class Asking {
-  constructor(session) {
-    this.session = session;
-    this.told = new Map(); // by a variable that is waited for
-    this.asked = 0;
-  }
-
-  /** What is told of a goal that waits; undefined where it was asked about too many others, or nothing was told. */
-  async about({ name, waitsFor: [first] }) {
-    const known = this.told.get(first);
-    if (known?.staysUnbound || this.asked === ASKED) return known;
-    this.asked += 1;
-    const told = gathered(await this.session.ask(`whynot ${name}`));
+/**
+ * What gives what `whynot` tells of a goal that waits; undefined where it was asked about too many others, or nothing
+ * was told. A reply tells of all for which goals wait behind the one asked about, so that where these stay unbound
+ * nobody has to ask about those goals.
+ */
+function asking(session) {
+  const known = new Map(); // by a variable that is waited for
+  let asked = 0;
+  return async ({ name, waitsFor: [first] }) => {
+    if (known.get(first)?.staysUnbound || asked === ASKED) return known.get(first);
+    asked += 1;
+    const told = gathered(await session.ask(`whynot ${name}`));
     if (told.staysUnbound === undefined) return undefined;
-    for (const variable of told.holders.keys()) this.told.set(variable, told);
+    for (const variable of told.holders.keys()) known.set(variable, told);
     return told;
-  }
+  };
 }
 
 /** The waits of goals: each a goal, a variable for which it waits, the others that have it, and what else is told. */
 async function* eachWait(session, goals) {
-  const asking = new Asking(session);
+  const toldOf = asking(session);
   for (const goal of goals.filter(({ status }) => status === "waits").slice(0, TOLD)) {
-    const told = await asking.about(goal);
+    const told = await toldOf(goal);
     for (const variable of goal.waitsFor) {
       const others = (told?.holders.get(variable) ?? []).filter((holder) => holder.goal !== goal.name);
       yield { goal, variable, others, told };

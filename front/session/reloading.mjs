@@ -20,10 +20,8 @@ const probeOf = ({ words, native, given: { query } }) => new Session(wordsOfQuer
 
 /** The line at which a history does not load by which a session is to go on; undefined where none is wrong. */
 async function lineRefused({ words, native }, handed) {
-  const trial = new Session(words, native, handed);
   try {
-    await trial.begin();
-    await trial.end();
+    await new Session(words, native, handed).tryOut();
     return undefined;
   } catch (error) {
     if (!(error instanceof Ended)) throw error;

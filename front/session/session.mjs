@@ -57,6 +57,12 @@ class Session {
     this.way = undefined; // the way back to it, where somebody may end a line
   }
 
+  /** Begins, and ends: so what is refused is told. */
+  async tryOut() {
+    await this.begin();
+    await this.end();
+  }
+
   /** What may be refused, and the names of the files; a history that was handed stands in none. */
   get texts() {
     const { text, given: { file, query, load }, handed: { history } } = this;

@@ -9,14 +9,13 @@ const GIVE = ": give it in the query, or bind it in a body by =";
 const SHOWN = 60; // letters of what a head wants
 const STREAM = "instream/1 0"; // whoever feeds a stream binds it
 const keyOf = (predicate, place) => `${predicate} ${place}`;
-const predicateOf = ({ name, arguments: terms }) => `${name}/${terms.length}`;
 const has = (term, name) => Reader.addVariables(new Set(), term).has(name);
 
 /** May a goal of the text bind a variable, where `places` are the arguments that calls may bind? */
 function mayBind(goal, name, places) {
   if (goal.sort === "assignment") return goal.left.variable === name;
   if (goal.sort !== "call") return Reader.termsOf(goal).some((term) => has(term, name));
-  const predicate = predicateOf(goal.call), isBound = (place) => places.has(keyOf(predicate, place));
+  const predicate = Print.predicateOf(goal.call), isBound = (place) => places.has(keyOf(predicate, place));
   return goal.call.arguments.some((term, place) => (term.variable === name ? isBound(place) : has(term, name)));
 }
 
@@ -35,12 +34,6 @@ function placesBound(clauses) {
   return places;
 }
 
-/** The clauses of a predicate whose heads have something else than a variable at a place. */
-function readersOf(clauses, predicate, place) {
-  const isReader = (clause) => clause.predicate === predicate && clause.head.arguments[place].variable === undefined;
-  return clauses.filter(isReader);
-}
-
 /** Is an argument of a head built there, as it seems: does the body bind a variable that stands in it? */
 function isBuilt({ head, body }, place) {
   const within = Reader.addVariables(new Set(), head.arguments[place]);
@@ -52,9 +45,7 @@ function words(clauses, { number, predicate, head, text }, place, { isSure, isOf
   const wanted = Print.term(head.arguments[place], { most: SHOWN });
   const start = `clause ${number} of ${predicate} wants ${wanted} as argument ${place + 1}`;
   if (!isSure) return `${start}, and no goal makes it${isOfQuery ? GIVE : ""}`;
-  const others = readersOf(clauses, predicate, place).map((other) => other.number).filter((one) => one !== number);
-  const also = others.length === 0 ? "" : `; so also in clause ${others.join(", ")}`;
-  return `${start}: ${CheckerCauses.bindInBody(Tokens.tokensOf(text), place)}${also}`;
+  return `${start}: ${CheckerCauses.buildInBody(clauses, number, Tokens.tokensOf(text), place)}`;
 }
 
-export { mayBind, placesBound, readersOf, isBuilt, words, keyOf, predicateOf };
+export { mayBind, placesBound, isBuilt, words, keyOf };

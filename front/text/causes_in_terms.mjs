@@ -1,13 +1,12 @@
 // Why the text of an input term is refused (F2), where a query's words would mislead. Pure.
 import * as Tokens from "./tokens.mjs";
 
-const OPERATORS = new Set(["+", "-", "*", "/", "mod"]);
 const cause = (title, ...hints) => ({ title: `syntax: ${title}`, hints });
 
 /** What stands after a whole term. */
 function afterTerm(token) {
   if (token.text === ".") return cause("no full stop stands after a term", "drop it");
-  if (OPERATORS.has(token.text) || token.text.startsWith("-")) return cause("a term is not computed", "feed the value");
+  if (Tokens.OPERATORS.has(token.text) || token.text.startsWith("-")) return cause("a term is not computed", "feed the value");
   return cause("one term is fed at a time", "feed the next one by another `in`");
 }
 

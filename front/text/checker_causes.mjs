@@ -144,6 +144,7 @@ function roleOf(clauses, { head, predicate }, name, places) {
   return { role: hasResult && !places.some((place) => right.has(place)) ? "test" : undefined };
 }
 
+const BUILDS_NOTHING = "a head builds nothing";
 const NO_EQUALITY = "other terms have no test of equality: write a clause for each value";
 
 /** How a body makes what a head cannot: an argument of the head, at its place. */
@@ -152,12 +153,16 @@ function bindInBody(tokens, place) {
   return `write ${built} for argument ${place + 1}, and ${built} = ${text} in the body`;
 }
 
+/** The clauses of a predicate whose heads have something else than a variable at a place. */
+function readersOf(clauses, predicate, place) {
+  return clauses.filter((clause) => clause.predicate === predicate && clause.head.arguments[place].variable === undefined);
+}
+
 /** Where a head would have to build an argument: that its body does, and the other clauses with such a head. */
 function buildInBody(clauses, number, tokens, place) {
-  const { predicate } = clauses[number - 1], isOther = (other) => other.predicate === predicate && other.number !== number;
-  const others = clauses.filter((other) => isOther(other) && other.head.arguments[place].variable === undefined);
-  const also = others.length === 0 ? "" : `; so also in clause ${others.map((other) => other.number).join(", ")}`;
-  return `a head builds nothing: ${bindInBody(tokens, place)}${also}`;
+  const readers = readersOf(clauses, clauses[number - 1].predicate, place).map((other) => other.number);
+  const others = readers.filter((one) => one !== number);
+  return `${bindInBody(tokens, place)}${others.length === 0 ? "" : `; so also in clause ${others.join(", ")}`}`;
 }
 
 /**
@@ -174,10 +179,10 @@ function curesOf(clauses, number, tokens, name, { role, place, within }) {
   const bind = `name the second one ${other}, and write ${other} = ${name} in the body`;
   const compare = `name the second one ${other}, and write ${name} =:= ${other} in the guard`;
   const values = `${NO_EQUALITY}${value === undefined ? "" : `, as ${value} :- ..`}`;
-  if (role === "part") return [buildInBody(clauses, number, tokens, place)];
+  if (role === "part") return [`${BUILDS_NOTHING}: ${buildInBody(clauses, number, tokens, place)}`];
   if (role === "result") return [`a head binds nothing: ${bind}`];
   if (role === "test") return [`to compare numbers ${compare}`, values];
-  const result = within === undefined ? bind : buildInBody(clauses, number, tokens, within);
+  const result = within === undefined ? bind : `${BUILDS_NOTHING}: ${buildInBody(clauses, number, tokens, within)}`;
   return [`is it a result? ${result}`, `is it a test of numbers? ${compare}`, values];
 }
 
@@ -218,4 +223,4 @@ function undefinedCall(program, tokens, name, arity, isQuery) {
     callIn(tokens, name, arity, isQuery), `undefined: no clause has the head ${name} with ${plural(arity, "argument")}`, ...hints);
 }
 
-export { notFlat, notLinear, undefinedCall, bindersOf, bindInBody };
+export { notFlat, notLinear, undefinedCall, bindersOf, bindInBody, buildInBody, readersOf };

@@ -2,9 +2,8 @@
 import * as Tokens from "./tokens.mjs";
 
 const LONGEST = 70; // letters of a goal or a head that a cure repeats
-const OPERATORS = ["+", "-", "*", "/", "mod"];
 const OPPOSITES = { "<": ">=", ">": "=<", "=<": ">", ">=": "<", "=:=": "=\\=", "=\\=": "=:=" }; // of comparisons
-const SPACED = [...OPERATORS, ...Object.keys(OPPOSITES), "=", ":="];
+const SPACED = [...Tokens.OPERATORS, ...Object.keys(OPPOSITES), "=", ":="];
 
 /** Tokens of a term or a goal as a text; undefined where it is too long for a cure. */
 function textOf(tokens) {
@@ -42,7 +41,7 @@ function rangeAt(tokens, around, level, marks) {
   return { from, to };
 }
 
-const PARTS = new Set([...OPERATORS, "(", ")"]);
+const PARTS = new Set([...Tokens.OPERATORS, "(", ")"]);
 const isOfExpression = ({ kind, text }) => ["variable", "integer"].includes(kind) || PARTS.has(text);
 
 /** An assignment of the expression at a place, and the goal in which that stands; undefined where it is none. */

@@ -3,8 +3,8 @@
 // What is given is a place of a clause: the tokens `here` before it, and `later` those from it on.
 import * as Cures from "./cures.mjs";
 import * as OwnWords from "./own_words.mjs";
+import * as Tokens from "./tokens.mjs";
 
-const COMPARISONS = new Set(["<", ">", "=<", ">=", "=:=", "=\\="]);
 const isVariable = (text) => /^[A-Z_]\w*$/.test(text ?? "");
 const clauseOf = ({ here, later }) => [...here, ...later];
 
@@ -47,7 +47,7 @@ function comparedSides(where) {
 /** A term other than a number in a comparison: the head tests for it. */
 function comparedTerm(where) {
   const { here } = where, clause = clauseOf(where), unequal = "for \"not equal\" write a clause for each case";
-  const mark = here.findLastIndex(({ text }) => COMPARISONS.has(text));
+  const mark = here.findLastIndex(({ text }) => Tokens.COMPARISONS.has(text));
   const isBefore = mark < here.findLastIndex(({ text }) => [",", "|", ":-"].includes(text));
   const at = isBefore || mark < 0 ? here.length : mark;
   if (clause[at].text === "=\\=") return unequal;

@@ -13,13 +13,12 @@ const ANY = { // where the text shows none
   NAME: "p", VALUE: "p(a)", OPPOSITE: "; of terms that are no numbers write a clause for each other value",
 };
 
-const touches = (left, right) => left.end === right.at;
 const isSymbol = (token) => ["mark", "wrong"].includes(token?.kind) && SYMBOLS.test(token.text);
 
 /** The mark at a place of a clause: from where to where its tokens stand, which touch each other. */
 function markAt(clause, place) {
   const areSymbols = (left, right) => isSymbol(clause[left]) && isSymbol(clause[right]);
-  const joins = (left, right) => areSymbols(left, right) && touches(clause[left], clause[right]);
+  const joins = (left, right) => areSymbols(left, right) && Tokens.touches(clause[left], clause[right]);
   let from = place, to = place + 1;
   while (from > 0 && joins(from - 1, from)) from -= 1;
   while (to < clause.length && joins(to - 1, to)) to += 1;

@@ -1,11 +1,11 @@
 // Prints terms and goals as ghcdb does, with bindings followed or not, up to a length. Pure.
 import * as Reader from "./reader.mjs";
+import * as Tokens from "./tokens.mjs";
 
-const OPERATORS = new Set(["+", "-", "*", "/", "mod"]);
 const NO_STORE = { endOf: (term) => term };
 const CUT = "…";
 
-const isOperation = (term) => term.arguments?.length === 2 && OPERATORS.has(term.name);
+const isOperation = (term) => term.arguments?.length === 2 && Tokens.OPERATORS.has(term.name);
 
 /** The pieces that stand for a term, to be written one after the other: texts, and terms yet to be taken apart. */
 function piecesOf(term, isOperand) {
@@ -45,6 +45,9 @@ function term(given, { store = NO_STORE, most = Infinity } = {}) {
   return text;
 }
 
+/** The predicate of a term, as `price/2`; undefined where it is no goal. */
+const predicateOf = (given) => (given?.arguments === undefined ? undefined : `${given.name}/${given.arguments.length}`);
+
 /** The text of a goal. */
 function goal(given, ways) {
   if (given.sort === "call") return term(given.call, ways);
@@ -53,4 +56,4 @@ function goal(given, ways) {
   return `${term(given.left, ways)} ${given.sort === "unification" ? "=" : ":="} ${term(given.right, ways)}`;
 }
 
-export { term, goal, isOperation, CUT };
+export { term, goal, predicateOf, isOperation, CUT };

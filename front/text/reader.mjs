@@ -131,13 +131,8 @@ class Reading {
 
   /** Does a bar stand, outside of all brackets, before the clause's full stop? */
   hasBar() {
-    let depth = 0;
-    for (let at = this.at; this.tokens[at].kind !== "end"; at += 1) {
-      const { text } = this.tokens[at];
-      depth += Tokens.depthOf([this.tokens[at]]);
-      if (depth === 0 && (text === "|" || text === ".")) return text === "|";
-    }
-    return false;
+    const stop = this.tokens.findIndex(({ text }, place) => place >= this.at && text === ".");
+    return Tokens.barOutside(this.tokens.slice(this.at, stop < 0 ? undefined : stop)) >= 0;
   }
 
   clause(number) {
@@ -235,14 +230,17 @@ function readTerm(text) {
   return term;
 }
 
-/** The term that a text is; undefined where it is none, or is nested too deeply to be read. */
-function termIn(text) {
+/** What comes of reading a text; undefined where it is not of that form, or is nested too deeply to be read. */
+function readable(read, text) {
   try {
-    return readTerm(text);
+    return read(text);
   } catch (error) {
     if (error instanceof SyntaxError || error instanceof RangeError) return undefined;
     throw error;
   }
 }
 
-export { isWritten, isState, addVariables, termsOf, fold, readProgram, readQuery, readTerm, termIn };
+const termIn = (text) => readable(readTerm, text);
+const goalIn = (text) => readable(readQuery, text)?.goals[0];
+
+export { isWritten, isState, addVariables, termsOf, fold, readProgram, readQuery, readTerm, readable, termIn, goalIn };

@@ -7,7 +7,7 @@ import * as OwnGoals from "./own_goals.mjs";
 import * as OwnWords from "./own_words.mjs";
 import * as Reader from "./reader.mjs";
 
-const COMPARISONS = new Set(["<", ">", "=<", ">=", "=:=", "=\\="]), OPERATIONS = new Set(["+", "-", "*", "/", "mod"]);
+const { COMPARISONS, OPERATORS: OPERATIONS, touches } = Tokens;
 const NO_IF = "there is no if-then-else", NO_SUM = "= does not compute";
 const CLAUSE = "a clause is: head :- guard | body.";
 const goalsAs = (example) => `a query is goals with commas between them, as ${example}`;
@@ -16,7 +16,6 @@ const BEHIND_NUMBER = "numbers are integers, written in digits alone";
 
 const quoted = (token) => `'${token.text}'`;
 const cause = (title, ...hints) => ({ title, hints });
-const touches = (left, right) => left !== undefined && left.end === right.at;
 const endsTerm = (token) => token !== undefined && (["name", "variable", "integer"].includes(token.kind) || [")", "]"].includes(token.text));
 const hasComparison = (tokens) => tokens.some(({ text }) => COMPARISONS.has(text));
 
@@ -73,8 +72,7 @@ function foreignMark({ rest, text, token, before }) {
 
 /** A comment of another language, in which the place is: it begins before the place, and does not end there. */
 function blockComment({ text, tokens, place }) {
-  const opens = (token, at) => token.text === "/" && tokens[at + 1]?.text === "*" && touches(token, tokens[at + 1]);
-  const first = tokens.slice(0, place + 1).findLast(opens);
+  const first = Tokens.commentBefore(tokens, place);
   if (first === undefined || text.slice(first.end + 1, tokens[place].at).includes("*/")) return undefined;
   return { ...cause(...Habits.COMMENT), at: { ...first, text: "/*" } };
 }
@@ -88,9 +86,14 @@ function badToken({ token }) {
   return cause("the integer does not fit into 64 bits", "integers go from -9223372036854775808 to 9223372036854775807");
 }
 
+/** The first pair of tokens around the place that touch each other and are one of some marks; undefined where none is. */
+function pairAt({ token, before, next }, isMark) {
+  return [[before, token], [token, next]].filter(([left, right]) => touches(left, right)).map(([left, right]) => left.text + right.text).find(isMark);
+}
+
 /** Arrows, which mean one thing after a head and another in a body. */
 function arrow({ token, before, next, here, depth, isQuery }) {
-  const mark = [touches(before, token) ? before.text + token.text : "", touches(token, next) ? token.text + next.text : ""].find((pair) => ["=>", "<-", "--", "->"].includes(pair));
+  const mark = pairAt({ token, before, next }, (pair) => ["=>", "<-", "--", "->"].includes(pair));
   if (mark === undefined || depth > 0 || isQuery) return undefined;
   const hasNeck = here.some(({ text }) => text === ":-"), isHead = here.length > 0 && !hasNeck;
   if (isHead) return mark === "--" ? cause("there are no grammars with -->", CLAUSE) : cause(`${mark} is written :-`, CLAUSE);
@@ -106,9 +109,8 @@ function splitMark({ token, before, next }) {
   return mark === undefined ? undefined : cause(`a blank stands within ${mark}`, `write ${mark} in one piece`);
 }
 
-function foreignPair({ token, before, next }) {
-  const pairs = [touches(before, token) ? before.text + token.text : "", touches(token, next) ? token.text + next.text : ""];
-  const found = pairs.find((pair) => Object.hasOwn(Habits.PAIRS, pair));
+function foreignPair(where) {
+  const found = pairAt(where, (pair) => Object.hasOwn(Habits.PAIRS, pair));
   return found === undefined ? undefined : cause(...Habits.PAIRS[found]);
 }
 

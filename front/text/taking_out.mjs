@@ -47,8 +47,7 @@ function clauseAround(tokens, place) {
 
 /** A comment of another language around the token at a place, from letter to letter; undefined where none is. */
 function commentAround(text, tokens, place) {
-  const opens = (token, at) => token.text === "/" && tokens[at + 1]?.text === "*" && token.end === tokens[at + 1].at;
-  const first = tokens.slice(0, place + 1).findLast(opens), end = first && text.indexOf("*/", first.end + 1);
+  const first = Tokens.commentBefore(tokens, place), end = first && text.indexOf("*/", first.end + 1);
   if (first === undefined || (end >= 0 && end + 1 < tokens[place].at)) return undefined;
   return { from: first.at, to: end < 0 ? text.length : end + 2 };
 }

@@ -66,6 +66,9 @@ function tokensOf(text) {
 }
 
 const OPENING = new Set(["(", "["]), CLOSING = new Set([")", "]"]);
+const OPERATORS = new Set(["+", "-", "*", "/", "mod"]), COMPARISONS = new Set(["<", ">", "=<", ">=", "=:=", "=\\="]);
+
+const touches = (left, right) => left !== undefined && left.end === right?.at;
 
 /** How many brackets are open after these tokens; a closing one takes one off. */
 function depthOf(tokens) {
@@ -108,6 +111,10 @@ function clausesOf(tokens) {
   }
   return clause.length > 0 ? [...clauses, clause] : clauses;
 }
+
+/** The first token of the last comment of another language that is opened up to a place; undefined where none is. */
+const commentBefore = (tokens, place) => tokens.slice(0, place + 1).findLast((token, at) =>
+  token.text === "/" && tokens[at + 1]?.text === "*" && touches(token, tokens[at + 1]));
 
 /** How many arguments the call has whose name is the token at a place. */
 function arityAt(tokens, place) {
@@ -153,6 +160,6 @@ function endOfCall(tokens, place) {
 const headOf = (clause) => clause.slice(0, endOfCall(clause, 0) + 1);
 
 export {
-  tokensOf, clausesOf, clausesIn, arityAt, predicateAt, headOf, callBefore, endOfCall, depthOf, openBrackets,
-  barOutside,
+  tokensOf, clausesOf, clausesIn, commentBefore, arityAt, predicateAt, headOf, callBefore, endOfCall, depthOf, openBrackets,
+  barOutside, touches, OPERATORS, COMPARISONS,
 };
