@@ -268,7 +268,6 @@ async function copyLink() {
 }
 
 function listenToAll() {
-  for (const field of ["program", "query"]) find(field).addEventListener("input", keepSoon);
   window.addEventListener("pagehide", keep);
 }
 

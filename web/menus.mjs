@@ -18,7 +18,7 @@ const OFFSET = 14, MOST_LOOKED_AT = 400;
 const FIRST = "input, button:not([disabled]):not(.variable)"; // what has the focus in a menu that opens
 
 const title = (words, dim) => make("div", { class: "menu-title" }, make("b", null, words), " ", make("span", { class: "dim" }, dim));
-const code = (first, ...lines) => make("div", { class: "code" }, ...(typeof first === "string" ? [[first, ...lines].filter(Boolean).join("\n")] : [first, lines.filter(Boolean).join("\n")]));
+const code = (first, ...lines) => make("div", { class: "code" }, first, lines.filter(Boolean).join("\n"));
 
 /** The numbers of the first of some steps in recorded order. */
 function firstOf({ isIn }, most) {
@@ -30,11 +30,21 @@ function firstOf({ isIn }, most) {
 /** Rings what a roll takes back, and asks once more before it is done. */
 function askRoll(number, gone) {
   const names = firstOf(gone, MOST_NAMED).sort((one, other) => one - other).join(", ");
-  Deeds.ring(gone);
-  find("menu").replaceChildren(title(`Roll back step ${number}`, ""), make("p", null, `The ringed ${plural(gone.size, "step")} will be taken back: ${Terms.cut(names, 200)}. All others stay.`),
-    buttons(lineButton(`Take back ${gone.size}`, `roll ${number}`, { class: "danger" }), make("button", { "data-close": true }, "Leave it")));
+  const words = `The ringed ${plural(gone.size, "step")} will be taken back: ${Terms.cut(names, 200)}. All others stay.`;
+  find("menu").replaceChildren(...partsOfAsked(`Roll back step ${number}`, words, `roll ${number}`, gone));
   find("menu").querySelector("button").focus();
+  Deeds.ring(gone);
   Deeds.pointAgain();
+}
+
+/** The question before a line takes back more than one step. */
+const partsOfAsked = (name, words, line, { size }) => [title(name, ""), make("p", null, words),
+  buttons(lineButton(size === 0 ? "Nothing would go" : `Take back ${size}`, line, { class: "danger", disabled: size === 0 }), make("button", { "data-close": true }, "Leave it"))];
+
+/** Asks it in a menu of its own. */
+function askFirst(name, words, line, gone, anchor) {
+  openWith(partsOfAsked(name, words, line, gone), anchor);
+  Deeds.ring(gone);
 }
 
 function rollButton(number, gone) {
@@ -276,4 +286,4 @@ function onTab(event) {
   all[(at + (event.shiftKey ? all.length - 1 : 1)) % all.length].focus();
 }
 
-export { open, openWith, close, onTab };
+export { open, askFirst, close, onTab };

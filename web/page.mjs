@@ -254,14 +254,15 @@ const BUTTONS = {
   forget: () => Keeping.forget(), "make-link": () => Keeping.makeLink(), "copy-link": () => Keeping.copyLink(),
 };
 
+/** @type {[string, (told: string) => number | string][]} */
+const KINDS = [["step", Number], ["goal", String], ["taken", Number], ["variable", String]];
+
 /** What stands under a click, as what a menu can be opened of. */
 function choiceAt(element) {
   const found = element.closest("[data-step], [data-goal], [data-taken], [data-variable]");
   if (!found) return null;
-  const { step, goal, taken, variable } = found.dataset;
-  if (step !== undefined) return { found, chosen: { step: Number(step) } };
-  if (goal !== undefined) return { found, chosen: { goal } };
-  return { found, chosen: taken !== undefined ? { taken: Number(taken) } : { variable } };
+  const [kind, read] = KINDS.find(([name]) => name in found.dataset);
+  return { found, chosen: { [kind]: read(found.dataset[kind]) } };
 }
 
 /** Chooses a step, and brings it into sight. */
@@ -427,7 +428,7 @@ function listenToAll() {
   find("examples").addEventListener("change", () => { if (!isPassing) startExample(); });
   find("examples").addEventListener("pointerdown", () => { isPassing = false; });
   find("examples").addEventListener("blur", () => { find("examples").value = standing; });
-  for (const field of ["program", "query"]) find(field).addEventListener("input", Panels.followText);
+  for (const field of ["program", "query"]) for (const follow of [Panels.followText, Reloading.followSoon, Keeping.keepSoon]) find(field).addEventListener("input", follow);
   find("canvas").addEventListener("scroll", () => {
     Canvas.stayInSight();
     if (!Canvas.isOwnScroll()) Menus.close();
@@ -490,7 +491,7 @@ const doers = {
   choose: Canvas.choose, scrollTo: Canvas.scrollTo, goTo, visit: Canvas.visit, markWay: Canvas.markWay, ring: Canvas.ring,
   showSlice: Canvas.showSlice, showAsked: Canvas.showAsked, lanesBottom: () => Canvas.view.bottom, wholePicture: Files.wholePicture,
   markClause: Program.markClause, markLit: Program.markLit, showPlace: Program.showPlace, lightClause, size: Fitting.size, selectRange: Selecting.selectRange,
-  resultOf: Result.ofKept, tell: Answers.put, hideAnswer: Answers.hide, tellSlice: Resting.tell, openMenu: Menus.open, openMenuWith: Menus.openWith, closeMenu: Menus.close,
+  resultOf: Result.ofKept, tell: Answers.put, hideAnswer: Answers.hide, tellSlice: Resting.tell, openMenu: Menus.open, askFirst: Menus.askFirst, closeMenu: Menus.close,
   showRefusal: Refusing.show, notesOn: Refusing.notes, whyInShort: Why.inShort, besideParts: Beside.noteParts, canKeepRun: Beside.isComparable, keepRun: Beside.keep,
   looked: Trail.saved, takeUpLooked: Trail.takeUp, isOnTour: Guide.isOn, endTour: Guide.end, pointAgain: Guide.pointAgain, savePicture: Files.savePicture,
 };

@@ -224,4 +224,4 @@ function listenToAll() {
   });
 }
 
-export { text, setText, markClause, markLit, showPlace, showLine, setWrap, isTooLong, tellTooLong, listenToAll, isWrapped };
+export { setText, markClause, markLit, showPlace, showLine, setWrap, isTooLong, tellTooLong, listenToAll, isWrapped };

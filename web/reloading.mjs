@@ -71,9 +71,8 @@ async function tell(told, { looked, undone }, key) {
 }
 
 function listenToAll() {
-  for (const field of ["program", "query"]) find(field).addEventListener("input", followSoon);
   for (const event of ["mouseenter", "focus"]) find("reload").addEventListener(event, () => ring(true));
   for (const event of ["mouseleave", "blur"]) find("reload").addEventListener(event, () => ring(false));
 }
 
-export { follow, reload, listenToAll };
+export { follow, followSoon, reload, listenToAll };

@@ -2,7 +2,7 @@
 import * as Asking from "../front/protocol/asking.mjs";
 import * as Terms from "../front/run/terms.mjs";
 import Deeds from "./deeds.mjs";
-import * as Elements from "./elements.mjs";
+import { find, make, lineButton, linkedLine } from "./elements.mjs";
 import * as GoalRows from "./goal_rows.mjs";
 import Shown from "./shown.mjs";
 import State from "./state.mjs";
@@ -10,7 +10,6 @@ import * as Talk from "./talk.mjs";
 import * as Walking from "./walking.mjs";
 import { plural } from "../front/text/plural.mjs";
 
-const { find, make } = Elements;
 const MOST_LINKS = 12;
 
 /** By which clause a step went, and by which others it could go: each with this run beside. */
@@ -29,8 +28,8 @@ function tell(name, slice) {
   const words = `${plural(others.length, "step")} decided, for another clause was open (ringed): `;
   const walk = () => Walking.along(others.length, (at) => others[at][0], (number) => choiceParts(others, number));
   const decided = others.length === 0 ? [] : [words, walk(), " "];
-  Deeds.tell(false, make("code", null, `explain ${name}`), " ", ...head.slice(0, MOST_LINKS).flatMap((line, index) => [index > 0 ? ", " : "", ...Elements.linkedLine(Terms.cut(line, 160))]), `, ${last}. `, rests === undefined ? "" : `It ${rests}. `,
-    ...decided, ...(numbers.length > 0 ? [Elements.lineButton("Find the wrong clause", `blame ${name}`, { class: "small" }), GoalRows.of({ numbers, isIn: Shown.slice.isIn })] : []));
+  Deeds.tell(false, make("code", null, `explain ${name}`), " ", ...head.slice(0, MOST_LINKS).flatMap((line, index) => [index > 0 ? ", " : "", ...linkedLine(Terms.cut(line, 160))]), `, ${last}. `, rests === undefined ? "" : `It ${rests}. `,
+    ...decided, ...(numbers.length > 0 ? [lineButton("Find the wrong clause", `blame ${name}`, { class: "small" }), GoalRows.of({ numbers, isIn: Shown.slice.isIn })] : []));
 }
 
 /** Rings all that would go if a value or a goal were to stand alone, and asks once more. */
@@ -40,17 +39,14 @@ async function askKeep(name) {
   if (told === null || run !== State.run) return;
   const { numbers, last } = told;
   if (!/^steps \d/.test(last)) {
-    Deeds.tell(true, make("code", null, `explain ${name}`), " was refused: ", ...Elements.linkedLine(last));
+    Deeds.tell(true, make("code", null, `explain ${name}`), " was refused: ", ...linkedLine(last));
     return;
   }
   const isIn = new Uint8Array(graph.count), gone = { size: graph.count - numbers.length, has: (number) => isIn[graph.indexOf(number)] === 0 };
   for (const number of numbers) isIn[graph.indexOf(number)] = 1;
-  const does = make("button", { class: "danger", "data-line": `keep ${name}`, disabled: gone.size === 0 }, gone.size === 0 ? "Nothing would go" : `Take back ${gone.size}`);
   Deeds.choose(null);
-  Deeds.openMenuWith([make("div", { class: "menu-title" }, make("b", null, `Keep what ${name} rests on`)),
-    make("p", null, `It rests on ${plural(numbers.length, "step")} of ${graph.count}. The ringed ${plural(gone.size, "step")} would be taken back; redo brings them again.`),
-    Elements.buttons(does, make("button", { "data-close": true }, "Leave it"))], find("store"));
-  Deeds.ring(gone);
+  const words = `It rests on ${plural(numbers.length, "step")} of ${graph.count}. The ringed ${plural(gone.size, "step")} would be taken back; redo brings them again.`;
+  Deeds.askFirst(`Keep what ${name} rests on`, words, `keep ${name}`, gone, find("store"));
 }
 
 export { tell, askKeep };

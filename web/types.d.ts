@@ -80,7 +80,7 @@ export interface Doers {
   hideAnswer(): void;
   tellSlice(name: string, slice: object): void;
   openMenu(chosen: object, anchor: Element): void;
-  openMenuWith(parts: Part[], anchor: Element, focus?: string): void;
+  askFirst(name: string, words: string, line: string, gone: { size: number; has(number: number): boolean }, anchor: Element): void;
   closeMenu(): void;
   showRefusal(given: Texts, refused: string, ...after: Part[]): boolean;
   notesOn(program: string): Part[];
