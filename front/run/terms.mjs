@@ -22,7 +22,7 @@ function elementsOf(term, store) {
 
 function briefList(term, store, depth) {
   const { elements, isClosed } = elementsOf(term, store);
-  const shown = elements.map((element) => (depth > 1 ? "…" : brief(element, store, depth + 1)));
+  const shown = elements.slice(0, LONGEST_LIST).map((element) => (depth > 1 ? "…" : brief(element, store, depth + 1)));
   let text = shown.join(",");
   if (text.length > LONGEST_LIST) {
     while (shown.length > 1 && shown.join(",").length > LONGEST_LIST - 2) shown.pop();

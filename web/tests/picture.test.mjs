@@ -119,6 +119,14 @@ test("terms in few letters", () => {
   assert.equal(Terms.briefCall("filter(_0_1,[],_5_1)", store), "filter([1,2,3|·],[],·)");
 });
 
+test("a label of a list of 10,000 elements takes no longer than one can wait for each step", () => {
+  const list = `[${Array.from({ length: 10000 }, (none, at) => at).join(",")}]`, start = performance.now();
+  for (let round = 0; round < 20; round++) {
+    assert.equal(Terms.briefCall(`filter(${list},5,_0_1)`, new Map()), "filter([0,1,2,3,4,…],5,·)");
+  }
+  assert.ok(performance.now() - start < 2000, `${performance.now() - start} ms`);
+});
+
 test("the pictures of the manuals are those that web/picture draws", () => {
   const pictures = path.join(HERE, "..", "..", "docs", "pictures");
   for (const [name, room] of [["quicksort", "900"], ["bill", "700"]]) {
