@@ -41,7 +41,7 @@ function draw() {
   const room = Math.max(320, area.clientWidth - 8) * (OnScreen.isOn() || Shown.fit !== "none" ? 1 : Shown.zoom);
   const high = highOf(area);
   Deeds.drawStrip();
-  const drawn = Picture.draw(OnScreen.shownRun(), { by: Shown.by, theme: Shown.theme, room, high, leastColumns: Shown.by === "depth" ? Beside.columns() : 0, legend: true, titles: false, shown: Names.shown });
+  const drawn = Picture.draw(OnScreen.shownRun(), { by: Shown.by, theme: Shown.theme, room, high, leastColumns: Shown.by === "depth" ? Beside.columns() : 0, legend: true, titles: false, isWhole: true, shown: Names.shown });
   area.innerHTML = drawn.svg;
   Beside.draw({ theme: Shown.theme, room, high, titles: false });
   canvas.view = drawn.view;

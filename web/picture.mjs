@@ -424,7 +424,7 @@ function drawLeader(view, lane, theme) {
 
 /**
  * The text of an SVG of a run. `options`: `by` is `record` or `depth`, `room` the width that there is, `theme` is `light` or `dark`,
- * `high` the height that all is to fit into (if it is), `title` a line above it, `legend` whether to say below it what all stands for, `titles` whether steps and reads carry words that a
+ * `high` the height that all is to fit into (if it is), `isWhole` whether the whole width of a short run is to be seen, `title` a line above it, `legend` whether to say below it what all stands for, `titles` whether steps and reads carry words that a
  * browser shows where one points (they do unless it is false), `leastColumns` how many columns there are at least, and `scope` the class
  * of the picture, by which its styles go, and `shown` what puts names in the place of a text's variables. Gives the text and the places
  * of what it shows.
@@ -433,8 +433,8 @@ function draw(given, options) {
   const run = options.shown === undefined ? given : { ...given, shown: options.shown };
   const theme = THEMES[options.theme || "light"], colour = coloursOf(run, theme), top = options.title ? 62 : 34, first = top + ((run.incoming || []).length > 0 ? ROOM_OF_COMING : 0);
   const room = options.room || 1100;
-  const scope = options.scope || "run", { high, leastColumns } = options;
-  const how = { by: options.by || "record", room, top: first, high, leastColumns };
+  const scope = options.scope || "run", { high, leastColumns, isWhole } = options;
+  const how = { by: options.by || "record", room, top: first, high, leastColumns, isWhole };
   const laid = /** @type {any} */ (Lanes.layout(run, how)), shown = options.shown || ((text) => text);
   const view = { ...laid, top, hasTitles: options.titles !== false, shown };
   const showsImplied = view.sizes.kind !== "tiny" && run.graph.steps.length <= 500;

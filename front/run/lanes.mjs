@@ -404,18 +404,26 @@ function placeInLane(lane, kinds, columnOf, makerOf, rowOf, columns) {
 }
 
 const MOST_RADIUS = 11, LARGEST_FONT = 12.5;
+const FONTS = { roomy: LARGEST_FONT, dense: 11, tiny: 9.5 };
+const APART = { roomy: 27, dense: 17, tiny: 6 }; // points from step to step, at least, in each look
+const SHORT = 30; // steps of a run that is rather wider than its room than drawn as points, but where all is to be seen
 
 /** Where the first column begins beside names of so many letters. */
 const leftBeside = (letters, font) => 24 + letters * font * BOLD_LETTER;
 
+/** How far apart steps stand at least. In a narrow window a short run is scrolled, too. */
+function leastApart(kind, columns, { room, high, isWhole }) {
+  if (high !== undefined) return 0.5;
+  return columns > SHORT ? APART.tiny : isWhole && room >= NARROW ? APART[kind] : APART.roomy;
+}
+
 /** How large all is drawn: what the room allows, from steps that stand side by side as points to circles with numbers. */
-function sizesFor(room, columns, lanes, sides, isFit) {
-  const least = isFit ? 0.5 : columns <= 30 ? 27 : 7;
+function sizesFor(room, columns, lanes, sides, least, isFit) {
   const dx = between(least, (room - sides) / Math.max(1, columns), 56);
   const most = lanes > 80 ? 4 : lanes > 30 ? 6 : lanes > 16 ? 8 : MOST_RADIUS;
   const radius = between(isFit ? 1 : 3, dx * 0.3, most);
   const kind = radius >= 8 ? "roomy" : radius >= 5 ? "dense" : "tiny";
-  const font = room < NARROW ? 10.5 : { roomy: LARGEST_FONT, dense: 11, tiny: 9.5 }[kind];
+  const font = room < NARROW ? 10.5 : FONTS[kind];
   return { dx, radius, kind, font, leaf: radius * 0.6, row: 13 + 2.3 * radius, leafRow: kind === "roomy" ? 25 : 7 + 1.3 * radius };
 }
 
@@ -432,9 +440,11 @@ function leastLarge({ graph }) {
 function bestSizes(run, options, columns, lanes, letters) {
   const arcs = roomForArcs(run, lanes);
   const large = leastLarge(run), isAs = (sizes, kind) => RANKS[sizes.kind] >= RANKS[kind] && (kind !== "roomy" || sizes.radius >= large - 0.01);
-  const isFit = options.high !== undefined, names = isFit ? leftBeside(letters, LARGEST_FONT) : letters * 7.4;
+  const isFit = options.high !== undefined;
   const looks = LOOKS.map(([kind, labels]) => {
-    const sides = (isAbove(options) ? 0 : names) + roomForGoals(run, labels) + arcs, sizes = sizesFor(options.room, columns, lanes.length, sides, isFit);
+    const names = isAbove(options) ? 0 : leftBeside(letters, isFit ? LARGEST_FONT : FONTS[kind]);
+    const sides = names + roomForGoals(run, labels) + arcs, least = leastApart(kind, columns, options);
+    const sizes = sizesFor(options.room, columns, lanes.length, sides, least, isFit);
     return { isLarge: isAs(sizes, kind), fits: sides + columns * sizes.dx < options.room + 1, sizes: { ...sizes, labels } };
   });
   const scrolled = looks.filter(({ isLarge, sizes }) => isLarge && sizes.labels !== "long"); // where nothing fits, one scrolls
@@ -477,7 +487,7 @@ function takenFrom(run, goal) {
 
 /** About how much room the goals that are there take up, with their labels and what was taken back from them. */
 function roomForGoals(run, labels) {
-  if (run.goals.length === 0) return 96;
+  if (run.goals.length === 0) return labels === "none" ? 50 : 96;
   const widths = run.goals.map((goal) => goalLabel(run, goal, labels).length * 7 + takenFrom(run, goal).length * 30);
   return 70 + Math.max(...widths);
 }
@@ -574,7 +584,8 @@ function shrink(view, options) {
 
 /**
  * The places of a run. `run` has graph, goals, shelf, texts and clauses; `options.by` is `record` or `depth`, `options.room` the
- * width that there is, `options.top` the room above the first lane, and `options.high` the height that all is to fit into, if it is.
+ * width that there is, `options.top` the room above the first lane, `options.high` the height that all is to fit into, if it is, and
+ * `options.isWhole` whether the whole width of a short run is to be seen.
  */
 function layout(run, options) {
   const { lanes, laneOf, kinds } = run.placed || lanesOf(run);

@@ -119,6 +119,25 @@ inBrowsers("both runs of two are seen whole, in the same columns, each below its
   assert.ok(Math.abs(above - below) < 1, `step 14 stands in one column: ${above}, ${below}`);
 });
 
+/** The steps that are not seen, or stand below the names of lanes. */
+const HIDDEN_STEPS = `(() => { const area = document.getElementById("canvas").getBoundingClientRect();
+  const names = document.querySelector("#canvas .names rect").getBoundingClientRect();
+  return [...document.querySelectorAll("#canvas .mark")].filter((mark) => {
+    const box = mark.getBoundingClientRect();
+    return box.left < names.right || box.right > area.right;
+  }).map((mark) => Number(mark.dataset.step)); })()`;
+
+inBrowsers("the runs of the example programs are seen from their first step to their last", async (page) => {
+  await open(page, "#example=bill", WIDE);
+  for (const folder of [FOLDER, `${FOLDER}wrong/`, `${FOLDER}wrong/mended/`]) {
+    for (const { name, program } of programsIn(folder)) {
+      await page.value(begin(program, queryOf(program)));
+      await page.value('Talk.send("leap").then(() => true)');
+      assert.deepEqual(await page.value(HIDDEN_STEPS), [], `${folder}${name}`);
+    }
+  }
+});
+
 const cards = '[...document.querySelectorAll("#welcome .card b")].map((one) => one.textContent)';
 const isShown = '!document.getElementById("welcome").hidden';
 
