@@ -210,7 +210,9 @@ async function lightPart(goal, answers) {
   const flags = { goal, isIn: new Uint8Array(graph.count), isRight: new Uint8Array(graph.count), count: 0 };
   const isOver = () => own !== sought || run !== State.run || version !== run.version;
   const pause = pauses(SLICE), work = marking(graph, goal, last.values(), flags);
-  for (let next = work.next(); !next.done; next = work.next()) if (await pause() && isOver()) return;
+  for (let next = work.next(); !next.done; next = work.next()) {
+    if (await pause() && isOver()) return;
+  }
   if (!isOver()) Deeds.showAsked(flags);
 }
 

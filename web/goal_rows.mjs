@@ -65,7 +65,7 @@ function of(slice) {
 function moreOf(shown, count, most, fill) {
   const words = make("span", { class: "dim" }, `${told(shown)} of ${told(count)} steps. `);
   if (most >= MOST_OPENED) return make("div", null, words);
-  const button = make("button", { class: "small", id: "explain-all", "data-open": true }, count > MOST_OPENED ? `Show ${told(MOST_OPENED)}` : "Show all");
+  const button = make("button", { class: "small", id: "explain-all" }, count > MOST_OPENED ? `Show ${told(MOST_OPENED)}` : "Show all");
   button.addEventListener("click", () => fill(MOST_OPENED));
   return make("div", null, words, button);
 }

@@ -110,7 +110,9 @@ async function drawInSlices(dots, parts, of) {
   await State.showing;
   if (isOver(0)) return;
   const pause = pauses(SLICE);
-  for (const at of parts) if (await pause() && isOver(at)) return;
+  for (const at of parts) {
+    if (await pause() && isOver(at)) return;
+  }
   put(dots, of);
   draw();
 }

@@ -428,7 +428,9 @@ function listenToAll() {
   find("examples").addEventListener("change", () => { if (!isPassing) startExample(); });
   find("examples").addEventListener("pointerdown", () => { isPassing = false; });
   find("examples").addEventListener("blur", () => { find("examples").value = standing; });
-  for (const field of ["program", "query"]) for (const follow of [Panels.followText, Reloading.followSoon, Keeping.keepSoon]) find(field).addEventListener("input", follow);
+  for (const field of [find("program"), find("query")]) {
+    for (const follow of [Panels.followText, Reloading.followSoon, Keeping.keepSoon]) field.addEventListener("input", follow);
+  }
   find("canvas").addEventListener("scroll", () => {
     Canvas.stayInSight();
     if (!Canvas.isOwnScroll()) Menus.close();

@@ -57,7 +57,7 @@ function show() {
 
 /** The same of a run that is kept beside, which is looked at alone. */
 function ofKept(kept) {
-  const text = (...one) => resultOf(...one).map((value) => make("code", null, value.textContent));
+  const text = (...of) => resultOf(...of).map((value) => make("code", null, value.textContent));
   const above = make("span", { class: "dim" }, "above: ");
   return make("div", { class: "result-line" }, above, ...lineOf(kept, kept.given.query, text, false));
 }

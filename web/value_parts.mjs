@@ -1,4 +1,5 @@
-// A value in parts that one can click, as far as it is known and has room: for the panel of the store, and the result of a run.
+// A value in parts that one can click, as far as it is known and has room: for the panel of the store, and the result
+// of a run.
 import * as Explain from "../front/run/explain.mjs";
 import * as Terms from "../front/run/terms.mjs";
 import * as Printed from "../front/text/printed.mjs";
@@ -28,7 +29,10 @@ function listParts(root, path, term, room) {
   return [...parts, ...(rest === "[]" ? [] : ["|", ...termParts(root, at, rest, room)]), part(root, at, "]")];
 }
 
-/** A term as far as it is known in a graph, each part of it a button. `room` has the graph, and how many parts more there may be. */
+/**
+ * A term as far as it is known, each part of it a button. `room` has the graph in which it is known, and how many parts
+ * more there may be.
+ */
 function termParts(root, path, term, room) {
   const end = endOf(term, room.graph);
   room.parts -= 1;
