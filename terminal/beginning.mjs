@@ -6,7 +6,7 @@ import { plural } from "../front/run/reasons.mjs";
 import { usageOf } from "../front/protocol/commands.mjs";
 import { wordsOfQuery } from "../front/protocol/words.mjs";
 import { isNoFile } from "../front/session/files.mjs";
-import { Ended } from "../front/session/program.mjs";
+import { unlessEnded } from "../front/session/program.mjs";
 import { Session } from "../front/session/session.mjs";
 import { part } from "./part.mjs";
 
@@ -23,23 +23,19 @@ const Beginning = part({
     return true;
   },
 
-  /** Is what begins another session accepted? Where it is refused, tells why. */
-  async isAccepted(next, begins) {
-    try {
-      await begins();
-      return true;
-    } catch (error) {
-      if (!(error instanceof Ended)) throw error;
-      this.tellRefusal(error, next, this.out);
-      await this.tellOthers(error, next, this.out);
+  /** Is another session accepted, which begins? Where it is refused, tells why. */
+  isAccepted(next, beginning) {
+    return unlessEnded(beginning.then(() => true), async (ended) => {
+      this.tellRefusal(ended, next, this.out);
+      await this.tellOthers(ended, next, this.out);
       this.note("the session before stands");
       return false;
-    }
+    });
   },
 
   /** Another session takes the place of this one; false where it is refused. */
   async goOnWith(next) {
-    if (!await this.isAccepted(next, () => this.start(next))) return false;
+    if (!await this.isAccepted(next, this.start(next))) return false;
     await this.session.end();
     this.session = next;
     this.blaming = new Blaming(next);

@@ -1,6 +1,6 @@
 // What the terminal does for `choices X`: what X would be, had a step gone by another clause. After a run it tells
 // whether one could.
-import { usageOf } from "../front/protocol/commands.mjs";
+import { meant, usageOf } from "../front/protocol/commands.mjs";
 import * as Replies from "../front/protocol/replies.mjs";
 import { linesOf } from "../front/run/other_choices.mjs";
 import * as Own from "../front/run/own.mjs";
@@ -14,11 +14,11 @@ const NO_MEMORY = "memory was refused for the history, so that no other choice c
 const Choosing = part({
   async on_choices({ words: [word, ...more] }) {
     if (word === undefined || more.length > 0 || /^\d/.test(word)) return this.note(usageOf("choices"));
-    const { session } = this, name = Own.signOf(session, word), line = `explain ${name}`;
-    const explained = await session.ask(line);
+    const { session } = this, name = Own.signOf(session, word), meaning = meant("explain", name);
+    const explained = await session.ask(meaning.line);
     if (Replies.isRefused(explained)) {
       this.out(explained[0]);
-      return this.noteAll(await notesAfter(session, { name: "explain", words: [name], line }, explained));
+      return this.noteAll(await notesAfter(session, meaning, explained));
     }
     const trying = await tryingOf(session);
     return trying === undefined ? this.note(NO_MEMORY) : this.tryChoices(trying, name, explained);

@@ -1,4 +1,5 @@
 // What the terminal does for `display X`: X is shown after each line that changed the run, by a line of the console.
+import { meant } from "../front/protocol/commands.mjs";
 import * as Replies from "../front/protocol/replies.mjs";
 import * as Own from "../front/run/own.mjs";
 import { part } from "./part.mjs";
@@ -8,8 +9,7 @@ const NONE = "nothing is displayed; display X shows X after each run and step";
 const Displaying = part({
   async on_display({ words: [word] }) {
     if (word === undefined) return this.tellDisplayed();
-    const name = Own.signOf(this.session, word), line = `show ${name}`;
-    const reply = await this.send({ name: "show", words: [name], line });
+    const name = Own.signOf(this.session, word), reply = await this.send(meant("show", name));
     if (!Replies.isRefused(reply) && !this.displayed.includes(name)) this.displayed.push(name);
     return undefined;
   },
@@ -29,9 +29,9 @@ const Displaying = part({
   async showDisplayed(changes) {
     if (this.session.kept.changes === changes) return;
     for (const name of this.isInterrupted ? [] : this.displayed) {
-      const line = `show ${name}`, reply = await this.session.ask(line);
-      this.echo(line, "");
-      await this.show(reply, { name: "show", words: [name], line });
+      const meaning = meant("show", name), reply = await this.session.ask(meaning.line);
+      this.echo(meaning.line, "");
+      await this.show(reply, meaning);
     }
   },
 });

@@ -3,9 +3,9 @@
 import { setTimeout as after } from "node:timers/promises";
 import * as Causes from "../front/text/causes.mjs";
 import { Blaming } from "../front/run/blaming.mjs";
-import { Ended } from "../front/session/program.mjs";
+import { Ended, unlessEnded } from "../front/session/program.mjs";
 import { NotTold, Session } from "../front/session/session.mjs";
-import { helpLines, meaningOf, suggestionFor, usageOf, whyNoCommand } from "../front/protocol/commands.mjs";
+import { helpLines, meaningOf, meant, suggestionFor, usageOf, whyNoCommand } from "../front/protocol/commands.mjs";
 import Beginning from "./beginning.mjs";
 import Choosing from "./choosing.mjs";
 import Displaying from "./displaying.mjs";
@@ -25,7 +25,6 @@ import { plural } from "../front/run/reasons.mjs";
 import { notesAfter } from "../front/run/telling.mjs";
 import * as Unsaved from "./unsaved.mjs";
 import Watching from "./watching.mjs";
-import * as Replies from "../front/protocol/replies.mjs";
 
 const MOST_NOTES = 6; // on a program that are shown
 const HEARD_LATE = 300; // milliseconds after ^C in which a line that is no long run may still answer
@@ -67,14 +66,11 @@ class Front {
 
   /** Starts the program; where it is refused, says why. Afterwards it has ended, or has greeted. */
   async begin() {
-    try {
-      await this.start(this.session);
-    } catch (error) {
-      if (!(error instanceof Ended)) throw error;
-      this.finish(error);
-      await this.tellOthers(error, this.session, this.errors);
-      return;
-    }
+    await unlessEnded(this.start(this.session), (ended) => {
+      this.finish(ended);
+      return this.tellOthers(ended, this.session, this.errors);
+    });
+    if (this.hasEnded) return;
     this.greet();
     for (const { place, file, query } of Unsaved.left(this.session.given.load)) {
       this.note(`a session of ${file} --query '${query}' was not saved: --load ${place} goes on from it`);
@@ -281,8 +277,8 @@ class Front {
   async on_step({ words }) {
     if (words.length > 0) return false;
     const goals = await this.session.goalsTold(), ready = goals?.find(({ status }) => status === "ready");
-    if (goals === undefined) await this.send({ name: "leap", words: ["1"], line: "leap 1" });
-    else if (ready !== undefined) await this.send({ name: "step", words: [ready.name], line: `step ${ready.name}` });
+    if (goals === undefined) await this.send(meant("leap", "1"));
+    else if (ready !== undefined) await this.send(meant("step", ready.name));
     else await this.tellNoneReady(goals);
     return true;
   }
@@ -295,7 +291,7 @@ class Front {
   async takeBack() {
     const { last } = this.session.kept;
     if (last === undefined) this.note("no step is kept");
-    else await this.send({ name: "undo", words: [String(last)], line: `undo ${last}` });
+    else await this.send(meant("undo", String(last)));
     return last !== undefined;
   }
 
@@ -312,7 +308,7 @@ class Front {
   async on_show({ words, isWhole }) {
     if (words.length > 0) return false;
     if (this.session.variables.length === 0) this.note("the query has no variables");
-    await this.sendAll(this.session.variables.map((name) => ({ name: "show", words: [name], isWhole, line: `show ${name}` })));
+    await this.sendAll(this.session.variables.map((name) => ({ ...meant("show", name), isWhole })));
     return true;
   }
 
@@ -341,7 +337,7 @@ class Front {
 
   async on_explain(meaning, typed) {
     const words = meaning.words.map((word) => Own.signOf(this.session, word));
-    return this.send({ ...meaning, words, line: [meaning.name, ...words].join(" ") }, typed);
+    return this.send({ ...meaning, ...meant(meaning.name, ...words) }, typed);
   }
 
   on_whynot = this.on_explain;

@@ -1,17 +1,12 @@
 // What terminal/json does; how it is called stands there.
+import { tried } from "../front/session/files.mjs";
 import { ObjectText } from "./objects.mjs";
 import { playStandardInput, write } from "./scripted.mjs";
 
 const LOOKS = /^ *(records|since|explain)( |$)/; // lines of whose objects the run is a part
 
 /** The text of a goal; empty where it is not known, or so long that it cannot be made. */
-function textOf(session, goal) {
-  try {
-    return session.run.textOf(goal);
-  } catch {
-    return "";
-  }
-}
+const textOf = (session, goal) => tried(() => session.run.textOf(goal), "");
 
 class Teller {
   begin(bytes, session) {

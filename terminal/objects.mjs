@@ -33,9 +33,10 @@ function step({ number, goal, act, clause, reads, binds, makes }, textOf) {
   return { step: number, goal, text: goal === null ? null : textOf(goal), act, ...(clause !== null && { clause }), reads, binds: bound, makes };
 }
 
-function goal({ name, status, waitsFor, refusal, text }) {
-  return { goal: name, status, ...(waitsFor.length > 0 && { waitsFor }), ...(refusal && { refusal }), text };
-}
+/** A goal and how it stands. */
+const standing = ({ goal: name, status, waitsFor, refusal }) => ({ goal: name, status, ...(waitsFor.length > 0 && { waitsFor }), ...(refusal && { refusal }) });
+
+const goal = ({ name, status, waitsFor, refusal, text }) => ({ ...standing({ goal: name, status, waitsFor, refusal }), text });
 
 const cause = ({ number, kind, variable, woke }) => ({ step: number, kind, ...(variable && { variable }), ...(woke && { woke }) });
 
@@ -73,11 +74,6 @@ function whyNot(reply) {
 /** What a clause says to a goal, and the line of the program at which it begins. */
 const choice = ({ number, says, waitsFor, line }) => ({ clause: number, says, ...(waitsFor.length > 0 && { waitsFor }), ...(line !== undefined && { line }) });
 
-const binder = ({ variable, number }) => ({ variable, step: number });
-
-/** A goal and how it stands. */
-const standing = ({ goal: name, status, waitsFor, refusal }) => ({ goal: name, status, ...(waitsFor.length > 0 && { waitsFor }), ...(refusal && { refusal }) });
-
 /** A goal that a call's step made: what is told of it stands under the word that tells it, of an equation or a sum under `text`. */
 const madeGoal = ({ goal: name, how, text }) => ({ goal: name, [how === "written" ? "text" : how]: text });
 
@@ -106,7 +102,7 @@ const REPLIES = {
   goals: (reply) => ({ goals: Replies.readGoals(reply).map(goal) }),
   show: ([line]) => Replies.readValue(line),
   why: (reply) => ({ causes: told(reply).map(Replies.readCause).map(cause) }),
-  who: (reply) => ({ bound: told(reply).map(Replies.readBinder).filter(Boolean).map(binder) }),
+  who: (reply) => ({ bound: told(reply).map(Replies.readBinder).filter(Boolean).map(({ variable, number }) => ({ variable, step: number })) }),
   shelf: (reply) => ({ steps: Replies.readShelf(reply).map(({ number, goal: name, act }) => ({ step: number, goal: name, act })) }),
 };
 

@@ -23,7 +23,7 @@ const Reloading = part({
    */
   async probe() {
     const probe = probeOf(this.session);
-    return await this.isAccepted(probe, () => probe.tryOut()) ? probe : undefined;
+    return await this.isAccepted(probe, probe.tryOut()) ? probe : undefined;
   },
 
   /** Shows what has changed, and which steps go; where some do, asks before they do. */

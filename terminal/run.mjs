@@ -2,6 +2,7 @@
 import * as Own from "../front/run/own.mjs";
 import { plural } from "../front/run/reasons.mjs";
 import { notesAfter } from "../front/run/telling.mjs";
+import { meant } from "../front/protocol/commands.mjs";
 import { readExpected, whyOther } from "../front/protocol/expected.mjs";
 import { readRun } from "../front/protocol/words.mjs";
 import * as Replies from "../front/protocol/replies.mjs";
@@ -9,7 +10,7 @@ import { NotTold } from "../front/session/session.mjs";
 import { withQuery } from "../front/session/words_with_query.mjs";
 import { addLines, endWith, statusOfGoals, withSession, write, STATUS } from "./scripted.mjs";
 
-const LEAP = { name: "leap", words: [], line: "leap" };
+const LEAP = meant("leap");
 const TOO_LONG = "the run has taken as many steps as a run may, and goals are ready still";
 
 /** The line that tells the value of each variable of the query, or the refusal, by the variable's name. */
@@ -31,7 +32,7 @@ function statusOfAnswers(answers) {
  */
 async function notesOn(session, name, line, isDone) {
   if (!isDone && !Replies.isRefusal(line)) return [];
-  const notes = await notesAfter(session, { name: "show", words: [name], line: `show ${name}` }, [line]);
+  const notes = await notesAfter(session, meant("show", name), [line]);
   return Replies.isRefusal(line) ? [`${name}: ${line}`, ...notes] : notes;
 }
 

@@ -1,7 +1,7 @@
 // What the terminal does for runs: in slices, so that ^C keeps what was done; past the spied goal at which one stopped,
 // past goals that fit no pattern, and until a goal or a step is there. What is sent are lines of the console: `leap K`
 // and `step G`.
-import { usageOf } from "../front/protocol/commands.mjs";
+import { meant, usageOf } from "../front/protocol/commands.mjs";
 import * as Replies from "../front/protocol/replies.mjs";
 import { plural, some } from "../front/run/reasons.mjs";
 import { notesAfter } from "../front/run/telling.mjs";
@@ -43,8 +43,8 @@ const Running = part({
     const { stoppedAt } = this;
     this.stoppedAt = undefined;
     if (stoppedAt?.changes !== this.session.kept.changes) return 0;
-    const line = `step ${stoppedAt.goal}`, before = this.session.kept.steps.size;
-    await this.send({ name: "step", words: [stoppedAt.goal], line }, "");
+    const before = this.session.kept.steps.size;
+    await this.send(meant("step", stoppedAt.goal));
     return this.session.kept.steps.size - before;
   },
 
@@ -156,7 +156,7 @@ const Running = part({
     const isGoing = run.reply.at(-1) === "stopped limit" && !this.isInterrupted, { last } = this.session.kept;
     if (isGoing && last < number) await part(number - last);
     if (sent.length > 0) this.note(`sent: ${sent.join(", ")}`);
-    if (sent.length > 0) await this.tellRun(run, { name: "leap", words: [], line: "leap" });
+    if (sent.length > 0) await this.tellRun(run, meant("leap"));
     if (last > number) this.note(noMore(number));
   },
 });

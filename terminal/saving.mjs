@@ -1,6 +1,5 @@
 // Where a session may be saved, and why one was not.
-import fs from "node:fs";
-import { beginningOf, isFile, isNoFile, tried } from "../front/session/files.mjs";
+import { beginningOf, isEndless, isFile, tried } from "../front/session/files.mjs";
 
 const HEADING = "ghc-history ";
 
@@ -20,7 +19,7 @@ const whyRefused = (refusal) => (refusal.startsWith("F1 ") ? NO_ROOM : NOT_ALONE
 
 /** Is there something else than a history? Of a folder writing tells. */
 function isOtherFile(file) {
-  if (!isFile(file)) return isNoFile(file) && !fs.statSync(file).isDirectory();
+  if (!isFile(file)) return isEndless(file);
   const head = tried(() => beginningOf(file, HEADING.length).toString("latin1"), "");
   return head !== "" && head !== HEADING;
 }

@@ -2,7 +2,7 @@
 // how it went.
 import { Ended } from "../front/session/program.mjs";
 import { whyRefused } from "../front/session/refused.mjs";
-import { ScriptSession } from "../front/session/script_session.mjs";
+import { ScriptSession, asked } from "../front/session/script_session.mjs";
 import { everyRefusal } from "../front/session/every_refusal.mjs";
 import { withQuery } from "../front/session/words_with_query.mjs";
 import { isLetGo } from "../front/run/let_go.mjs";
@@ -93,18 +93,8 @@ class Course {
 
 /** Gives a line to a session; `teller` hears of its reply as it comes. */
 async function playLine(session, line, teller, course) {
-  let isFirst = true;
-  const learn = (lines) => {
-    course.learn(lines, isFirst);
-    isFirst = false;
-  };
   teller.begin(line, session);
-  const last = await session.ask(sent(line), (lines) => {
-    learn(lines);
-    return teller.hear(lines);
-  });
-  learn(last);
-  await teller.end(last);
+  await teller.end(await asked(session, sent(line), (...told) => course.learn(...told), (lines) => teller.hear(lines)));
 }
 
 /** Gives the lines of the input to a session. How they went. */
@@ -124,12 +114,10 @@ async function playLines(session, input, teller) {
  */
 async function statusOfGoals(session) {
   const course = new Course(), statuses = new Set();
-  const learn = (lines) => {
+  const last = await asked(session, "goals", (lines) => {
     course.learn(lines, false);
     Replies.readGoals(lines).forEach(({ status }) => statuses.add(status));
-  };
-  const last = await session.ask("goals", async (lines) => learn(lines));
-  learn(last);
+  }, async () => {});
   if (course.hasHole) return STATUS.untold;
   if (statuses.has("failed")) return STATUS.failed;
   if (statuses.has("ready") || statuses.has("stream") || Replies.isRefused(last)) return STATUS.unfinished;

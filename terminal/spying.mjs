@@ -1,6 +1,6 @@
 // What the terminal does for `spy` and `nospy`: predicates without the number of their arguments, patterns of goals,
 // and which are spied.
-import { usageOf } from "../front/protocol/commands.mjs";
+import { meant, usageOf } from "../front/protocol/commands.mjs";
 import * as Histories from "../front/protocol/histories.mjs";
 import * as Replies from "../front/protocol/replies.mjs";
 import { repeatedIn, whyRepeated } from "../front/run/patterns.mjs";
@@ -41,10 +41,6 @@ const Spying = part({
     return this.session.predicates.filter((predicate) => more === undefined && predicate.split("/")[0] === word);
   },
 
-  sendSpy(name, predicate, typed = "") {
-    return this.send({ name, words: [predicate], line: `${name} ${predicate}` }, typed);
-  },
-
   async on_spy({ name, words, rest }, typed) {
     const text = rest.replace(/\.$/, ""), isSpy = name === "spy";
     if (text === "") return isSpy ? this.tellSpied() : this.spyNothing();
@@ -52,7 +48,7 @@ const Spying = part({
     const named = this.predicatesOf(words);
     for (const predicate of named.length > 0 ? named : words) this.patterns.forget(predicate);
     if (!isSpy) this.stoppedAt = undefined;
-    for (const predicate of named) if (!this.isInterrupted) await this.sendSpy(name, predicate, typed);
+    for (const predicate of named) if (!this.isInterrupted) await this.send(meant(name, predicate), typed);
     return named.length > 0;
   },
 
@@ -64,7 +60,7 @@ const Spying = part({
   async spyPattern(text) {
     const { pattern, why } = readPattern(text, "spy"), predicate = predicateOf(pattern);
     if (why !== undefined) return this.note(why);
-    await this.sendSpy("spy", predicate);
+    await this.send(meant("spy", predicate));
     if (!this.session.predicates.includes(predicate)) return undefined;
     this.patterns.add(pattern);
     return this.note(`runs stop at calls of ${this.spiedLine(predicate)}`);
@@ -75,7 +71,7 @@ const Spying = part({
     if (spied.length === 0) return this.note(NONE);
     for (const predicate of spied) {
       this.patterns.forget(predicate);
-      if (!this.isInterrupted) await this.sendSpy("nospy", predicate);
+      if (!this.isInterrupted) await this.send(meant("nospy", predicate));
     }
     this.stoppedAt = undefined;
     return undefined;
@@ -89,7 +85,7 @@ const Spying = part({
     if (!wasThere) return this.note(`${text} is no pattern of what is spied; spy alone lists them`);
     if (left.length > 0) return this.note(`runs stop at calls of ${this.spiedLine(predicate)}`);
     this.stoppedAt = undefined;
-    return this.sendSpy("nospy", predicate);
+    return this.send(meant("nospy", predicate));
   },
 });
 

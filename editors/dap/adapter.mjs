@@ -16,7 +16,6 @@ import Restarting from "./restarting.mjs";
 import Running from "./running.mjs";
 import Setting from "./setting.mjs";
 import Stepping from "./stepping.mjs";
-import { clauseTaken, failedText } from "./told.mjs";
 import { Ended } from "../../front/session/program.mjs";
 import { NotTold } from "../../front/session/session.mjs";
 import { Blaming } from "../../front/run/blaming.mjs";
@@ -89,7 +88,7 @@ class Adapter {
   /** Tells lines in the editor's console; a step's line leads to its clause. */
   tell(lines, category = "console") {
     for (const line of lines) {
-      const taken = clauseTaken(line), clause = taken && this.session.clauses[taken.clause - 1];
+      const clause = this.session?.clauses[Replies.readTaken(line)?.clause - 1];
       this.event("output", { category, output: `${line}\n`, ...(clause && { source: this.places.source(), line: this.places.shown(clause.line) }) });
     }
   }
@@ -243,7 +242,7 @@ class Adapter {
     const isException = reason === "step" && failed !== undefined && this.breakpoints.filters.has("failed");
     if (!isException) return this.tellStop(goals, { reason, text, thread, hit });
     const its = this.processes.of(failed.name);
-    return this.tellStop(goals, { reason: "exception", text: failedText(failed), thread: its });
+    return this.tellStop(goals, { reason: "exception", text: this.failedText(failed), thread: its });
   }
 
   tellStop(goals, { reason, text, thread, hit = undefined }) {

@@ -4,7 +4,8 @@ import path from "node:path";
 import * as Causes from "../../front/text/causes.mjs";
 import { plural } from "../../front/run/reasons.mjs";
 import { everyRefusal } from "../../front/session/every_refusal.mjs";
-import { Ended } from "../../front/session/program.mjs";
+import { isEndless } from "../../front/session/files.mjs";
+import { unlessEnded } from "../../front/session/program.mjs";
 import { whyNotRead } from "../../front/session/refused.mjs";
 import { FILTERS } from "./breakpoints.mjs";
 import { Places, queryOf } from "./places.mjs";
@@ -23,16 +24,6 @@ const NO_QUERY = "no query: give `query` in the launch configuration, or a comme
 /** The words of ghcdb's command line for a launch configuration. */
 function wordsOf({ load, workers }, program, query) {
   return [program, "--query", query, ...(load ? ["--load", load] : []), ...(workers ? ["--workers", String(workers)] : [])];
-}
-
-/** Is it a device or a pipe, which might be read without end? */
-function isEndless(file) {
-  try {
-    const stat = fs.statSync(file);
-    return !stat.isFile() && !stat.isDirectory();
-  } catch {
-    return false; // reading it tells why
-  }
 }
 
 /** Refuses a name at which no file stands, but a device or a pipe. */
@@ -91,13 +82,10 @@ const Beginning = requests({
   },
 
   /** Waits for a session's beginning. Where ghcdb refuses it, all that it is refused for is told, and the first in the answer. */
-  async accepted(beginning, session, places) {
-    try {
-      await beginning;
-    } catch (error) {
-      if (!(error instanceof Ended)) throw error;
-      throw new Refused(await this.tellRefusals(error, session, places), true);
-    }
+  accepted(beginning, session, places) {
+    return unlessEnded(beginning, async (ended) => {
+      throw new Refused(await this.tellRefusals(ended, session, places), true);
+    });
   },
 
   /** Tells all refusals of what was to begin, each at its place. The first in words, and how many more there are. */

@@ -3,7 +3,6 @@ import { notesAfter } from "../../front/run/telling.mjs";
 import { suggestionFor, NAMES } from "../../front/protocol/commands.mjs";
 import { termOf } from "./options.mjs";
 import { requests } from "./requests.mjs";
-import { goalsMade } from "./told.mjs";
 import { Refused } from "./refused.mjs";
 import * as Replies from "../../front/protocol/replies.mjs";
 
@@ -11,11 +10,10 @@ const TELLS_MORE = new Set(["explain", "part", "whynot"]); // lines of which the
 
 const NO_VALUE = ": a value is one term, as 3, red or [1,2]; nothing is computed";
 
-/**
- * The request for a line of a command and a step's number.
- * @returns {(this: import("./adapter.mjs").Adapter, given: { step: number }) => Promise<void>}
- */
-const byNumber = (word) => function changeStep({ step }) { return this.changed(`${word} ${step}`); };
+/** The request for a line of a command and a step's number. */
+const byNumber = (word) =>
+  /** @this {import("./adapter.mjs").Adapter} */
+  function changeStep({ step }) { return this.changed(`${word} ${step}`); };
 
 export default requests({
   /** A line of the console as it was typed; where it changed the session, the editor hears of a stop. `explain X all` asks for `explain X`. */
@@ -47,7 +45,7 @@ export default requests({
     if (term?.variable === undefined) throw new Refused("this is no variable");
     if (end.variable === undefined) throw new Refused(`${run.labelOf(term.variable)} is bound: take back the step that bound it (who ${term.variable}), then set it`);
     if (termOf(value) === undefined) throw new Refused(`${value}${NO_VALUE}`);
-    const asked = await this.change(`ask ${end.variable} = ${value}`), [goal] = goalsMade(asked);
+    const asked = await this.change(`ask ${end.variable} = ${value}`), [goal] = Replies.goalsMade(asked);
     const reply = await this.session.ask(`step ${goal}`);
     if (Replies.isRefused(reply)) {
       await this.session.ask(`undo ${Replies.readTaken(asked[0]).number}`);

@@ -2,7 +2,6 @@
 import * as Print from "../../front/text/print.mjs";
 import * as Reader from "../../front/text/reader.mjs";
 import { holdersIn, waitsOf } from "../../front/run/waits.mjs";
-import { readLines } from "./told.mjs";
 
 const LONGEST = 1000; // letters of a value
 const MOST_ELEMENTS = 10_000; // of a list that are counted and shown; the rest unfolds by itself
@@ -17,6 +16,11 @@ function goalOf({ status, text }) {
   if (status !== "stream") return Reader.goalIn(text);
   const tail = Reader.termIn(/^instream \d+ (.*)$/.exec(text)[1]);
   return tail && { sort: "stream", tail };
+}
+
+/** Lines that begin with a step's number: the number, and what stands after it. */
+function readLines(lines) {
+  return lines.map((line) => /^(\d+) (.*)$/.exec(line)).filter(Boolean).map(([, number, rest]) => ({ number: Number(number), rest }));
 }
 
 const isCell = ({ name, arguments: terms }) => name === "." && terms.length === 2;

@@ -3,7 +3,6 @@
 import { afterBlame, callWords } from "../../front/run/blame_words.mjs";
 import * as BlameLines from "../../front/protocol/blame_lines.mjs";
 import { usageOf } from "../../front/protocol/commands.mjs";
-import * as Own from "../../front/run/own.mjs";
 import { requests } from "./requests.mjs";
 import * as Replies from "../../front/protocol/replies.mjs";
 
@@ -17,7 +16,7 @@ export default requests({
     if (this.blaming.isAnswer(line)) return this.answerQuestion(line);
     if (word === "trust") return this.trust(words);
     if (word !== "blame") return undefined;
-    return this.blame(words.length === 0 && this.blaming.isOpen ? this.blaming.line : ["blame", ...words.map((one) => Own.signOf(this.session, one))].join(" "));
+    return this.blame(this.blaming.lineOf(words));
   },
 
   async answerQuestion(word) {

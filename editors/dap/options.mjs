@@ -1,6 +1,7 @@
 // What an editor's options of a breakpoint say: a condition, a count of hits, a log text. Each is read whole; what
 // cannot be read is refused, with words that say what would be.
 import * as Print from "../../front/text/print.mjs";
+import * as Printed from "../../front/text/printed.mjs";
 import * as Reader from "../../front/text/reader.mjs";
 import Run from "../../front/run/run.mjs";
 import { fits, formOf, repeatedIn, whyRepeated } from "../../front/run/patterns.mjs";
@@ -29,8 +30,7 @@ function readCondition(text, predicate) {
  * as `price(3,_)`.
  */
 function readFunction(text, predicates) {
-  const name = String(text).trim(), isNamed = (predicate) => [predicate, predicate.split("/")[0]].includes(name);
-  const named = predicates.filter(isNamed).map((predicate) => ({ predicate }));
+  const name = String(text).trim(), named = predicates.filter((one) => Printed.isNamed(one, name)).map((predicate) => ({ predicate }));
   if (named.length > 0) return named;
   const term = termOf(name), predicate = term && predicates.find((other) => Print.predicateOf(term) === other);
   if (predicate !== undefined) return [{ predicate, pattern: readCondition(name, predicate) }];

@@ -1,7 +1,6 @@
 // Runs: forwards in slices, so that a pause is heard between two of them, and backwards to a breakpoint.
 import * as Own from "../../front/run/own.mjs";
 import { requests } from "./requests.mjs";
-import { failedText } from "./told.mjs";
 import { Ended } from "../../front/session/program.mjs";
 import { plural } from "../../front/run/reasons.mjs";
 import * as Replies from "../../front/protocol/replies.mjs";
@@ -9,6 +8,7 @@ import * as Replies from "../../front/protocol/replies.mjs";
 /** @typedef {import("./types").Stop} Stop */
 
 const MOST_TOLD = 200; // steps of a run that it tells in the editor's console
+const LONGEST = 300; // letters of a goal in the words of a stop
 
 /**
  * The stop where a breakpoint could not be looked at, as where a value is too long.
@@ -95,13 +95,18 @@ export default requests({
     return Replies.isRefused(reply) ? ["pause", reply[0], { thread }] : undefined;
   },
 
+  /** What an editor is told of a goal that has failed. */
+  failedText({ name, text }) {
+    return `${name} ${text.slice(0, LONGEST)} has failed`;
+  },
+
   /** @returns {Promise<Stop>} */
   async atEnd(reason, name) {
     const goals = await this.goalsTold();
     if (goals.length === 0 && await this.session.goalsTold() === undefined) return ["pause", `stopped ${reason}`];
     if (reason === "clash") {
       const failed = goals.find((goal) => goal.name === name);
-      return [this.breakpoints.reasonOf("failed"), failedText(failed), { thread: this.processes.of(name) }];
+      return [this.breakpoints.reasonOf("failed"), this.failedText(failed), { thread: this.processes.of(name) }];
     }
     if (reason !== "quiet") return ["pause", reason];
     const waiting = goals.filter(({ status }) => status === "waits");

@@ -51,20 +51,13 @@ class EditorSession extends Session {
     const file = path.resolve(path.dirname(this.given.file), name), why = whyNoName(name);
     if (why !== undefined) throw new Refused(why);
     if (this.savedInto !== file && fs.existsSync(file)) throw new Refused(`${file} is there: name another file`);
-    const refusal = await this.saved(file, version);
+    const refusal = await this.save(file, version).catch((error) => {
+      if (error.syscall === undefined) throw error; // of the system's calls
+      return `${file}: ${error.message}`;
+    });
     if (refusal !== undefined) throw new Refused(`${refusal}; nothing was saved`);
     this.savedInto = file;
     return [`saved in ${file}: with "load" in the launch configuration a session goes on from it`];
-  }
-
-  /** Writes it; the refusal, where there is one. */
-  async saved(file, version) {
-    try {
-      return await this.save(file, version);
-    } catch (error) {
-      if (error.syscall === undefined) throw error; // of the system's calls
-      return `${file}: ${error.message}`;
-    }
   }
 }
 

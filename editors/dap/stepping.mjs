@@ -1,6 +1,6 @@
 // Requests that take steps, forwards and back.
 import { requests } from "./requests.mjs";
-import { goalsMade } from "./told.mjs";
+import * as Replies from "../../front/protocol/replies.mjs";
 import { Refused } from "./refused.mjs";
 
 export default requests({
@@ -20,13 +20,13 @@ export default requests({
 
   async on_stepIn({ threadId, targetId }) {
     const goal = await this.goalToStep(threadId), line = `step ${goal.name}${targetId ? ` ${targetId}` : ""}`;
-    const made = goalsMade(await this.change(line));
+    const made = Replies.goalsMade(await this.change(line));
     this.later(async () => this.stopped("step", line, { thread: await this.into(made, threadId) }));
   },
 
   /** A step, and the unifications and sums that it made: what an editor calls a line. */
   async on_next({ threadId }) {
-    const goal = await this.goalToStep(threadId), made = goalsMade(await this.change(`step ${goal.name}`));
+    const goal = await this.goalToStep(threadId), made = Replies.goalsMade(await this.change(`step ${goal.name}`));
     for (const name of made) {
       const other = await this.session.goalNamed(name);
       if (other?.status === "ready" && (other.sort === "unification" || other.sort === "assignment")) await this.change(`step ${name}`);

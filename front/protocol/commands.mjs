@@ -65,6 +65,9 @@ function meaningOf(typed, variables = []) {
   return { name, words: kept, rest, line: [name, ...kept].join(" ") };
 }
 
+/** What a line means that has a command's name and words. */
+const meant = (name, ...words) => ({ name, words, line: [name, ...words].join(" ") });
+
 const widest = Math.max(...COMMANDS.map(({ form }) => form.length));
 const helpLine = ({ form, tells }) => `${form.padEnd(widest)}  ${tells}`;
 const usageOf = (name) => `usage: ${helpLine(byName.get(name))}`;
@@ -130,4 +133,4 @@ function helpLines(words) {
   return [...COMMANDS.map(helpLine), LETTERS];
 }
 
-export { COMMANDS, NAMES, commandOf, followsOf, meaningOf, helpLines, usageOf, whyNoCommand, suggestionFor };
+export { COMMANDS, NAMES, commandOf, followsOf, meaningOf, meant, helpLines, usageOf, whyNoCommand, suggestionFor };

@@ -180,6 +180,9 @@ function readCall(line) {
   return found && { name: found[1], text: found[2] };
 }
 
+/** The names of the goals that CALL lines tell. */
+const goalsMade = (lines) => lines.map(readCall).filter(Boolean).map(({ name }) => name);
+
 /** The numbers of the steps that a line such as `undone 3,2` tells to be taken back; null where it is none. */
 function readUndone(line) {
   const found = UNDONE.exec(line);
@@ -219,6 +222,9 @@ function readDependence(line) {
 
 /** The variable and the value of a line such as `R = [1,2]`. */
 const readValue = (line) => ({ variable: line.slice(0, line.indexOf(" ")), value: line.slice(line.indexOf(" = ") + 3) });
+
+/** Does a line tell a variable that nothing has bound, as `X = _1_2`? */
+const isUnbound = (line) => / = _\d+_\d+$/.test(line);
 
 /** A goal that has an unbound variable, as `explain` tells it; null where the line tells none. */
 function readHolder(line) {
@@ -282,5 +288,5 @@ function limitIn(refusal, line = "") {
 
 export {
   isRefusal, isRefused, limitIn, hasHole, NO_MEMORY, readRecord, readRecords, withTerms, numberIn, beginsWithStep, numberAt, readShelf, wordsOf, readGoals, beforeGoal, beforeTerm, afterTerm,
-  readTaken, readCall, readUndone, readPort, readExplained, readCause, readDependence, readValue, readHolder, readExtent, readTakenGoal, readChoice, readBinder, namedIn,
+  readTaken, readCall, goalsMade, readUndone, readPort, readExplained, readCause, readDependence, readValue, isUnbound, readHolder, readExtent, readTakenGoal, readChoice, readBinder, namedIn,
 };

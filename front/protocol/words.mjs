@@ -6,7 +6,7 @@ function partsOf(words, options = WITH_VALUE) {
   const parts = [];
   for (let at = 0; at < words.length; at += parts.at(-1).own.length) {
     const word = words[at], sign = word.indexOf("="), name = sign > 0 && word.startsWith("--") ? word.slice(0, sign) : word;
-    if (!options.includes(name)) parts.push({ value: word, at, own: [word] });
+    if (!options.includes(name)) parts.push({ name: undefined, value: word, at, own: [word] });
     else if (name !== word) parts.push({ name, value: word.slice(sign + 1), at, own: [word] });
     else parts.push({ name, value: words[at + 1], at, own: words.slice(at, at + 2) });
   }

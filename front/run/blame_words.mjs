@@ -1,6 +1,7 @@
 // What a question or a verdict of `blame` means, in words for those who know the program and not yet the console.
 import * as BlameLines from "../protocol/blame_lines.mjs";
 import * as Asking from "../protocol/asking.mjs";
+import * as Replies from "../protocol/replies.mjs";
 import * as Print from "../text/print.mjs";
 import * as Printed from "../text/printed.mjs";
 import { WIDEST, cut, namesIn, termOf } from "./named.mjs";
@@ -113,7 +114,7 @@ async function callAtFault(session, told, answers) {
 /** No clause is at fault. */
 async function noClauseAtFault(session, told, subject, answers) {
   const [value] = await session.ask(`show ${subject}`);
-  if (/ = _\d+_\d+$/.test(value)) return [`${subject} is unbound: no step gave it a value. stuck tells who waits for whom, blame G asks about a goal G that waits`];
+  if (Replies.isUnbound(value)) return [`${subject} is unbound: no step gave it a value. stuck tells who waits for whom, blame G asks about a goal G that waits`];
   if (!told.made.some(({ how }) => how === "gave")) return [`no call gave anything to ${subject}: what bound it stands in the query`];
   return [`${foundBy(answers)}: all that the query's goals gave is right. So the query asks for something else, or ${subject} is right`];
 }

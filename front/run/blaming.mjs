@@ -1,5 +1,6 @@
 // The talk about who is to blame: which question is open, what an answer to it says, and which predicates are trusted.
 import * as BlameLines from "../protocol/blame_lines.mjs";
+import * as Own from "./own.mjs";
 import * as Printed from "../text/printed.mjs";
 import * as Replies from "../protocol/replies.mjs";
 
@@ -47,6 +48,12 @@ class Blaming {
     return BlameLines.answered(this.line, this.goal, ANSWERS.get(word.toLowerCase()));
   }
 
+  /** The line that words ask for: alone that of the open question. */
+  lineOf(words) {
+    if (words.length === 0 && this.isOpen) return this.line;
+    return ["blame", ...words.map((word) => Own.signOf(this.session, word))].join(" ");
+  }
+
   /** Why there is no such line. */
   whyNoLine(word) {
     return word.toLowerCase() === BACK ? "no answer was given yet; undo takes back a step" : "nothing is asked any more; u takes the last answer back, step takes a step";
@@ -69,7 +76,7 @@ class Blaming {
    * that tell so; without a word they tell which are trusted.
    */
   trustLines(word) {
-    const { trusted, session: { predicates } } = this, named = predicates.filter((other) => other === word || other.split("/")[0] === word);
+    const { trusted, session: { predicates } } = this, named = predicates.filter((other) => Printed.isNamed(other, word));
     if (word === undefined) return [trusted.size === 0 ? "no predicate is trusted" : `trusted: ${[...trusted].join(", ")}`];
     if (named.length === 0) return [`no clause of ${word}; the program's predicates: ${predicates.join(", ")}`];
     for (const predicate of named) if (!trusted.delete(predicate)) trusted.add(predicate);

@@ -1,5 +1,4 @@
 // The other choices that a run had, and what each of them leads to, in words. Pure.
-import Limits from "../protocol/limits.mjs";
 import * as Printed from "../text/printed.mjs";
 import * as Replies from "../protocol/replies.mjs";
 import * as Short from "../protocol/short.mjs";
@@ -50,7 +49,7 @@ function endingOf(stop, told) {
 function valueTold(name, line) {
   if (!Replies.isRefusal(line)) return line;
   if (line.startsWith("F23 ")) return `${name} is not made`;
-  return `${name}: ${Limits[/^F6 limit: (\w+)$/.exec(line)?.[1]] ?? line}`;
+  return `${name}: ${Replies.limitIn(line) ?? line}`;
 }
 
 /** What a run came to, in words: the value of X whole, and how it ended. */

@@ -3,13 +3,11 @@ import { buildingLines } from "./building.mjs";
 import { linesAtEnd } from "./let_go.mjs";
 import { plural } from "./reasons.mjs";
 import * as Waits from "./waits.mjs";
+import * as Printed from "../text/printed.mjs";
 import * as Reader from "../text/reader.mjs";
 
-/** Is a clause or goal of the predicate that a word names, as `price/2` or `price`? */
-const isOf = (predicate, word) => predicate === word || predicate?.split("/")[0] === word;
-
 function list(session, [word]) {
-  const shown = session.clauses.filter(({ predicate }) => word === undefined || isOf(predicate, word));
+  const shown = session.clauses.filter(({ predicate }) => word === undefined || Printed.isNamed(predicate, word));
   if (shown.length === 0) return [`no clause of ${word}; the program's predicates: ${session.predicates.join(", ")}`];
   const width = String(shown.at(-1).number).length;
   return shown.map(({ number, line, text }) => `${String(number).padStart(width)} (line ${line}) ${text.replace(/\s*\n\s*/g, " ")}`);
@@ -37,7 +35,7 @@ async function holders(session, [word]) {
 
 async function records(session, [word]) {
   const run = await session.look();
-  const shown = [...session.kept.steps.values()].filter(({ goal }) => isOf(run.predicateOf(goal), word));
+  const shown = [...session.kept.steps.values()].filter(({ goal }) => Printed.isNamed(run.predicateOf(goal), word));
   return shown.length === 0 ? [`no kept step of ${word}`] : shown.map(({ number, goal, act }) => `${number} ${run.textOf(goal)} ${act}`);
 }
 

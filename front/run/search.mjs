@@ -1,4 +1,5 @@
 // Finds steps of a run: by a number, by the predicate of the goal that they reduced, or by a value that they bound or were given. Pure.
+import * as Printed from "../text/printed.mjs";
 import * as Reader from "../text/reader.mjs";
 
 const PART = 512; // steps that are looked at between two places where the reader may pause
@@ -6,8 +7,7 @@ const escaped = (text) => text.replace(/[.*+?^${}()|[\]\\]/g, "\\$&");
 
 /** The clauses of the predicates of a name such as `sift` or `sift/2`, by their numbers. */
 function clausesOf(clauses, name) {
-  const numbers = clauses.map((clause, index) => (clause.predicate === name || clause.predicate.split("/")[0] === name ? index + 1 : 0));
-  return new Set(numbers.filter((number) => number > 0));
+  return new Set(clauses.flatMap(({ predicate }, index) => (Printed.isNamed(predicate, name) ? [index + 1] : [])));
 }
 
 /** A text as it stands within a term, and not as a part of a longer name or number. */

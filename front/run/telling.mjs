@@ -186,18 +186,13 @@ const namesOfFirst = (session, lines) => namesOf(session, lines.map((line) => li
 /** The same of all variables of a reply. */
 const namesOfAll = (session, reply) => namesOf(session, reply.flatMap(Printed.variablesIn));
 
-/** The clause by which a step was taken, and what its variables stand for, as far as records have told it. */
-function clauseLines({ run, clauses }, step) {
-  const clause = clauses[step.clause - 1], values = [...run.environmentOf(step.number) ?? []].filter(([name]) => Reader.isWritten(name));
+/** The clause by which a step was taken, and what its variables stand for. */
+async function afterGoal(session, [word]) {
+  const step = session.kept.steps.get(Number(word)), clause = session.clauses[step?.clause - 1];
+  if (clause === undefined) return [];
+  const run = await session.look(), values = [...run.environmentOf(step.number) ?? []].filter(([name]) => Reader.isWritten(name));
   const shown = values.map(([name, term]) => `${name} = ${Print.term(term, { store: run.shown, most: 40 })}`).join(", ");
   return [`by clause ${clause.number}: ${clause.text.replace(/\s*\n\s*/g, " ")}`, ...(shown === "" ? [] : [`with ${shown}`])];
-}
-
-async function afterGoal(session, [word]) {
-  const step = session.kept.steps.get(Number(word));
-  if (step === undefined || step.clause === null) return [];
-  await session.look();
-  return clauseLines(session, step);
 }
 
 const SCREEN = 20, DEEPEST = 12; // lines of a tree that are shown at once; how far its lines are moved in at most

@@ -3,7 +3,7 @@
 import * as Causes from "../text/causes.mjs";
 import * as TakingOut from "../text/taking_out.mjs";
 import Engine from "./engine.mjs";
-import { Ended, HANDED, ofPage, open } from "./program.mjs";
+import { HANDED, ofPage, open, unlessEnded } from "./program.mjs";
 import { whyRefused } from "./refused.mjs";
 
 const MOST = 20; // refusals that are told
@@ -15,11 +15,7 @@ const SAID = /^(program|query): (F[2-5]) (.*)$/;
 async function refusalOfNative(text, query, native) {
   const program = open([HANDED.program, "--query", query], native, new Map([[HANDED.program, Buffer.from(text)]]));
   try {
-    await program.ask("goals");
-    return undefined;
-  } catch (error) {
-    if (!(error instanceof Ended)) throw error;
-    return error.errors.trim();
+    return await unlessEnded(program.ask("goals").then(() => undefined), ({ errors }) => errors.trim());
   } finally {
     await program.kill();
   }
@@ -106,7 +102,7 @@ class Judged {
   takeOutOfQuery(read) {
     const { query } = this, without = this.isSame(read) ? undefined : TakingOut.withoutGoal(query, read.place, true);
     this.taken = without && { who: read.who, ...without };
-    return this.ask(without === undefined || without.text === query ? NO_QUERY : without.text);
+    return this.judge("query", without === undefined || without.text === query ? NO_QUERY : without.text);
   }
 
   /** Takes a goal out that is no syntax; its clause where that does not help, and where no goal is wrong. */
@@ -119,7 +115,7 @@ class Judged {
     without.names.forEach((name) => this.names.add(name));
     this.isOpen ||= without.isAnybodys === true;
     this.readable = without.text;
-    return this.judge(without.text);
+    return this.judge("text", without.text);
   }
 
   /** Takes a test out, or a variable that stands in a head again; the clause where nothing was told of these. */
@@ -128,20 +124,15 @@ class Judged {
     const withoutTest = (text) => TakingOut.withoutGoal(text, cause)?.text;
     const mend = number === "F4" ? (text) => TakingOut.withoutRepeated(text, clause, name) : withoutTest;
     const mended = cause === undefined ? undefined : mend(this.text);
-    if (mended === undefined || mended === this.text) return this.judge(TakingOut.withoutClause(this.text, clause));
+    if (mended === undefined || mended === this.text) return this.judge("text", TakingOut.withoutClause(this.text, clause));
     this.mends.set(clause, [...this.mends.get(clause) ?? [], mend]);
-    return this.judge(mended);
+    return this.judge("text", mended);
   }
 
-  judge(text) {
-    const isOther = text !== this.text;
-    this.text = text;
-    return isOther;
-  }
-
-  ask(query) {
-    const isOther = query !== this.query;
-    this.query = query;
+  /** From now on a text is judged in place of the `text` or `query` before; false where it is the same. */
+  judge(which, text) {
+    const isOther = text !== this[which];
+    this[which] = text;
     return isOther;
   }
 

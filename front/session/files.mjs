@@ -19,6 +19,9 @@ const isFile = (file) => tried(() => fs.statSync(file).isFile(), false);
 /** Is there something that is no file, as a pipe? Then it may be read but once. */
 const isNoFile = (file) => tried(() => !fs.statSync(file).isFile(), false);
 
+/** Is it a device or a pipe, which might be read without end? */
+const isEndless = (file) => isNoFile(file) && !fs.statSync(file).isDirectory();
+
 /** The bytes of a file, piece by piece. */
 function* piecesOf(file) {
   const from = fs.openSync(file, "r");
@@ -143,4 +146,4 @@ const NO_VERSION = "is no version: save tells the whole session, save 1 the kept
 /** Why a word names no file to save into: a number is taken for a version. Undefined where it names one. */
 const whyNoName = (word) => (/^\d+$/.test(word) ? `${word} ${NO_VERSION} ./${word}` : undefined);
 
-export { beginningOf, isFile, isNoFile, lineOf, tried, whyNoName, writeWhole };
+export { beginningOf, isEndless, isFile, isNoFile, lineOf, tried, whyNoName, writeWhole };

@@ -11,21 +11,6 @@ const FROM_START = 0, FROM_HERE = 1;
 const NOWHERE = 16; // the place given with "no memory"; nobody looks there
 const FEATURES = 32; // bytes that say what a processor can do
 
-// Bytes that are read from a place on.
-class Reader {
-  constructor(bytes) {
-    this.bytes = bytes;
-    this.at = 0;
-  }
-
-  // The next bytes, so many at most.
-  next(most) {
-    const piece = this.bytes.subarray(this.at, this.at + most);
-    this.at += piece.length;
-    return piece;
-  }
-}
-
 // What is thrown where the program ends itself.
 class Ended {
   constructor(status) {
@@ -39,7 +24,7 @@ class Host {
     this.words = words;
     this.files = files;
     this.full = full;
-    this.open = new Map([[INPUT, new Reader(new Uint8Array(0))]]);
+    this.open = new Map([[INPUT, { bytes: new Uint8Array(0), at: 0 }]]); // by their descriptors bytes, and where they are read next
     this.lastFile = FIRST_FILE - 1;
     this.inputEnded = false;
     this.written = new Map([[OUTPUT, []], [ERRORS, []]]);
@@ -59,7 +44,7 @@ class Host {
   // Adds bytes to the input that is not read yet.
   feed(bytes) {
     const { bytes: before, at } = this.open.get(INPUT);
-    this.open.set(INPUT, new Reader(joined([before.subarray(at), bytes])));
+    this.open.set(INPUT, { bytes: joined([before.subarray(at), bytes]), at: 0 });
   }
 
   // Behind what was fed, the input ends.
@@ -114,7 +99,7 @@ class Host {
     const bytes = this.files.get(name);
     if (bytes === undefined) return this.fail(NO_SUCH_FILE);
     this.lastFile += 1;
-    this.open.set(this.lastFile, new Reader(bytes));
+    this.open.set(this.lastFile, { bytes, at: 0 });
     return this.lastFile;
   }
 
@@ -123,7 +108,8 @@ class Host {
     this.reading.before();
     const reader = this.open.get(descriptor);
     if (reader === undefined) return this.fail(BAD_DESCRIPTOR);
-    const piece = reader.next(most);
+    const piece = reader.bytes.subarray(reader.at, reader.at + most);
+    reader.at += piece.length;
     if (piece.length === 0 && descriptor === INPUT && !this.inputEnded) this.reading.wait();
     this.bytes(to, piece.length).set(piece);
     return piece.length;

@@ -23,6 +23,12 @@ class Ended extends Error {
   }
 }
 
+/** What a promise gives; where the program ends beneath it, what `otherwise` makes of that. */
+const unlessEnded = (promise, otherwise) => promise.catch((error) => {
+  if (error instanceof Ended) return otherwise(error);
+  throw error;
+});
+
 // A line after each other line, whose reply ends the other's. No session has such a variable, and each line has a
 // reply of a line at least: so the first line of a reply is never the mark.
 const MARK = "show _4294967295_9", MARK_REPLY = "F23 no variable\n";
@@ -299,4 +305,4 @@ function open(words, native = nativeProgram(), files = new Map()) {
   return native === undefined ? new EngineSession(words, files) : new NativeSession(native, words, files);
 }
 
-export { open, nativeProgram, ofPage, Ended, HANDED };
+export { open, nativeProgram, ofPage, unlessEnded, Ended, HANDED };

@@ -26,18 +26,12 @@ function whyNotLoaded(file, refusal) {
   return [`${file}:${number}: ${line ?? "the file ends before this line"}`, "the line is not of its form, or its step cannot be taken: is it of this program and query?"];
 }
 
-/** The line of standard error that refuses a text or a file: which of them, and the refusal. Nothing where it refuses none. */
-function readRefusal(line) {
-  const [, who, refusal] = /^(program|query|history|schedule): (F\d+ .*)$/.exec(line) ?? [];
-  return { who, refusal };
-}
-
 /**
  * What helps with a line of standard error that refuses a text or a file: lines, and the cause in a text where there is
  * one. `file` and `load` are the names of the program's and the history's files.
  */
 function whyRefused(line, { text, query, file, load }) {
-  const { who, refusal } = readRefusal(line);
+  const [, who, refusal] = /^(program|query|history|schedule): (F\d+ .*)$/.exec(line) ?? [];
   if (who === undefined) return { lines: [] };
   if (refusal.startsWith("F26")) return { lines: whyNotRead(who === "history" ? load : file) };
   if (who === "history") return { lines: whyNotLoaded(load, refusal) };

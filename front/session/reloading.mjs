@@ -5,7 +5,7 @@ import * as Replies from "../protocol/replies.mjs";
 import { wordsOfQuery } from "../protocol/words.mjs";
 import { plural } from "../run/reasons.mjs";
 import * as ReloadPlan from "../run/reload_plan.mjs";
-import { Ended } from "./program.mjs";
+import { unlessEnded } from "./program.mjs";
 import { Session } from "./session.mjs";
 import { isWhole } from "./way_back.mjs";
 
@@ -19,14 +19,9 @@ const NO_MEMORY = "memory was refused for the history; the session stands";
 const probeOf = ({ words, native, given: { query } }) => new Session(wordsOfQuery(words, query), native);
 
 /** The line at which a history does not load by which a session is to go on; undefined where none is wrong. */
-async function lineRefused({ words, native }, handed) {
-  try {
-    await new Session(words, native, handed).tryOut();
-    return undefined;
-  } catch (error) {
-    if (!(error instanceof Ended)) throw error;
-    return /^history: F24 history line (\d+)$/.exec(error.errors.trim())?.[1];
-  }
+function lineRefused({ words, native }, handed) {
+  const lineIn = ({ errors }) => /^history: F24 history line (\d+)$/.exec(errors.trim())?.[1];
+  return unlessEnded(new Session(words, native, handed).tryOut(), lineIn);
 }
 
 /** The steps of a shelf that can stand there afterwards: of those that may, each goes that the console cannot take. */
@@ -58,8 +53,7 @@ async function reloadOf(session, { clauses, predicates, bytes }) {
   return { plan, shelved, unshelved, unspied, handed: handedWith(shelved) };
 }
 
-const oneLine = (text) => text.replace(/\s*\n\s*/g, " ");
-const clauseLine = (word) => ({ number, line, text }) => `${word}: clause ${number} (line ${line}) ${oneLine(text)}`;
+const clauseLine = (word) => ({ number, line, text }) => `${word}: clause ${number} (line ${line}) ${text.replace(/\s*\n\s*/g, " ")}`;
 const stepLine = (word) => (step) => `${word}: step ${step.number}, ${Replies.wordsOf(step)}`;
 
 /** What has changed, and which steps go, in words. */

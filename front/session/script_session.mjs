@@ -5,6 +5,21 @@ import * as Replies from "../protocol/replies.mjs";
 
 const MOST_KEPT = 20_000; // steps that are kept as they come; of more, the program is asked again where somebody looks
 
+/**
+ * The lines of the reply to a line, after those that `hear` took as they came, where it is there. `learn` is told all
+ * of them first, and whether they are the reply's first ones.
+ */
+async function asked(asker, line, learn, hear) {
+  let isFirst = true;
+  const last = await asker.ask(line, hear && ((lines) => {
+    learn(lines, isFirst);
+    isFirst = false;
+    return hear(lines);
+  }));
+  learn(last, isFirst);
+  return last;
+}
+
 class ScriptSession extends Session {
   constructor(words) {
     super(words);
@@ -14,19 +29,7 @@ class ScriptSession extends Session {
 
   /** The lines of the reply to a line, after those that `hear` took as they came. */
   async ask(line, hear) {
-    const text = String(line);
-    let isFirst = true;
-    const learn = (lines) => {
-      this.learn(text, lines, isFirst);
-      isFirst = false;
-    };
-    const handOn = (lines) => {
-      learn(lines);
-      return hear(lines);
-    };
-    const last = await this.program.ask(line, hear && handOn);
-    learn(last);
-    return last;
+    return asked(this.program, line, (lines, isFirst) => this.learn(String(line), lines, isFirst), hear);
   }
 
   /** Learns what lines of a reply tell of the steps. */
@@ -59,4 +62,4 @@ class ScriptSession extends Session {
   }
 }
 
-export { ScriptSession };
+export { ScriptSession, asked };

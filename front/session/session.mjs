@@ -83,15 +83,9 @@ class Session {
 
   /** A program begun with the words and the texts as they are known, which goes on from a history, where one is given. */
   another(history) {
-    const { words, files } = this.handing(history);
-    return Program.open(words, this.native, files);
-  }
-
-  /** The words with which the program is begun, and the texts that they name: the program as it is known, and a history where one is given. */
-  handing(history) {
-    const { words, bytes } = this, files = new Map([[HANDED.program, bytes]]);
-    if (history === undefined) return { words: wordsOfProgram(words, HANDED.program), files };
-    return { words: wordsFrom(words, HANDED), files: files.set(HANDED.history, Buffer.from(history, "latin1")) };
+    const { words, native, bytes } = this, files = new Map([[HANDED.program, bytes]]);
+    if (history === undefined) return Program.open(wordsOfProgram(words, HANDED.program), native, files);
+    return Program.open(wordsFrom(words, HANDED), native, files.set(HANDED.history, Buffer.from(history, "latin1")));
   }
 
   /** The names of the query's variables, as far as they are written. */
@@ -152,13 +146,11 @@ class Session {
   }
 
   /** The goals as they stand; undefined where the console lists none. */
-  async goalsTold() {
-    try {
-      return await this.goals();
-    } catch (error) {
+  goalsTold() {
+    return this.goals().catch((error) => {
       if (error instanceof NotTold) return undefined;
       throw error;
-    }
+    });
   }
 
   async goalNamed(name) {
@@ -196,7 +188,7 @@ class Session {
 
   /** Another program, at which the session stands as before the line that is asked. */
   async beginAgain() {
-    const { words, files } = this.handing(this.way.history), program = this.beginning = Program.open(words, this.native, files);
+    const program = this.beginning = this.another(this.way.history);
     try {
       await program.ask("goals");
       await this.way.play(program);

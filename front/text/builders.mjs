@@ -1,6 +1,5 @@
 // Which arguments a program's bodies may bind, and which heads want one that no body makes. Pure.
 import * as CheckerCauses from "./checker_causes.mjs";
-import * as Cures from "./cures.mjs";
 import * as Print from "./print.mjs";
 import * as Reader from "./reader.mjs";
 import * as Tokens from "./tokens.mjs";

@@ -13,19 +13,17 @@ const caused = (which, { token, title, hints }) => ({ which, line: token.line, c
 
 /** The cause of a refusal such as `F2 syntax at 1:8`, of a text; undefined where there is nothing to say. */
 function causeOf(refusal, { text, which, isQuery = false, program = text }) {
-  const [, number, rest] = /^(F\d+) (.*)$/.exec(refusal) ?? [];
+  const [, rest] = /^F\d+ (.*)$/.exec(refusal) ?? [];
   const syntax = /^syntax at (\d+):(\d+)$/.exec(rest), clause = /^not flat in clause (\d+)$/.exec(rest);
   const twice = /^variable (\w+) repeated in the head of clause (\d+)$/.exec(rest), call = /^undefined (\w+)\/(\d+)$/.exec(rest);
-  if (number === "F2" && syntax) {
+  if (syntax) {
     const found = SyntaxCauses.causeOf(text, { line: Number(syntax[1]), column: Number(syntax[2]) }, isQuery, program);
     return caused(which, { ...found, title: `syntax: ${found.title}` });
   }
-  if (!clause && !twice && !call) return undefined;
   const tokens = Tokens.tokensOf(text);
-  if (number === "F3" && clause) return caused(which, CheckerCauses.notFlat(tokens, Number(clause[1])));
-  if (number === "F4" && twice) return caused(which, CheckerCauses.notLinear(tokens, twice[1], Number(twice[2]), text));
-  if (number === "F5" && call) return caused(which, CheckerCauses.undefinedCall(Tokens.tokensOf(program), tokens, call[1], Number(call[2]), isQuery));
-  return undefined;
+  if (clause) return caused(which, CheckerCauses.notFlat(tokens, Number(clause[1])));
+  if (twice) return caused(which, CheckerCauses.notLinear(tokens, twice[1], Number(twice[2]), text));
+  return call ? caused(which, CheckerCauses.undefinedCall(Tokens.tokensOf(program), tokens, call[1], Number(call[2]), isQuery)) : undefined;
 }
 
 const bytesOf = (text) => new TextEncoder().encode(text);

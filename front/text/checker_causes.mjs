@@ -196,11 +196,6 @@ function notLinear(tokens, name, number, program) {
   return causeAt(token, `not linear, clause ${number}: ${name} stands twice in the head`, ...cures);
 }
 
-/** The predicates that a program's clauses define, by name and arity. */
-function definedIn(tokens) {
-  return [...new Set(Tokens.clausesOf(tokens).map((clause) => Tokens.predicateAt(clause, 0)))];
-}
-
 /** The first call of a predicate in a text; its first token where there is none. */
 function callIn(tokens, name, arity, isQuery) {
   const isGoal = (place) => (isQuery && place === 0) || [",", "|", ":-"].includes(tokens[place - 1]?.text);
@@ -214,7 +209,8 @@ function callIn(tokens, name, arity, isQuery) {
 
 /** F5: the call, and which predicate may have been meant. */
 function undefinedCall(program, tokens, name, arity, isQuery) {
-  const defined = definedIn(program), near = Nearest.predicatesNamed(name, defined), isSame = near[0]?.startsWith(`${name}/`);
+  const defined = [...new Set(Tokens.clausesOf(program).map((clause) => Tokens.predicateAt(clause, 0)))];
+  const near = Nearest.predicatesNamed(name, defined), isSame = near[0]?.startsWith(`${name}/`);
   const hints = [];
   if (near.length > 0) hints.push(`there is ${near.join(", ")}: is ${isSame ? "an argument missing, or one too many" : "it that"}?`);
   if (Object.hasOwn(Habits.PREDICATES, name)) hints.push(Habits.PREDICATES[name]);

@@ -1,6 +1,9 @@
 // What people write from other languages and what stands for it here: marks, words of guards, predicates that are built in elsewhere.
 const COMMENT = ["/* .. */ is no comment here", "a comment begins with % and ends with its line"];
 
+/** What is said of several words, each by its name. */
+const each = (words, say) => Object.fromEntries(words.map((word) => [word, say(word)]));
+
 // Marks, by how the text goes on at the place of the refusal: `[pattern, what is said, what to write instead ..]`.
 // Openings, as {X}, are filled in by own_words.
 /** @type {[RegExp, string, string][]} */
@@ -45,10 +48,8 @@ const PAIRS = {
   "=>": ["=> is written >=", "\"at least\" is >=; a clause is head :- guard | body."],
   "<-": ["<- is written :-", "a clause is: head :- guard | body."],
   "->": ["there is no ->", "write two clauses, each with its guard: {HEAD} :- .. | .."],
-  "--": ["-- is not of the language", "a variable gets one value; name a new one: {N1} := {N} - 1"],
-  "++": ["++ is not of the language", "a variable gets one value; name a new one: {N1} := {N} + 1"],
-  "+=": ["+= is not of the language", "a variable gets one value; name a new one: {N1} := {N} + {Y}"],
-  "-=": ["-= is not of the language", "a variable gets one value; name a new one: {N1} := {N} - {Y}"],
+  ...each(["--", "++", "+=", "-="], (mark) =>
+    [`${mark} is not of the language`, `a variable gets one value; name a new one: {N1} := {N} ${mark[0]} ${mark[1] === "=" ? "{Y}" : "1"}`]),
   "=/": ["=/= is written =\\=", "{X} =\\= {Y}, for numbers, in the guard"],
   "||": ["there is no \"or\"", "write two clauses"],
   "**": ["there is no operator **", "multiply: {R} := {POWER}"],
@@ -81,36 +82,30 @@ const WORDS = {
 
 // Tests of other languages.
 const TESTS = {
-  otherwise: ["otherwise is not of this language", "write the opposite of the other guards{OPPOSITE}"],
-  alternatively: ["alternatively is not of this language", "write the opposite of the other guards{OPPOSITE}"],
+  ...each(["otherwise", "alternatively"], (word) => [`${word} is not of this language`, "write the opposite of the other guards{OPPOSITE}"]),
   else: ["there is no else", "write the opposite of the other guards{OPPOSITE}"],
-  nonvar: ["nonvar is written wait", "wait({V}) says yes when {V} is bound"],
+  ...each(["nonvar", "bound", "known", "data"], (word) => [`${word} is written wait`, "wait({V}) says yes when {V} is bound"]),
   ground: ["there is no test ground", "wait({V}) says yes when {V} is bound, whatever stands in it"],
-  var: ["no test tells that a variable is unbound", "it may be bound later; wait({V}), integer({V}), atom({V}), list({V}) wait until it is"],
-  unbound: ["no test tells that a variable is unbound", "it may be bound later; wait({V}), integer({V}), atom({V}), list({V}) wait until it is"],
-  bound: ["bound is written wait", "wait({V}) says yes when {V} is bound"],
-  known: ["known is written wait", "wait({V}) says yes when {V} is bound"],
-  data: ["data is written wait", "wait({V}) says yes when {V} is bound"],
+  ...each(["var", "unbound"], () =>
+    ["no test tells that a variable is unbound", "it may be bound later; wait({V}), integer({V}), atom({V}), list({V}) wait until it is"]),
   diff: ["there is no test diff", "for numbers write {V} =\\= {W}; for other terms write a clause for each case"],
   number: ["number is written integer", "all numbers are integers"],
   is_list: ["is_list is written list", "list({V}) says yes to [] and to a cell"],
   atomic: ["there is no test atomic", "use integer({V}) in one clause and atom({V}) in another"],
   compound: ["there is no test compound", "the head says it, as {NAME}(f({V})) :- .."],
-  fail: ["there is no fail", "drop the clause: a goal fails where no clause says yes"],
-  false: ["there is no false", "drop the clause: a goal fails where no clause says yes"],
+  ...each(["fail", "false"], (word) => [`there is no ${word}`, "drop the clause: a goal fails where no clause says yes"]),
 };
 
 // Predicates that are built in elsewhere, and what stands for them.
 const NO_OUTPUT = "there is no output: give the process a list, and look at it by `show`";
 const PREDICATES = {
-  write: NO_OUTPUT, writeln: NO_OUTPUT, print: NO_OUTPUT, format: NO_OUTPUT, nl: NO_OUTPUT, printf: NO_OUTPUT, println: NO_OUTPUT, display: NO_OUTPUT,
+  ...each(["write", "writeln", "print", "format", "nl", "printf", "println", "display"], () => NO_OUTPUT),
   read: "there is no input but streams: write instream(S) in the query, and feed it by `in 1 TERM`",
   fail: "there is no fail: a goal fails where no clause says yes", false: "there is no false: a goal fails where no clause says yes",
   not: "there is no negation: write a clause for the other case", halt: "`quit` ends a session",
   assert: "a program does not change while it runs: hand on what is to be remembered as an argument", assertz: "a program does not change while it runs: hand on what is to be remembered as an argument",
   findall: "there is no search for all answers: a list is made by a process that goes on with its tail",
-  wait: "wait is a test, and stands before the bar", integer: "integer is a test, and stands before the bar",
-  atom: "atom is a test, and stands before the bar", list: "list is a test, and stands before the bar",
+  ...each(["wait", "integer", "atom", "list"], (word) => `${word} is a test, and stands before the bar`),
   instream: "instream takes one variable, and stands in the query: instream(S)",
   functor: "the head takes a term apart, as p(f(X)) :- ..", arg: "the head takes a term apart, as p(f(X)) :- ..",
   call: "goals are no terms: `call` is not there", is: "`is` is written :=, as Y := X + 1",

@@ -19,7 +19,7 @@ function sidesAt(where, mark) {
 /** An if-then-else as two clauses, with the clause's head and the condition. */
 function twoClauses(where) {
   const clause = clauseOf(where), head = OwnWords.headOf(clause), named = (head && Cures.textOf(head)) ?? "p(X,Y)";
-  const arrow = clause.findIndex((token, place) => token.text === "-" && clause[place + 1]?.text === ">");
+  const arrow = clause.findIndex(Tokens.isArrow);
   const { from } = OwnWords.goalAt(clause, { from: arrow, to: arrow + 2 }), condition = clause.slice(from, arrow);
   const other = Cures.oppositeOf(condition), start = "write two clauses, each with its guard: ";
   if (other === undefined) return `${start}${named} :- .. | ..`;

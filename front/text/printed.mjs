@@ -43,6 +43,9 @@ function predicateOf(call) {
   return `${call.slice(0, open)}/${splitOutside(call.slice(open + 1, -1), ",").length}`;
 }
 
+/** Is a predicate, as `price/2`, the one that a word names, with or without the number of its arguments? */
+const isNamed = (predicate, word) => predicate === word || predicate?.split("/")[0] === word;
+
 /**
  * Where the chain of a term's bindings ends, in any form of terms: `boundTo` gives what a variable is bound to, and undefined for all
  * other terms. `pass` is told each variable on the way.
@@ -60,4 +63,4 @@ function endOfChain(term, boundTo, pass = () => {}) {
   return end;
 }
 
-export { splitOutside, variablesIn, numbersOf, nameParts, sortOfText, predicateOf, endOfChain };
+export { splitOutside, variablesIn, numbersOf, nameParts, sortOfText, predicateOf, isNamed, endOfChain };

@@ -43,15 +43,16 @@ class Reading {
     return { variable: `_${UNWRITTEN}${this.lone}` };
   }
 
-  terms() {
-    const terms = [this.term()];
-    while (this.takes(",")) terms.push(this.term());
-    return terms;
+  /** What one of the ways below reads, again and again with commas between. */
+  row(read) {
+    const all = [read.call(this)];
+    while (this.takes(",")) all.push(read.call(this));
+    return all;
   }
 
   list() {
     if (this.takes("]")) return NIL;
-    const items = this.terms();
+    const items = this.row(this.term);
     let list = this.takes("|") ? this.term() : NIL;
     this.take("]");
     for (const item of items.reverse()) list = { name: ".", arguments: [item, list] };
@@ -65,7 +66,7 @@ class Reading {
     if (token.text === "[") return this.list();
     if (token.kind !== "name") throw new SyntaxError(`no term at ${token.line}:${token.column}`);
     if (!this.takes("(")) return { name: token.text, arguments: [] };
-    const terms = this.terms();
+    const terms = this.row(this.term);
     this.take(")");
     return { name: token.text, arguments: terms };
   }
@@ -104,12 +105,6 @@ class Reading {
     return { ...parts, place: { line: first.line, letter: first.letter, endLine: last.line, endLetter: last.letter + last.text.length } };
   }
 
-  body() {
-    const goals = [this.goal()];
-    while (this.takes(",")) goals.push(this.goal());
-    return goals;
-  }
-
   /** A test of a guard, with its text. */
   test() {
     const start = this.at;
@@ -122,13 +117,6 @@ class Reading {
     return { sort: "comparison", operator, left, right: this.expression() };
   }
 
-  tests() {
-    const tests = [this.test()];
-    while (this.takes(",")) tests.push(this.test());
-    this.take("|");
-    return tests;
-  }
-
   /** Does a bar stand, outside of all brackets, before the clause's full stop? */
   hasBar() {
     const stop = this.tokens.findIndex(({ text }, place) => place >= this.at && text === ".");
@@ -139,8 +127,11 @@ class Reading {
     const first = this.next, head = this.term();
     let tests = [], body = [];
     if (this.takes(":-")) {
-      if (this.hasBar()) tests = this.tests();
-      body = this.body();
+      if (this.hasBar()) {
+        tests = this.row(this.test);
+        this.take("|");
+      }
+      body = this.row(this.goal);
     }
     const stop = this.take(".");
     const place = { line: first.line, letter: first.letter, endLine: stop.line };
@@ -190,15 +181,13 @@ function variablesOfGoals(goals) {
   return [...names];
 }
 
-/** The tests that the console counts: `true` is none. */
-const countedTests = (tests) => tests.filter(({ call }) => call?.name !== "true");
-
 /** A clause with what is asked of it often: its predicate, the goals that a step by it makes, the variables that it makes. */
 function finished(clause) {
   const { name, arguments: terms } = clause.head;
   const inHead = addVariables(new Set(), clause.head);
   const news = variablesOfGoals(clause.body).filter((variable) => !inHead.has(variable));
-  const goals = clause.body.filter(({ sort }) => sort !== "true"), tests = countedTests(clause.tests);
+  const goals = clause.body.filter(({ sort }) => sort !== "true");
+  const tests = clause.tests.filter(({ call }) => call?.name !== "true"); // as the console counts them
   return { ...clause, name, arity: terms.length, predicate: `${name}/${terms.length}`, tests, goals, news };
 }
 
@@ -215,7 +204,7 @@ function readProgram(text) {
 
 /** The goals of a query or of what is asked for, `true` left out, and the names of its variables. */
 function readQuery(text) {
-  const body = new Reading(text).body();
+  const reading = new Reading(text), body = reading.row(reading.goal);
   return { goals: body.filter(({ sort }) => sort !== "true"), variables: variablesOfGoals(body) };
 }
 

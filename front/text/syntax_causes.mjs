@@ -42,7 +42,7 @@ function declaration({ token, next, here, isQuery }) {
   return isDirective ? { ...cause("there are no directives and modules", "drop this line"), at: first } : undefined;
 }
 
-const hasArrow = (tokens) => tokens.some((token, place) => token.text === "-" && tokens[place + 1]?.text === ">" && touches(token, tokens[place + 1]));
+const hasArrow = (tokens) => tokens.some((token, place) => Tokens.isArrow(token, place, tokens) && touches(token, tokens[place + 1]));
 
 /** A semicolon, which is "or" in a body, the end of a clause elsewhere, or what stands before an else. */
 function semicolon(where) {

@@ -62,7 +62,6 @@ function replaced(text, { from, to }, clause = "") {
 
 // Where one of these stands, what is wrong may be more than a goal: a text in quotes, or goals of which one is chosen.
 const BEYOND = new Set([..."\"'`“”„‘’{};", "if", "then", "else", "when"]);
-const isArrow = ({ text }, place, tokens) => text === "-" && tokens[place + 1]?.text === ">";
 
 /**
  * The goal or test around a token, from where to where: of a query's tokens, or of those of a clause after its head.
@@ -70,7 +69,7 @@ const isArrow = ({ text }, place, tokens) => text === "-" && tokens[place + 1]?.
  */
 function goalAround(tokens, place, { from, to }) {
   const part = tokens.slice(from, to), start = tokens.slice(from, place).findLastIndex(isNeck);
-  if (part.some(({ text }) => BEYOND.has(text)) || part.some(isArrow)) return undefined;
+  if (part.some(({ text }) => BEYOND.has(text)) || part.some(Tokens.isArrow)) return undefined;
   let depth = 0, first = from + start + 1, end = to;
   for (let at = first; at < to; at += 1) {
     depth += Tokens.depthOf([tokens[at]]);

@@ -116,6 +116,9 @@ function clausesOf(tokens) {
 const commentBefore = (tokens, place) => tokens.slice(0, place + 1).findLast((token, at) =>
   token.text === "/" && tokens[at + 1]?.text === "*" && touches(token, tokens[at + 1]));
 
+/** Does an arrow, `->`, begin at a token, the one at a place of tokens? */
+const isArrow = (token, place, tokens) => token.text === "-" && tokens[place + 1]?.text === ">";
+
 /** How many arguments the call has whose name is the token at a place. */
 function arityAt(tokens, place) {
   if (tokens[place + 1]?.text !== "(") return 0;
@@ -160,6 +163,6 @@ function endOfCall(tokens, place) {
 const headOf = (clause) => clause.slice(0, endOfCall(clause, 0) + 1);
 
 export {
-  tokensOf, clausesOf, clausesIn, commentBefore, arityAt, predicateAt, headOf, callBefore, endOfCall, depthOf, openBrackets,
+  tokensOf, clausesOf, clausesIn, commentBefore, isArrow, arityAt, predicateAt, headOf, callBefore, endOfCall, depthOf, openBrackets,
   barOutside, touches, OPERATORS, COMPARISONS,
 };
