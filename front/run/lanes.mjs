@@ -583,9 +583,9 @@ function shrink(view, options) {
 }
 
 /**
- * The places of a run. `run` has graph, goals, shelf, texts and clauses; `options.by` is `record` or `depth`, `options.room` the
- * width that there is, `options.top` the room above the first lane, `options.high` the height that all is to fit into, if it is, and
- * `options.isWhole` whether the whole width of a short run is to be seen.
+ * The places of a run. `run` has graph, goals, shelf, texts and clauses; `options.by` is `record` or `depth`,
+ * `options.room` the width that there is, `options.top` the room above the first lane, `options.high` the height that
+ * all is to fit into, if it is, and `options.isWhole` whether the whole width of a short run is to be seen.
  */
 function layout(run, options) {
   const { lanes, laneOf, kinds } = run.placed || lanesOf(run);
