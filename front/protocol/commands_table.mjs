@@ -23,6 +23,8 @@ const CommandsTable = [
     tells: "tell on which steps step N depends", more: "" },
   { name: "causes", form: "causes", effect: "looks", follows: "",
     tells: "tell so of all kept steps", more: "the steps on which each depends" },
+  { name: "effects", form: "effects N", effect: "looks", follows: "kept",
+    tells: "list the steps that depend on step N", more: "" },
   { name: "who", form: "who X", effect: "looks", follows: "variable",
     tells: "tell which steps bound variable X", more: "" },
   { name: "explain", form: "explain X or G", effect: "looks", follows: "value",

@@ -19,6 +19,7 @@ mod FoundReplies
 pub mod PartReplying
 pub mod BlameReplying
 pub mod LookReplies
+pub mod EffectReplies
 pub mod Ordering
 pub mod Answering
 pub mod LineMemory

@@ -8,7 +8,7 @@ drop_at rs i r e =
     drop-cons rs i r (slice_get_within rs i r e) ∙ (λ k. get_or_from_slice_get rs i r r e k ∷ drop (more k) rs)
 
 -- Where a text and the lines from a place on are the whole, so are the text with the line there and the lines after it.
-line_on : (rs : List Record) (i : ℕ) (r : Record) (before later all : List ℕ) → slice_get rs i ≡ Some r → before ++ record_lines (drop i rs) ≡ all
+pub line_on : (rs : List Record) (i : ℕ) (r : Record) (before later all : List ℕ) → slice_get rs i ≡ Some r → before ++ record_lines (drop i rs) ≡ all
     → later ≡ before ++ record_lines (r ∷ []) → later ++ record_lines (drop (i + 1) rs) ≡ all
 line_on rs i r before later all there whole wrote =
     let rest = record_lines (drop (i + 1) rs) in

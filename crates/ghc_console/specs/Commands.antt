@@ -8,7 +8,7 @@ use Rattle.ghc_console.specs.Words.{behind, goal_name_of, is_printable, is_varia
 use Rattle.ghc_console.specs.BlameWords.{blame_of}
 use Rattle.ghc_console.specs.PredicateWords.{predicate_of}
 use Rattle.ghc_console.specs.declared.command.LineCommand.{LineCommand}
-use Rattle.ghc_console.specs.declared.command.LineCommand.TheVariants.{Nothing, Step, Obey, Show, Records, Since, Causes, GoalOf, Clauses, Goals, Why, Who, Explain, ExplainGoal, WhyNot, WhyNotGoal, Part, Keep, KeepGoal, Shelf, Save, SaveSteps, Spy, Unspy, Input, Ask, Leap, Skip, Quit, Unknown}
+use Rattle.ghc_console.specs.declared.command.LineCommand.TheVariants.{Nothing, Step, Obey, Show, Records, Since, Causes, GoalOf, Clauses, Goals, Why, Effects, Who, Explain, ExplainGoal, WhyNot, WhyNotGoal, Part, Keep, KeepGoal, Shelf, Save, SaveSteps, Spy, Unspy, Input, Ask, Leap, Skip, Quit, Unknown}
 
 -- A step with the goal, by the least clause that accepts, where the word named one.
 abbrev pub step_with : Option GoalName → LineCommand
@@ -49,7 +49,7 @@ command_of_one_word name = if bytes_eq name (codes "records") then Records
     else (if bytes_eq name (codes "quit") then Quit
     else (if bytes_eq name (codes "causes") then Causes else Unknown))))))
 
--- The command of a word with a number: `undo N`, `redo N`, `roll N`, `why N`, `end K`, `leap K`, `since N` or `goal N`.
+-- The command of a word with a number: `undo N`, `redo N`, `roll N`, `why N`, `end K`, `leap K`, `since N`, `goal N` or `effects N`.
 abbrev pub command_with_number : List ℕ → ℕ → LineCommand
 command_with_number name number = if bytes_eq name (codes "undo") then Obey (Undo number)
     else (if bytes_eq name (codes "redo") then Obey (Redo number)
@@ -58,7 +58,8 @@ command_with_number name number = if bytes_eq name (codes "undo") then Obey (Und
     else (if bytes_eq name (codes "end") then Obey (Close number)
     else (if bytes_eq name (codes "leap") then leap_of number
     else (if bytes_eq name (codes "since") then Since number
-    else (if bytes_eq name (codes "goal") then GoalOf number else Unknown)))))))
+    else (if bytes_eq name (codes "goal") then GoalOf number
+    else (if bytes_eq name (codes "effects") then Effects number else Unknown))))))))
 
 -- The same, where the next word said a number.
 abbrev pub numbered : List ℕ → Option ℕ → LineCommand

@@ -1,4 +1,4 @@
--- The replies of commands that look and change nothing. They look at the record from a step on, at all causes, at the goal that a step took, and at what clauses say to a goal.
+-- The replies of commands that look and change nothing. They look at the record from a step on, at what depends on a step, at all causes, at the goal that a step took, and at what clauses say to a goal.
 use Rattle.std.specs.Prelude.{◌≡◌, ◌⊎◌, ℕ, List, [], ◌∷◌, ◌++◌, codes, length, map, Option, Some, None}
 use Rattle.std.specs.Fmt.{decimal}
 use Rattle.std.specs.FinMap as finite
@@ -8,6 +8,7 @@ use Rattle.ghc_term.specs.declared.goal_name.GoalName.{GoalName}
 use Rattle.ghc_term.specs.declared.var_name.VarName.{VarName}
 use Rattle.ghc_term.specs.Tree.{Tree}
 use Rattle.ghc_term.specs.Goal.{Goal, call, unify, assign, stream}
+use Rattle.ghc_term.specs.Lists.{In}
 use Rattle.ghc_term.specs.Sets.{Variables}
 use Rattle.ghc_term.specs.Store.{value_at}
 use Rattle.ghc_flat.specs.Clause.{Clause, Program, IsClause}
@@ -19,10 +20,10 @@ use Rattle.ghc_match.specs.declared.refusal.RefusalPlace.{RefusalPlace}
 use Rattle.ghc_match.specs.declared.refusal.RefusalPlace.TheVariants.{Argument, Test, Value}
 use Rattle.ghc_fire.specs.declared.act.Act.{Act}
 use Rattle.ghc_fire.specs.declared.act.Act.TheVariants.{ByClause as by_clause}
-use Rattle.ghc_records.specs.Record.{Record}
+use Rattle.ghc_records.specs.Record.{Record, numbers}
 use Rattle.ghc_records.specs.inner.Slots.{SlotList, StandsIn}
 use Rattle.ghc_records.specs.StepText.{variables_text}
-use Rattle.ghc_depend.specs.Depend.{IsKeptAs, IsNotKept}
+use Rattle.ghc_depend.specs.Depend.{AreConsequences, IsKeptAs, IsNotKept}
 use Rattle.ghc_core.specs.World.{World}
 use Rattle.ghc_trace.specs.declared.reasons.Reason.{Reason}
 use Rattle.ghc_trace.specs.ReasonText.{reason_text}
@@ -34,6 +35,15 @@ use Rattle.ghc_console.specs.TextLines.{lined, record_lines, refusal, text_lines
 pub data RepliesToSince (w : World) (n : ℕ) : List ℕ → Type 0 where
   tells_since : (before : List Record) (r : Record) (later : List Record) → w.kept ≡ before ++ r ∷ later → r.number ≡ n → RepliesToSince w n (record_lines (r ∷ later))
   since_no_step : IsNotKept w.kept n → RepliesToSince w n (refusal Fault.NotKept)
+
+-- RepliesToEffects w n text: the line of each step that depends on the kept step n, directly or through others, in recorded order, and `none` where there is none. Or the refusal where no such step is kept.
+pub data RepliesToEffects (w : World) (n : ℕ) : List ℕ → Type 0 where
+  tells_effects : (r : Record) (found : List Record) → IsKeptAs w.kept n r → AreConsequences w.kept r found → RepliesToEffects w n (text_or_none (record_lines found))
+  effects_of_no_step : IsNotKept w.kept n → RepliesToEffects w n (refusal Fault.NotKept)
+
+-- The new text is the old one and the lines of the kept steps of these numbers, in this order.
+abbrev pub TellsSteps : List Record → List ℕ → List ℕ → List ℕ → Type 0
+TellsSteps kept ns before after = (steps : List Record) → ((r : Record) → In r steps → In r kept) → numbers steps ≡ ns → after ≡ before ++ record_lines steps
 
 -- on which step the step n depends directly, and for which cause, as `3 1 made`
 abbrev pub cause_text : ℕ → Reason → List ℕ

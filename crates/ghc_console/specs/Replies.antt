@@ -46,7 +46,7 @@ use Rattle.ghc_console.specs.Explaining.{RepliesToExplain, RepliesToExplainGoal}
 use Rattle.ghc_console.specs.WhyNot.{RepliesToWhyNot, RepliesToWhyNotGoal}
 use Rattle.ghc_console.specs.BlameReplies.{RepliesToBlame, RepliesToBlameGoal, RepliesToBlamePlace}
 use Rattle.ghc_console.specs.PartReplies.{RepliesToPart}
-use Rattle.ghc_console.specs.Looks.{RepliesToSince, RepliesToCauses, RepliesToGoalOf, RepliesToClauses}
+use Rattle.ghc_console.specs.Looks.{RepliesToSince, RepliesToCauses, RepliesToEffects, RepliesToGoalOf, RepliesToClauses}
 use Rattle.ghc_console.specs.RunReplies.{TellsRun, RepliesToSkip}
 use Rattle.ghc_console.specs.Keeping.{TellsKept}
 pub use Rattle.ghc_console.specs.Listings.{TellsListing, kept_listed, kept_text, records_listed, records_text, saved_text, session_listed, shelf_listed, shelf_text}
@@ -54,7 +54,7 @@ use Rattle.ghc_console.specs.VariableNamed.{IsVariableNamed}
 use Rattle.ghc_console.specs.AskedFor.{IsReadAskFor}
 use Rattle.ghc_console.specs.Commands.{command_of}
 use Rattle.ghc_console.specs.declared.command.LineCommand.{LineCommand}
-use Rattle.ghc_console.specs.declared.command.LineCommand.TheVariants.{Nothing as nothing, Step as step, Obey as obey, Show as show, Records as records, Since as since, Causes as causes, GoalOf as goal_of, Clauses as clauses, Goals as goals, Why as why, Who as who, Explain as explain, ExplainGoal as explain_goal, WhyNot as why_not, WhyNotGoal as why_not_goal, Part as part, Blame as blame, BlamePlace as blame_place, BlameGoal as blame_goal, Keep as keep, KeepGoal as keep_goal, Shelf as shelf, Save as save, SaveSteps as save_steps, Spy as spy, Unspy as unspy, Input as input, Ask as ask, Leap as leap, Skip as skip, Quit as quit, Unknown as unknown}
+use Rattle.ghc_console.specs.declared.command.LineCommand.TheVariants.{Nothing as nothing, Step as step, Obey as obey, Show as show, Records as records, Since as since, Causes as causes, GoalOf as goal_of, Clauses as clauses, Goals as goals, Why as why, Effects as effects, Who as who, Explain as explain, ExplainGoal as explain_goal, WhyNot as why_not, WhyNotGoal as why_not_goal, Part as part, Blame as blame, BlamePlace as blame_place, BlameGoal as blame_goal, Keep as keep, KeepGoal as keep_goal, Shelf as shelf, Save as save, SaveSteps as save_steps, Spy as spy, Unspy as unspy, Input as input, Ask as ask, Leap as leap, Skip as skip, Quit as quit, Unknown as unknown}
 use Rattle.ghc_console.specs.Reading.{line_limit}
 use Rattle.ghc_console.specs.SessionState.{SessionState, HasClauseFor, LeavesSpies, predicate_text}
 
@@ -170,6 +170,7 @@ Replies lines workers spies w (goal_of n) text v = RepliesToGoalOf lines w n tex
 Replies lines workers spies w (clauses g) text v = RepliesToClauses lines w g text × (v ≡ w)
 Replies lines workers spies w goals text v = RepliesToGoals w text × (v ≡ w)
 Replies lines workers spies w (why n) text v = RepliesToWhy w n text × (v ≡ w)
+Replies lines workers spies w (effects n) text v = RepliesToEffects w n text × (v ≡ w)
 Replies lines workers spies w (who word) text v = RepliesToWho w word text × (v ≡ w)
 Replies lines workers spies w (explain word) text v = RepliesToExplain w word text × (v ≡ w)
 Replies lines workers spies w (explain_goal g) text v = RepliesToExplainGoal w g text × (v ≡ w)

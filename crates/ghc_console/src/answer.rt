@@ -16,6 +16,7 @@ use crate::replies::all_causes::causes;
 use crate::replies::blame::{blame, blame_goal, blame_place};
 use crate::replies::causes::{who, why};
 use crate::replies::clause_lines::clauses;
+use crate::replies::effects::effects;
 use crate::replies::explain::explain;
 use crate::replies::explain_goal::explain_goal;
 use crate::replies::goal_of_step::goal_of;
@@ -53,6 +54,7 @@ fn look(
         LineCommand::GoalOf(number) => goal_of(core, lines, *number, reply),
         LineCommand::Clauses(goal) => clauses(alloc, core, lines, *goal, reply),
         LineCommand::Why(number) => why(alloc, core, *number, reply),
+        LineCommand::Effects(number) => effects(alloc, core, *number, reply),
         LineCommand::Who(word) => who(alloc, core, word.as_str(), reply),
         LineCommand::Explain(word) => explain(alloc, core, word.as_str(), reply),
         LineCommand::ExplainGoal(goal) => explain_goal(alloc, core, *goal, reply),
@@ -162,6 +164,7 @@ fn index_for(debugger: &mut Debugger, command: &LineCommand)
     match command {
         LineCommand::Causes
         | LineCommand::Why(_)
+        | LineCommand::Effects(_)
         | LineCommand::Who(_)
         | LineCommand::Explain(_)
         | LineCommand::ExplainGoal(_)

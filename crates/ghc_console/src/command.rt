@@ -45,6 +45,8 @@ pub enum LineCommand {
     Goals,
     /// The steps on which the step of this number depends.
     Why(u32),
+    /// The steps that depend on the step of this number.
+    Effects(u32),
     /// The steps that bound the chain of the variable that is written so.
     Who(Word),
     /// Where the value of the variable that is written so comes from.
@@ -156,6 +158,9 @@ fn number_command(first_word: &[u8], step: u32) -> LineCommand
     }
     if first_word == b"goal".as_slice() {
         return LineCommand::GoalOf(step);
+    }
+    if first_word == b"effects".as_slice() {
+        return LineCommand::Effects(step);
     }
     LineCommand::Unknown
 }

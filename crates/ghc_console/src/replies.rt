@@ -15,6 +15,7 @@ pub(crate) mod all_causes;
 pub(crate) mod blame;
 pub(crate) mod causes;
 pub(crate) mod clause_lines;
+pub(crate) mod effects;
 pub(crate) mod explain;
 pub(crate) mod explain_goal;
 pub(crate) mod found;

@@ -121,7 +121,8 @@ with_number name n =
     (choose (bytes_eq name (codes "why")) _ _ tt
     (choose (bytes_eq name (codes "end")) _ _ tt
     (choose (bytes_eq name (codes "leap")) _ _ (leap_said n)
-    (choose (bytes_eq name (codes "since")) _ _ tt (choose (bytes_eq name (codes "goal")) _ _ tt tt)))))))
+    (choose (bytes_eq name (codes "since")) _ _ tt
+    (choose (bytes_eq name (codes "goal")) _ _ tt (choose (bytes_eq name (codes "effects")) _ _ tt tt))))))))
 
 numbered : (name : List ℕ) (o : Option ℕ) → IsSaidByLine (commands.numbered name o)
 numbered name None = tt

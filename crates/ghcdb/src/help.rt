@@ -12,6 +12,7 @@ pub const AFTER_HELP: &str = "Commands of the session, a line each:
   clauses G         tell what each clause says to goal G now
   why N             tell on which steps step N depends
   causes            tell so of all kept steps
+  effects N         list the steps that depend on step N
   who X             tell which steps bound variable X
   explain X or G    tell on which steps the value of X, or goal G, rests
   whynot X or G     tell why X is not bound, or why goal G waits

@@ -20,7 +20,7 @@ use Rattle.ghc_console.specs.declared.answered.Answered.TheVariants.{Told as tol
 use Rattle.ghc_console.specs.declared.answered.Listing.{Listing}
 use Rattle.ghc_console.specs.declared.answered.Listing.TheVariants as listing
 use Rattle.ghc_console.specs.declared.command.LineCommand.{LineCommand}
-use Rattle.ghc_console.specs.declared.command.LineCommand.TheVariants.{Leap as leap, Skip as skip, Records as records, Goals as goals, Shelf as shelf, Save as save, SaveSteps as save_steps, Show as show, Since as since, Causes as causes, GoalOf as goal_of, Clauses as clauses, Why as why, Who as who, Explain as explain, ExplainGoal as explain_goal, WhyNot as why_not, WhyNotGoal as why_not_goal, Part as part, Blame as blame, BlamePlace as blame_place, BlameGoal as blame_goal}
+use Rattle.ghc_console.specs.declared.command.LineCommand.TheVariants.{Leap as leap, Skip as skip, Records as records, Goals as goals, Shelf as shelf, Save as save, SaveSteps as save_steps, Show as show, Since as since, Causes as causes, GoalOf as goal_of, Clauses as clauses, Why as why, Effects as effects, Who as who, Explain as explain, ExplainGoal as explain_goal, WhyNot as why_not, WhyNotGoal as why_not_goal, Part as part, Blame as blame, BlamePlace as blame_place, BlameGoal as blame_goal}
 
 -- AsksForRun w c root limit: in the world w the command c asks for a run of at most so many steps. `leap` asks for one of any goals; `skip` for one of those that descend from a goal that is there, with the limit of a run for which no number is said.
 pub data AsksForRun (w : World) : LineCommand → Option GoalName → ℕ → Type 0 where
@@ -54,6 +54,7 @@ looks_up causes = true
 looks_up (goal_of number) = true
 looks_up (clauses goal) = true
 looks_up (why number) = true
+looks_up (effects number) = true
 looks_up (who word) = true
 looks_up (explain word) = true
 looks_up (explain_goal goal) = true

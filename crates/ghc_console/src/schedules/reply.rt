@@ -56,6 +56,7 @@ fn play_command(alloc: Global, world: &mut World, command: LineCommand) -> Optio
         | LineCommand::Clauses(_)
         | LineCommand::Goals
         | LineCommand::Why(_)
+        | LineCommand::Effects(_)
         | LineCommand::Who(_)
         | LineCommand::Explain(_)
         | LineCommand::ExplainGoal(_)
