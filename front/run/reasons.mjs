@@ -73,10 +73,12 @@ async function whyWaits(session, name) {
 }
 
 /** What else goes where a step goes. */
-async function hasConsequences(session, [number]) {
-  if (session.kept.steps.size > MOST_LOOKED) return [`roll ${Number(number)} takes it back with all that depends on it`];
-  const all = (await session.look()).consequencesOf(Number(number));
-  return [`roll ${Number(number)} takes it back with all that depends on it: ${some(all).join(",")}${all.length > MOST ? ` (${all.length} steps)` : ""}`];
+async function hasConsequences(session, [word]) {
+  const number = Number(word), takesAll = `roll ${number} takes it back with all that depends on it`;
+  const effects = session.kept.steps.size > MOST_LOOKED ? undefined : await session.ask(`effects ${number}`);
+  if (effects === undefined || Replies.isRefused(effects)) return [takesAll];
+  const all = [number, ...Replies.readRecords(effects).map((step) => step.number)];
+  return [`${takesAll}: ${some(all).join(",")}${all.length > MOST ? ` (${all.length} steps)` : ""}`];
 }
 
 /** Why a goal has failed. */

@@ -4,7 +4,6 @@ import * as Reader from "../text/reader.mjs";
 import * as Printed from "../text/printed.mjs";
 import * as Print from "../text/print.mjs";
 import * as Replies from "../protocol/replies.mjs";
-import * as Consequences from "./consequences.mjs";
 
 const numbersOf = (name) => name.match(/\d+/g).map(Number);
 
@@ -236,12 +235,6 @@ class Run {
       if (at >= 0) found.push(`_${step.number}_${at + 1}`);
     }
     return found;
-  }
-
-  /** The numbers of a step and of all that depends on it, in recorded order. */
-  consequencesOf(number) {
-    const steps = [...this.kept.steps.values()].map((step) => ({ ...step, ...this.records.get(step.number) })), reached = Consequences.reachedFrom([number], steps);
-    return [...this.kept.steps.keys()].filter((kept) => reached.has(kept));
   }
 }
 

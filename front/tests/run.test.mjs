@@ -5,6 +5,7 @@ import path from "node:path";
 import test from "node:test";
 import { fileURLToPath } from "node:url";
 import * as Asking from "../protocol/asking.mjs";
+import * as Consequences from "../run/consequences.mjs";
 import Kept from "../run/kept.mjs";
 import * as Print from "../text/print.mjs";
 import * as Reader from "../text/reader.mjs";
@@ -60,11 +61,13 @@ test("goals are as the console wrote them, also where a run told none of them", 
 test("a rollback takes the consequences that were told", async () => {
   const { engine } = await engineOfPage();
   for (const given of programs()) {
-    const { kept, run, type, look } = begin(engine, given);
+    const { session, kept, type } = begin(engine, given);
     type("leap 60");
     while (kept.steps.size > 0) {
-      look();
-      const numbers = [...kept.steps.keys()], number = numbers[Math.floor(numbers.length / 2)], told = run.consequencesOf(number).join(",");
+      const numbers = [...kept.steps.keys()], number = numbers[Math.floor(numbers.length / 2)];
+      const told = [number, ...Replies.readRecords(session.line(`effects ${number}`)).map((step) => step.number)].join(",");
+      const reached = Consequences.reachedFrom([number], Replies.readRecords(session.line("records")));
+      assert.strictEqual(numbers.filter((kept) => reached.has(kept)).join(","), told);
       assert.strictEqual(type(`roll ${number}`)[0], `undone ${told}`);
       assert.strictEqual(kept.steps.has(number), false);
     }
