@@ -3,7 +3,7 @@ import { tried } from "../front/session/files.mjs";
 import { ObjectText } from "./objects.mjs";
 import { playStandardInput, write } from "./scripted.mjs";
 
-const LOOKS = /^ *(records|since|explain)( |$)/; // lines of whose objects the run is a part
+const LOOKS = /^ *(records|since|effects|explain)( |$)/; // lines of whose objects the run is a part
 
 /** The text of a goal; empty where it is not known, or so long that it cannot be made. */
 const textOf = (session, goal) => tried(() => session.run.textOf(goal), "");

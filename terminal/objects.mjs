@@ -89,9 +89,13 @@ function judged(reply) {
   };
 }
 
+/** Kept steps, as record lines tell them. */
+const keptSteps = (reply, textOf) => ({ steps: Replies.readRecords(reply).map((record) => step(record, textOf)) });
+
 const REPLIES = {
-  records: (reply, textOf) => ({ steps: Replies.readRecords(reply).map((record) => step(record, textOf)) }),
-  since: (reply, textOf) => ({ steps: Replies.readRecords(reply).map((record) => step(record, textOf)) }),
+  records: keptSteps,
+  since: keptSteps,
+  effects: keptSteps,
   goal: ([line]) => { const found = Replies.readTakenGoal(line); return found === null ? { lines: [line] } : taken(found); },
   clauses: (reply) => ({ clauses: reply.map(Replies.readChoice).filter(Boolean).map(choice) }),
   explain: explanation,

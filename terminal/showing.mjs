@@ -12,8 +12,8 @@ const VALUE = 1600, LINE = 400; // letters that are shown of the terms of a lone
 const AT_ONCE = 500; // lines that are shown before keys are heard again
 
 const LISTINGS = new Set([
-  "records", "since", "goal", "goals", "show", "causes", "why", "who", "explain", "shelf", "clauses", "part", "list",
-  "holders", "whynot",
+  "records", "since", "goal", "goals", "show", "causes", "effects", "why", "who", "explain", "shelf", "clauses", "part",
+  "list", "holders", "whynot",
 ]);
 const OF_STEPS = { tail: 1, what: "step" }, OF_LINES = { tail: 0, what: "line" }; // the last line of steps tells of all
 

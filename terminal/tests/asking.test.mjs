@@ -35,9 +35,9 @@ test("explain and clauses ask one line each, whatever was taken before", AT_MOST
   assert.deepStrictEqual(await client.sent("explain R all"), ["explain R"]);
 });
 
-test("undo that is refused asks for the record, once", AT_MOST, async () => {
+test("undo that is refused asks one line more: what depends on the step", AT_MOST, async () => {
   const client = await spied();
   await client.type("leap");
-  assert.deepStrictEqual(await client.sent("undo 1"), ["undo 1", "records"]);
+  assert.deepStrictEqual(await client.sent("undo 1"), ["undo 1", "effects 1"]);
   assert.deepStrictEqual(await client.sent("undo 2"), ["undo 2"]);
 });

@@ -29,7 +29,7 @@ test("of a run and of listings of more than 40 lines 30 are shown, and all by a 
   const { session, shown } = await ran(13), steps = 41; // three an element, two at the end
   assert.deepStrictEqual([shown.length, shown[20], shown.at(-2)], [33, `% .. ${steps - 30} steps more (records all shows all) ..`, "stopped quiet"]);
   const lines = async (line) => (await session.type(line)).length;
-  const counted = { records: 31, "records all": steps + 1, "records ones": 14, "list": 2, "since 30": 12, "since 1": 31, "since 1 all": steps + 1 };
+  const counted = { records: 31, "records all": steps + 1, "records ones": 14, "list": 2, "since 30": 12, "since 1": 31, "since 1 all": steps + 1, "effects 1": steps - 1, "effects 1 all": steps };
   for (const [line, count] of Object.entries(counted)) assert.strictEqual(await lines(line), count, line);
   assert.deepStrictEqual((await session.type("records"))[20], "% .. 11 lines more (records all shows all) ..");
   assert.deepStrictEqual((await session.type("records all"))[0], "% sent: records");

@@ -88,9 +88,9 @@ test("Tab offers what may follow them", async () => {
   const { front, type } = await begin();
   await type("step");
   const offered = async (line) => (await completionsOf(front.session, line)).words.join(" ");
-  assert.deepStrictEqual([await offered("ex"), await offered("ke"), await offered("si"), await offered("ca")], ["explain ", "keep ", "since ", "causes "]);
+  assert.deepStrictEqual([await offered("ex"), await offered("ke"), await offered("si"), await offered("ca"), await offered("ef")], ["explain ", "keep ", "since ", "causes ", "effects "]);
   assert.deepStrictEqual([await offered("explain "), await offered("keep 1")], ["T _1_1 _1_2 _0_1 1.1 1.2 1.3", "1.1 1.2 1.3"]);
-  assert.deepStrictEqual([await offered("since "), await offered("causes ")], ["1", ""]);
+  assert.deepStrictEqual([await offered("since "), await offered("causes "), await offered("effects ")], ["1", "", "1"]);
   assert.deepStrictEqual([await offered("ask pr"), await offered("ask price(_1"), await offered("ask T = b")], ["price(", "_1_1 _1_2", "bill("]);
   await front.session.end();
 });
@@ -122,5 +122,7 @@ test("their replies as objects", () => {
   assert.deepStrictEqual(objectOf("goal 7", ["7 - ask p(X)"], textOf), { command: "goal 7", ok: true, step: 7, goal: null, act: "ask p(X)", text: null });
   assert.deepStrictEqual(objectOf("clauses 1.2", ["2 waits _1_1,_1_2 line 34", "3 no test 1 line 35"], textOf).clauses, [{ clause: 2, says: "waits", waitsFor: ["_1_1", "_1_2"], line: 34 }, { clause: 3, says: "no", line: 35 }]);
   assert.deepStrictEqual(objectOf("since 5", RECORDS.slice(4), textOf).steps.map(({ step }) => step), [5, 6]);
+  assert.deepStrictEqual(objectOf("effects 4", RECORDS.slice(4), textOf).steps.map(({ step }) => step), [5, 6]);
+  assert.deepStrictEqual(objectOf("effects 6", ["none"], textOf), { command: "effects 6", ok: true, steps: [] });
   assert.deepStrictEqual(objectOf("keep T", ["undone 1,2", "kept 4"], textOf), { command: "keep T", ok: true, ports: [], undone: [1, 2], told: "kept 4" });
 });
