@@ -185,7 +185,8 @@ def commands_table(root, specs, rows):
     yield "| command | what it does | refusals |"
     yield "|---|---|---|"
     for row, refusals in command_rows(root, specs, rows):
-        yield f"| `{row.form}` | {row.tells} | {', '.join(refusals)} |"
+        by_number = sorted(refusals, key=lambda told: int(told[1:].split()[0]))
+        yield f"| `{row.form}` | {row.tells} | {', '.join(by_number)} |"
 
 
 def unlike_formats(root, specs, rows, page):
