@@ -2,8 +2,8 @@
 import fs from "node:fs";
 import path from "node:path";
 import { fileURLToPath } from "node:url";
+import { zip } from "./archive.mjs";
 import { packedFiles, vsixFiles } from "./packing.mjs";
-import { zip } from "./zip.mjs";
 
 const HERE = path.dirname(fileURLToPath(import.meta.url));
 
