@@ -56,7 +56,6 @@ class Adapter {
     this.given = given;
     this.inside = new Inside(session);
     this.blaming = new Blaming(session);
-    this.judged = undefined; // what was told last of who is to blame, and the line
     this.slice = Number(given.slice ?? 1000); // steps of a run, after which a pause is heard
     this.failed = new Set(); // the goals that had failed at the last stop
     this.hasToldEnd = false;
