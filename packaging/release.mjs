@@ -7,7 +7,6 @@ import { fileURLToPath } from "node:url";
 import { ARCHIVE, TIME, packed, put, run, zip } from "../editors/vscode/archive.mjs";
 import { packedFiles, vsixFiles } from "../editors/vscode/packing.mjs";
 import { engineOfPage, moduleOfPage } from "../front/session/engine_of_page.mjs";
-import { debianPlaces, npmPlaces } from "./places.mjs";
 
 const ROOT = path.join(path.dirname(fileURLToPath(import.meta.url)), "..");
 const KILOBYTE = 1024;
@@ -16,6 +15,23 @@ const DESCRIPTION = "Runs programs of Flat GHC step by step, tells what each ste
 const NODE = 18; // the first version of Node that runs it
 // What tools/bundle.py is to join: the engine of the release stands in the place of the page's.
 const MODULES = ["packaging/start.mjs", "front/session/engine_of_page.mjs=packaging/engine_of_release.mjs"];
+const README = "packaging/README.md", MANUAL = "packaging/ghcdb.1";
+
+// What stands beside the program: of each file its place in a package of npm, and its places in Debian.
+const OF_SHELLS = [
+  ["packaging/ghcdb.bash", "completions/ghcdb.bash", "usr/share/bash-completion/completions/ghcdb"],
+  ["packaging/ghcdb.zsh", "completions/_ghcdb", "usr/share/zsh/vendor-completions/_ghcdb"],
+  ["packaging/ghcdb.fish", "completions/ghcdb.fish", "usr/share/fish/vendor_completions.d/ghcdb.fish"],
+];
+const OF_EDITORS = [
+  ["editors/emacs/fghc-mode.el", "editors/emacs/fghc-mode.el", "usr/share/emacs/site-lisp/fghc-mode.el"],
+  ["editors/neovim/ghcdb.lua", "editors/neovim/ghcdb.lua", "usr/share/nvim/site/lua/ghcdb.lua"],
+];
+const OF_VIM = ["ftdetect", "ftplugin", "syntax"].map((folder) => {
+  const name = `editors/vim/${folder}/fghc.vim`, inside = `${folder}/fghc.vim`;
+  return [name, name, `usr/share/vim/vimfiles/${inside}`, `usr/share/nvim/site/${inside}`];
+});
+const BESIDE = [...OF_SHELLS, ...OF_EDITORS, ...OF_VIM];
 
 const read = (name) => fs.readFileSync(path.join(ROOT, name));
 
@@ -57,8 +73,22 @@ function npmFields(version) {
 }
 
 /** The files of a package, by their places in it: what is no file yet is the name of one in the repository. */
-const filled = (places) =>
-  new Map([...places].map(([place, file]) => [place, typeof file === "string" ? read(file) : file]));
+const filled = (files) => new Map(files.map(([place, file]) => [place, typeof file === "string" ? read(file) : file]));
+
+/** The files of the package of npm. */
+function npmFiles(ghcdb, version) {
+  const own = [["package.json", npmFields(version)], ["ghcdb", ghcdb], ["ghcdb.1", MANUAL], ["README.md", README]];
+  const all = [...own, ...BESIDE.map(([name, place]) => [place, name])];
+  return filled(all.map(([place, file]) => [`package/${place}`, file]));
+}
+
+/** The files of the package of Debian. */
+function debianFiles(ghcdb) {
+  const manual = zlib.gzipSync(read(MANUAL), { level: 9 });
+  const own = [["bin/ghcdb", ghcdb], ["share/man/man1/ghcdb.1.gz", manual], ["share/doc/ghcdb/README.md", README]];
+  const beside = BESIDE.flatMap(([name, , ...debian]) => debian.map((place) => [place, name]));
+  return filled([...own.map(([place, file]) => [`usr/${place}`, file]), ...beside]);
+}
 
 /** The package of npm. */
 function tgz(files) {
@@ -81,11 +111,11 @@ function deb(version, files) {
 
 /** The files of a release by their names. */
 function release(version, madeWith) {
-  const ghcdb = program(version, madeWith), manual = zlib.gzipSync(read("packaging/ghcdb.1"), { level: 9 });
+  const ghcdb = program(version, madeWith);
   return new Map([
     ["ghcdb", ghcdb],
-    [`ghcdb-${version}.tgz`, tgz(filled(npmPlaces({ ghcdb, about: npmFields(version) })))],
-    [`ghcdb_${version}_all.deb`, deb(version, filled(debianPlaces({ ghcdb, manual })))],
+    [`ghcdb-${version}.tgz`, tgz(npmFiles(ghcdb, version))],
+    [`ghcdb_${version}_all.deb`, deb(version, debianFiles(ghcdb))],
     [`ghcdb-${version}.vsix`, zip(vsixFiles(packedFiles()))],
   ]);
 }
