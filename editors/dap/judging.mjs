@@ -48,8 +48,8 @@ export default requests({
   /** The frame of the call asked about, where it was called; at the end the clause at fault. */
   async judgedFrame() {
     const goal = this.judgedGoal, step = this.session.kept.steps.get(this.session.kept.takers.get(goal)), { fault } = this.blaming.told;
-    const id = step === undefined ? this.inside.reference("goal", await this.session.goalNamed(goal)) : this.inside.reference("step", step.number);
+    const [kind, what] = step === undefined ? ["goal", await this.session.goalNamed(goal)] : ["step", step.number];
     const clause = this.session.clauses[fault?.clause - 1], place = clause === undefined ? this.session.run.placeOf(goal) : { clause: clause.number, ...this.places.placeOf(clause) };
-    return { id, name: this.judgedName(), ...(step !== undefined && { canRestart: true }), ...this.places.spotOf(place) };
+    return this.frame(kind, what, this.judgedName(), place);
   },
 });
