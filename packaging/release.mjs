@@ -4,19 +4,34 @@ import fs from "node:fs";
 import path from "node:path";
 import zlib from "node:zlib";
 import { fileURLToPath } from "node:url";
+import { ARCHIVE, TIME, packed, put, run, zip } from "../editors/vscode/archive.mjs";
 import { packedFiles, vsixFiles } from "../editors/vscode/packing.mjs";
-import { zip } from "../editors/vscode/zip.mjs";
 import { engineOfPage, moduleOfPage } from "../front/session/engine_of_page.mjs";
-import { debianPlaces, npmPlaces } from "./places.mjs";
-import { deb } from "./deb.mjs";
-import { single } from "./single.mjs";
-import { tar } from "./tar.mjs";
 
 const ROOT = path.join(path.dirname(fileURLToPath(import.meta.url)), "..");
-const PROGRAM = 0o755; // the mode of a file that can be run
+const KILOBYTE = 1024;
 const QUALITY = 9; // of what Brotli packs: more takes seconds, and saves a twentieth
 const DESCRIPTION = "Runs programs of Flat GHC step by step, tells what each step depends on, and takes steps back";
 const NODE = 18; // the first version of Node that runs it
+// What tools/bundle.py is to join: the engine of the release stands in the place of the page's.
+const MODULES = ["packaging/start.mjs", "front/session/engine_of_page.mjs=packaging/engine_of_release.mjs"];
+const README = "packaging/README.md", MANUAL = "packaging/ghcdb.1";
+
+// What stands beside the program: of each file its place in a package of npm, and its places in Debian.
+const OF_SHELLS = [
+  ["packaging/ghcdb.bash", "completions/ghcdb.bash", "usr/share/bash-completion/completions/ghcdb"],
+  ["packaging/ghcdb.zsh", "completions/_ghcdb", "usr/share/zsh/vendor-completions/_ghcdb"],
+  ["packaging/ghcdb.fish", "completions/ghcdb.fish", "usr/share/fish/vendor_completions.d/ghcdb.fish"],
+];
+const OF_EDITORS = [
+  ["editors/emacs/fghc-mode.el", "editors/emacs/fghc-mode.el", "usr/share/emacs/site-lisp/fghc-mode.el"],
+  ["editors/neovim/ghcdb.lua", "editors/neovim/ghcdb.lua", "usr/share/nvim/site/lua/ghcdb.lua"],
+];
+const OF_VIM = ["ftdetect", "ftplugin", "syntax"].map((folder) => {
+  const name = `editors/vim/${folder}/fghc.vim`, inside = `${folder}/fghc.vim`;
+  return [name, name, `usr/share/vim/vimfiles/${inside}`, `usr/share/nvim/site/${inside}`];
+});
+const BESIDE = [...OF_SHELLS, ...OF_EDITORS, ...OF_VIM];
 
 const read = (name) => fs.readFileSync(path.join(ROOT, name));
 
@@ -34,21 +49,21 @@ function packedModule() {
   return zlib.brotliCompressSync(moduleOfPage(), { params }).toString("base64");
 }
 
-/** The text of packaging/carried.mjs for a release. */
-function carriedText(madeWith) {
-  const parts = { module: packedModule(), madeWith, examples: examples() };
-  return `const CARRIED = { file: __filename, ...${JSON.stringify(parts)} };\n\nexport { CARRIED };\n`;
-}
+/** What a release carries beside its modules, which know it by the name CARRIED. */
+const carried = (madeWith) => ({
+  module: packedModule(), // the program's module, packed by Brotli, in base64
+  madeWith, // what the page says of its program
+  examples: examples(),
+});
 
 /** The one file that is ghcdb. */
 function program(version, madeWith) {
   const kind = madeWith.proved ? "the proved program" : "a program WITHOUT PROOF";
-  return Buffer.from(single({
-    root: ROOT, name: "packaging/start.mjs",
-    moved: new Map([["front/session/engine_of_page.mjs", "packaging/engine_of_release.mjs"]]),
-    texts: new Map([["packaging/carried.mjs", carriedText(madeWith)]]),
-    about: `ghcdb ${version} in one file: ${kind} of commit ${madeWith.commit}, by ${madeWith.kit}, and all that stands before it`,
-  }));
+  const made = `of commit ${madeWith.commit}, by ${madeWith.kit}`;
+  const about = `// ghcdb ${version} in one file: ${kind} ${made}, and all that stands before it`;
+  const constant = `const CARRIED = ${JSON.stringify(carried(madeWith))};`;
+  const head = Buffer.from(["#!/usr/bin/env node", about, '"use strict";', "", constant, "\n"].join("\n"));
+  return Buffer.concat([head, run("python3", ["tools/bundle.py", ...MODULES], { cwd: ROOT })]);
 }
 
 /** What npm reads of the package. */
@@ -57,38 +72,63 @@ function npmFields(version) {
   return Buffer.from(`${JSON.stringify(fields, null, 2)}\n`);
 }
 
-/** What Debian reads of the package. */
-const debianFields = (version) => ({
-  Package: "ghcdb", Version: version, Architecture: "all", Maintainer: "ghcdb <ghcdb@localhost>", Depends: `nodejs (>= ${NODE})`,
-  Section: "devel", Priority: "optional", Description: DESCRIPTION,
-});
-
 /** The files of a package, by their places in it: what is no file yet is the name of one in the repository. */
-const filled = (places) => new Map([...places].map(([place, file]) => [place, typeof file === "string" ? { bytes: read(file) } : file]));
+const filled = (files) => new Map(files.map(([place, file]) => [place, typeof file === "string" ? read(file) : file]));
+
+/** The files of the package of npm. */
+function npmFiles(ghcdb, version) {
+  const own = [["package.json", npmFields(version)], ["ghcdb", ghcdb], ["ghcdb.1", MANUAL], ["README.md", README]];
+  const all = [...own, ...BESIDE.map(([name, place]) => [place, name])];
+  return filled(all.map(([place, file]) => [`package/${place}`, file]));
+}
+
+/** The files of the package of Debian. */
+function debianFiles(ghcdb) {
+  const manual = zlib.gzipSync(read(MANUAL), { level: 9 });
+  const own = [["bin/ghcdb", ghcdb], ["share/man/man1/ghcdb.1.gz", manual], ["share/doc/ghcdb/README.md", README]];
+  const beside = BESIDE.flatMap(([name, , ...debian]) => debian.map((place) => [place, name]));
+  return filled([...own.map(([place, file]) => [`usr/${place}`, file]), ...beside]);
+}
+
+/** The package of npm. */
+function tgz(files) {
+  const about = ["--format=ustar", "--owner=root:0", "--group=root:0", `--mtime=@${TIME}`, `--file=${ARCHIVE}`];
+  return zlib.gzipSync(packed(files, "tar", ["--create", ...about, ...files.keys()]), { level: 9 });
+}
+
+/** The package of Debian, with what Debian reads of it. */
+function deb(version, files) {
+  const size = [...files.values()].reduce((all, { length }) => all + length, 0);
+  const fields = {
+    Package: "ghcdb", Version: version, Architecture: "all", Maintainer: "ghcdb <ghcdb@localhost>",
+    Depends: `nodejs (>= ${NODE})`, Section: "devel", Priority: "optional", Description: DESCRIPTION,
+    "Installed-Size": Math.ceil(size / KILOBYTE),
+  };
+  const control = Buffer.from(Object.entries(fields).map(([name, value]) => `${name}: ${value}\n`).join(""));
+  const all = new Map([["DEBIAN/control", control], ["DEBIAN/md5sums", sumsOf("md5", files)], ...files]);
+  return packed(all, "dpkg-deb", ["--build", "--root-owner-group", "-Zgzip", ".", ARCHIVE]);
+}
 
 /** The files of a release by their names. */
 function release(version, madeWith) {
-  const ghcdb = { bytes: program(version, madeWith), mode: PROGRAM };
-  const npm = filled(npmPlaces({ ghcdb, about: { bytes: npmFields(version) } }));
-  const debian = filled(debianPlaces({ ghcdb, manual: { bytes: zlib.gzipSync(read("packaging/ghcdb.1"), { level: 9 }) } }));
+  const ghcdb = program(version, madeWith);
   return new Map([
-    ["ghcdb", ghcdb.bytes],
-    [`ghcdb-${version}.tgz`, zlib.gzipSync(tar(npm), { level: 9 })],
-    [`ghcdb_${version}_all.deb`, deb(debianFields(version), debian)],
+    ["ghcdb", ghcdb],
+    [`ghcdb-${version}.tgz`, tgz(npmFiles(ghcdb, version))],
+    [`ghcdb_${version}_all.deb`, deb(version, debianFiles(ghcdb))],
     [`ghcdb-${version}.vsix`, zip(vsixFiles(packedFiles()))],
   ]);
 }
 
-/** A line for each file, as `sha256sum --check` reads it. */
-function sumsOf(files) {
-  const sum = (bytes) => crypto.createHash("sha256").update(bytes).digest("hex");
+/** A line for each file, as `md5sum --check` and `sha256sum --check` read it. */
+function sumsOf(algorithm, files) {
+  const sum = (bytes) => crypto.createHash(algorithm).update(bytes).digest("hex");
   return Buffer.from([...files].map(([name, bytes]) => `${sum(bytes)}  ${name}\n`).join(""));
 }
 
 function write(folder, files) {
-  const all = [...files, ["SHA256SUMS", sumsOf(files)]];
-  fs.mkdirSync(folder, { recursive: true });
-  for (const [name, bytes] of all) fs.writeFileSync(path.join(folder, name), bytes, { mode: name === "ghcdb" ? PROGRAM : 0o644 });
+  const all = [...files, ["SHA256SUMS", sumsOf("sha256", files)]];
+  for (const [name, bytes] of all) put(path.join(folder, name), bytes);
   process.stdout.write(all.map(([name, bytes]) => `${path.join(folder, name)}: ${bytes.length} bytes\n`).join(""));
 }
 

@@ -1,4 +1,4 @@
-// Where a release begins: its first word says what is wanted.
+// Where a release begins: its first word says what is wanted. packaging/release.mjs puts CARRIED before the modules.
 //
 //     ghcdb FILE [--query GOALS] [OPTION ..]   a session: at a terminal with its help, else the console alone
 //     ghcdb FILE --run [--expect 'X = TERM']   the answers alone (terminal/run)
@@ -13,7 +13,6 @@ import tty from "node:tty";
 import { isMainThread } from "node:worker_threads";
 import { readRun, readWords, isSession } from "../front/protocol/words.mjs";
 import { withQuery } from "../front/session/words_with_query.mjs";
-import { CARRIED } from "./carried.mjs";
 
 const STREAMS = [0, 1, 2];
 const COMMAND_LINE = 2, DEVICE = 3; // statuses

@@ -2,16 +2,15 @@
 // every state that an editor sees is one that a session has.
 //
 // The requests stand in files by what they are for: beginning.mjs, restarting.mjs, setting.mjs (breakpoints),
-// looking.mjs, stepping.mjs, changing.mjs, cancelling.mjs; runs are in running.mjs.
+// looking.mjs, stepping.mjs, changing.mjs, judging.mjs; runs are in running.mjs. `cancel` is heard here, at once.
 import { Beginning } from "./beginning.mjs";
 import { Breakpoints } from "./breakpoints.mjs";
-import Cancelling from "./cancelling.mjs";
 import Changing from "./changing.mjs";
 import Judging from "./judging.mjs";
 import Looking from "./looking.mjs";
 import { Inside } from "./inside.mjs";
 import { Processes } from "./processes.mjs";
-import { Cancelled, Refused } from "./refused.mjs";
+import { CANCELLED, Refused } from "./requests.mjs";
 import Restarting from "./restarting.mjs";
 import Running from "./running.mjs";
 import Setting from "./setting.mjs";
@@ -20,9 +19,12 @@ import { Ended } from "../../front/session/program.mjs";
 import { NotTold } from "../../front/session/session.mjs";
 import { Blaming } from "../../front/run/blaming.mjs";
 import { notesAfter } from "../../front/run/telling.mjs";
+import { meant } from "../../front/protocol/commands.mjs";
 import * as Replies from "../../front/protocol/replies.mjs";
 
 const MOST_THREAD_EVENTS = 200; // of one stop; an editor asks for all threads in any case
+
+const LONG = 1000; // milliseconds of a line, after which an editor is told that it goes on
 
 const ENDS_RUN = new Set(["pause", "disconnect", "terminate", "restart"]);
 
@@ -40,8 +42,6 @@ class Adapter {
     this.breakpoints = new Breakpoints();
     this.live = new Set(); // the processes that the editor knows
     this.isBusy = this.isRunning = this.wantsPause = this.isSkipping = false;
-    /** @type {Promise<void> | undefined} */
-    this.ending = undefined; // of a run in one piece, after a pause
     this.runner = undefined; // the request that made the run
     this.hearsProgress = false;
     this.hasToldEnd = false;
@@ -56,7 +56,6 @@ class Adapter {
     this.given = given;
     this.inside = new Inside(session);
     this.blaming = new Blaming(session);
-    this.judged = undefined; // what was told last of who is to blame, and the line
     this.slice = Number(given.slice ?? 1000); // steps of a run, after which a pause is heard
     this.failed = new Set(); // the goals that had failed at the last stop
     this.hasToldEnd = false;
@@ -104,6 +103,38 @@ class Adapter {
     return this.work();
   }
 
+  /** Cancels a request, which is named by its number, or by the progress that was told of it. */
+  hearCancel(message) {
+    const { requestId, progressId } = message.arguments ?? {};
+    return this.answerBy(message, () => this.cancel(Number(progressId ?? requestId)));
+  }
+
+  /**
+   * A request that waits for its turn is not begun, a run pauses, and a line of the editor's console is ended: the
+   * session is as before it. All else is soon done, and goes on.
+   */
+  async cancel(number) {
+    const place = this.inbox.findIndex(({ seq }) => seq === number), isAsked = this.answering?.seq === number;
+    if (place >= 0) this.sendRefusal(this.inbox.splice(place, 1)[0], CANCELLED);
+    else if (this.isRunning && this.runner?.seq === number) this.stopRun();
+    else if (isAsked && this.answering.command === "evaluate") await this.session.cancel();
+  }
+
+  /** Tells an editor that hears of progress where a line goes on for long. What is given back tells the end of that. */
+  tellProgress({ seq, arguments: given }) {
+    const progressId = String(seq), title = String(given?.expression);
+    const body = { progressId, title, requestId: seq, cancellable: true };
+    let isTold = false;
+    const timer = setTimeout(() => {
+      isTold = this.hearsProgress;
+      if (isTold) this.event("progressStart", body);
+    }, LONG);
+    return () => {
+      clearTimeout(timer);
+      if (isTold) this.event("progressEnd", { progressId });
+    };
+  }
+
   async work() {
     if (this.isBusy) return;
     this.isBusy = true;
@@ -138,30 +169,33 @@ class Adapter {
   async answer(request) {
     const { answering } = this, endProgress = request.command === "evaluate" ? this.tellProgress(request) : undefined;
     this.answering = request;
-    try {
-      this.sendAnswer(request, await this.request(request.command, request.arguments ?? {}));
-    } catch (error) {
-      this.laters.length = 0;
-      if (error instanceof Cancelled) this.sendCancelled(request);
-      else this.sendRefusal(request, error);
-    }
+    const isDone = await this.answerBy(request, () => this.request(request.command, request.arguments ?? {}));
+    if (!isDone) this.laters.length = 0;
     this.answering = answering;
     if (this.session !== undefined) this.session.isCancelled = false;
     endProgress?.();
+  }
+
+  /** Answers a request by what `does` gives, or by what it throws. Is it done? */
+  async answerBy(request, does) {
+    try {
+      this.sendAnswer(request, await does());
+      return true;
+    } catch (error) {
+      this.sendRefusal(request, error);
+      return false;
+    }
   }
 
   sendAnswer(request, body) {
     this.send({ ...answerTo(request), ...(body !== undefined && { body }) });
   }
 
+  /** Answers a request that is refused, or was cancelled, by what was thrown. */
   sendRefusal(request, error) {
-    const told = { id: 1, format: this.wordsOf(error, request.command), showUser: true };
-    this.send({ ...answerTo(request), success: false, message: "refused", body: { error: told } });
-  }
-
-  sendCancelled(request) {
-    const told = { id: 2, format: "cancelled", showUser: false };
-    this.send({ ...answerTo(request), success: false, message: "cancelled", body: { error: told } });
+    const isCancelled = error === CANCELLED, message = isCancelled ? "cancelled" : "refused";
+    const told = { id: isCancelled ? 2 : 1, format: this.wordsOf(error, request.command), showUser: !isCancelled };
+    this.send({ ...answerTo(request), success: false, message, body: { error: told } });
   }
 
   wordsOf(error, command) {
@@ -238,7 +272,7 @@ class Adapter {
    */
   async stopped(reason, text = reason, { thread, hit } = {}) {
     const goals = await this.look(), failed = this.failedAnew(goals);
-    this.inside.forget();
+    this.inside.references.clear(); // what was shown of the stop before counts no more
     const isException = reason === "step" && failed !== undefined && this.breakpoints.filters.has("failed");
     if (!isException) return this.tellStop(goals, { reason, text, thread, hit });
     const its = this.processes.of(failed.name);
@@ -253,9 +287,12 @@ class Adapter {
   }
 
   /** Sends a line that changes the session; where it is refused, the request is. */
-  async change(line, words = line.split(" ").slice(1)) {
+  async change(line) {
     const reply = await this.session.ask(line);
-    if (Replies.isRefused(reply)) throw new Refused([reply[0], ...await notesAfter(this.session, { name: line.split(" ")[0], words, line }, reply)].join("\n"));
+    if (Replies.isRefused(reply)) {
+      const notes = await notesAfter(this.session, meant(...line.split(" ")), reply);
+      throw new Refused([reply[0], ...notes].join("\n"));
+    }
     this.tell(reply);
     return reply;
   }
@@ -267,7 +304,7 @@ const WITHOUT_SESSION = new Set(["initialize", "launch", "attach", "disconnect",
 const RUNS = new Set(["continue", "next", "stepIn", "stepOut", "stepBack", "reverseContinue", "goto", "restartFrame", "setVariable", "setExpression", "evaluate",
   "ghcdb/undo", "ghcdb/roll", "ghcdb/redo"]);
 
-for (const requests of [Beginning, Restarting, Setting, Looking, Stepping, Changing, Running, Judging, Cancelling]) {
+for (const requests of [Beginning, Restarting, Setting, Looking, Stepping, Changing, Running, Judging]) {
   Object.defineProperties(Adapter.prototype, Object.getOwnPropertyDescriptors(requests));
 }
 

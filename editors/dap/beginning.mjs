@@ -9,8 +9,7 @@ import { unlessEnded } from "../../front/session/program.mjs";
 import { whyNotRead } from "../../front/session/refused.mjs";
 import { FILTERS } from "./breakpoints.mjs";
 import { Places, queryOf } from "./places.mjs";
-import { Refused } from "./refused.mjs";
-import { requests } from "./requests.mjs";
+import { requests, Refused } from "./requests.mjs";
 import { EditorSession } from "./session.mjs";
 
 const CAN = ["ConfigurationDoneRequest", "FunctionBreakpoints", "ConditionalBreakpoints", "HitConditionalBreakpoints", "LogPoints", "DataBreakpoints", "EvaluateForHovers",
@@ -69,7 +68,7 @@ const Beginning = requests({
 
   /** A session takes the place of the one before, which stands where it is refused. */
   async goOnWith(session, asked) {
-    const { given, text } = asked, places = this.placesOf(asked);
+    const { given, text } = asked, places = new Places(asked, this.first);
     await this.accepted(session.begin().then(() => session.keepWayBack()), session, places); // any line can be ended
     await this.session?.end();
     this.show(session, places, given);
@@ -77,31 +76,21 @@ const Beginning = requests({
     this.later(() => notes.forEach((cause) => this.tellCause(cause, Causes.linesOf(cause, text), places, "important")));
   },
 
-  placesOf({ file, text, query }) {
-    return new Places(file, text, query, this.first);
-  },
-
-  /** Waits for a session's beginning. Where ghcdb refuses it, all that it is refused for is told, and the first in the answer. */
-  accepted(beginning, session, places) {
-    return unlessEnded(beginning, async (ended) => {
-      throw new Refused(await this.tellRefusals(ended, session, places), true);
+  /** Waits for a session to begin. All that it is refused for is told, each at its place; the answer has the first. */
+  accepted(beginning, { texts, native }, places) {
+    return unlessEnded(beginning, async ({ errors }) => {
+      const refusals = await everyRefusal({ ...texts, file: places.source().name }, native, errors.trim());
+      const told = refusals.map(({ said, lines }) => [said, ...lines]), more = refusals.length - 1;
+      refusals.forEach(({ cause }, at) => this.tellCause(cause, told[at], places, "stderr"));
+      const words = [...told[0], ...(more > 0 ? [`and ${plural(more, "refusal")} more, in the console`] : [])];
+      throw new Refused(words.join("\n"), true);
     });
-  },
-
-  /** Tells all refusals of what was to begin, each at its place. The first in words, and how many more there are. */
-  async tellRefusals({ errors }, { texts, native }, places) {
-    const refusals = await everyRefusal({ ...texts, file: places.source().name }, native, errors.trim());
-    const told = refusals.map(({ said, lines }) => [said, ...lines]), more = refusals.length - 1;
-    refusals.forEach(({ cause }, at) => this.tellCause(cause, told[at], places, "stderr"));
-    return [...told[0], ...(more > 0 ? [`and ${plural(more, "refusal")} more, in the console`] : [])].join("\n");
   },
 
   /** Tells lines in the editor's console, so that they lead to the place of their cause where there is one. */
   tellCause(cause, lines, places, category) {
     if (cause === undefined) return this.tell(lines, category);
-    const letter = Causes.letterOf(cause, cause.isQuery ? places.queryText : places.program), place = { line: cause.line, letter, endLine: cause.line, endLetter: letter };
-    const { source, line, column } = places.spotOf({ clause: cause.isQuery ? 0 : 1, ...place });
-    const output = `${lines.join("\n")}\n`;
+    const { source, line, column } = places.spotOfCause(cause), output = `${lines.join("\n")}\n`;
     return this.event("output", { category, output, ...(source.path && { source, line, column }) });
   },
 

@@ -1,6 +1,6 @@
 // Where a run stops: at a clause, at a predicate, where a variable is bound, and where goals fail or wait. The console stops a run at a
 // predicate alone (`spy`); the rest is found out at each such stop.
-import { fits } from "./options.mjs";
+import { fits } from "../../front/run/patterns.mjs";
 
 // The filters of exceptions that an editor may set. Without one the stop is a pause: the run has ended in any case.
 const FILTERS = [
@@ -10,19 +10,13 @@ const FILTERS = [
 
 class Breakpoints {
   constructor() {
-    this.last = 0;
+    this.last = 0; // the number of the last breakpoint
     this.asked = new Map(); // the editor's last request of each kind, by the method that sets its breakpoints
     this.clauses = [];
     this.predicates = [];
     this.variables = [];
     this.spied = new Set();
     this.filters = new Set(FILTERS.map(({ filter }) => filter));
-  }
-
-  /** A number for a breakpoint. */
-  number() {
-    this.last += 1;
-    return this.last;
   }
 
   /** The reason that an editor is told for a stop that one of the filters is about. */
@@ -38,15 +32,19 @@ class Breakpoints {
     this.spied = wanted;
   }
 
+  /** The breakpoints at the predicate of a goal: of those at clauses the ones of whose clause `isTaken` says so. */
+  at(name, run, isTaken) {
+    const predicate = run.predicateOf(name), all = [...this.clauses, ...this.predicates];
+    return all.filter(({ predicate: its, clause }) => its === predicate && (clause === undefined || isTaken(clause)));
+  }
+
   /**
    * The breakpoint that stops before a spied goal; undefined where each lets it pass. A clause's stops where that clause says yes. `log`
    * is called with the message of a breakpoint that only tells something.
    */
   async met(session, name, log) {
-    const run = await session.look(), predicate = run.predicateOf(name);
-    const saysYes = new Set(await session.clausesSayingYes(name));
-    for (const point of [...this.clauses, ...this.predicates]) {
-      if (point.predicate !== predicate || (point.clause !== undefined && !saysYes.has(point.clause))) continue;
+    const run = await session.look(), saysYes = new Set(await session.clausesSayingYes(name));
+    for (const point of this.at(name, run, (clause) => saysYes.has(clause))) {
       if (!fitsGoal(point, name, run)) continue;
       point.hits += 1;
       if (point.hits < point.least) continue;
@@ -58,11 +56,8 @@ class Breakpoints {
 
   /** The breakpoint before which a kept step lies, for a run backwards. A clause's stops where the step took that clause. */
   before(step, run) {
-    const predicate = run.predicateOf(step.goal);
-    return [...this.clauses, ...this.predicates].find((point) => {
-      const isItsPlace = point.predicate === predicate && (point.clause === undefined || point.clause === step.clause);
-      return isItsPlace && point.messageOf === undefined && fitsGoal(point, step.goal, run);
-    });
+    const points = this.at(step.goal, run, (clause) => clause === step.clause);
+    return points.find((point) => point.messageOf === undefined && fitsGoal(point, step.goal, run));
   }
 }
 

@@ -2,8 +2,7 @@
 import { notesAfter } from "../../front/run/telling.mjs";
 import { suggestionFor, NAMES } from "../../front/protocol/commands.mjs";
 import { termOf } from "./options.mjs";
-import { requests } from "./requests.mjs";
-import { Refused } from "./refused.mjs";
+import { requests, Refused } from "./requests.mjs";
 import * as Replies from "../../front/protocol/replies.mjs";
 
 const TELLS_MORE = new Set(["explain", "part", "whynot"]); // lines of which the reply alone tells no goals, or no names
@@ -13,7 +12,11 @@ const NO_VALUE = ": a value is one term, as 3, red or [1,2]; nothing is computed
 /** The request for a line of a command and a step's number. */
 const byNumber = (word) =>
   /** @this {import("./adapter.mjs").Adapter} */
-  function changeStep({ step }) { return this.changed(`${word} ${step}`); };
+  async function changeStep({ step }) {
+    const line = `${word} ${step}`;
+    await this.change(line);
+    this.later(() => this.stoppedAnew(line));
+  };
 
 export default requests({
   /** A line of the console as it was typed; where it changed the session, the editor hears of a stop. `explain X all` asks for `explain X`. */
@@ -21,14 +24,10 @@ export default requests({
     const isWhole = word === "explain" && / all$/.test(given), line = isWhole ? given.replace(/ +all$/, "") : given;
     const before = this.session.kept.changes, reply = await this.session.ask(line);
     if (reply[0] === "F25 command" && !NAMES.includes(word)) throw new Refused(suggestionFor(line));
-    return this.answered({ name: word, words: line.split(/ +/).slice(1), line, isWhole }, reply, before);
-  },
-
-  /** A reply of the console with what is to be added; `before` is the number of changes before the line. */
-  async answered(meaning, reply, before) {
-    if (Replies.isRefused(reply) || TELLS_MORE.has(meaning.name)) return [...reply, ...await notesAfter(this.session, meaning, reply)];
-    if (this.session.kept.changes !== before) this.later(() => this.stoppedAnew(meaning.line));
-    return reply;
+    const meaning = { name: word, words: line.split(/ +/).slice(1), line, isWhole };
+    const isAll = !Replies.isRefused(reply) && !TELLS_MORE.has(word);
+    if (isAll && this.session.kept.changes !== before) this.later(() => this.stoppedAnew(line));
+    return isAll ? reply : [...reply, ...await notesAfter(this.session, meaning, reply)];
   },
 
   /** An unbound variable is bound by goals asked for: a step like any other, which can be taken back. */
@@ -59,11 +58,6 @@ export default requests({
   on_ghcdb_undo: byNumber("undo"),
   on_ghcdb_roll: byNumber("roll"),
   on_ghcdb_redo: byNumber("redo"),
-
-  async changed(line) {
-    await this.change(line);
-    this.later(() => this.stoppedAnew(line));
-  },
 
   /** A stop to which no request for a step has led: the editor hears first that the process that it shows went on. */
   stoppedAnew(text, thread) {

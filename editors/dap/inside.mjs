@@ -1,6 +1,7 @@
 // What an editor shows of a stop: the frames of a process, their scopes, and the variables in them. Terms unfold as they are opened.
 import * as Print from "../../front/text/print.mjs";
 import * as Reader from "../../front/text/reader.mjs";
+import * as Replies from "../../front/protocol/replies.mjs";
 import { holdersIn, waitsOf } from "../../front/run/waits.mjs";
 
 const LONGEST = 1000; // letters of a value
@@ -18,10 +19,8 @@ function goalOf({ status, text }) {
   return tail && { sort: "stream", tail };
 }
 
-/** Lines that begin with a step's number: the number, and what stands after it. */
-function readLines(lines) {
-  return lines.map((line) => /^(\d+) (.*)$/.exec(line)).filter(Boolean).map(([, number, rest]) => ({ number: Number(number), rest }));
-}
+/** The lines that begin with a step's number: it and what stands after it. */
+const stepsIn = (lines) => lines.map(Replies.namedIn).filter((found) => found?.before === "");
 
 const isCell = ({ name, arguments: terms }) => name === "." && terms.length === 2;
 
@@ -53,22 +52,13 @@ class Inside {
   constructor(session) {
     this.session = session;
     this.last = 10;
-    this.references = new Map();
-  }
-
-  /** What was shown of the stop before counts no more. */
-  forget() {
-    this.references.clear();
+    this.references = new Map(); // to what is shown of this stop, by their numbers
   }
 
   reference(kind, what) {
     this.last += 1;
     this.references.set(this.last, { kind, what });
     return this.last;
-  }
-
-  referred(number) {
-    return this.references.get(number);
   }
 
   /**
@@ -85,15 +75,11 @@ class Inside {
     return { ...shown, evaluateName: term.variable, type: this.session.run.labelOf(term.variable) };
   }
 
-  /** What the variables of a clause stand for, those of the query where `number` is 0. */
-  environment(number) {
-    const env = this.session.run.environmentOf(number) ?? new Map();
-    return [...env].filter(([name]) => Reader.isWritten(name)).map(([name, term]) => this.variable(name, term));
-  }
-
   /** The scopes of a frame; `goals` are all goals as they stand. */
   scopesOf(frame, goals) {
-    const { kind, what } = this.referred(frame), scope = (name, of, more) => ({ name, variablesReference: this.reference(of, what), expensive: false, ...more });
+    const { kind, what } = this.references.get(frame);
+    const scope = (name, of, more) =>
+      ({ name, variablesReference: this.reference(of, what), expensive: false, ...more });
     const scopes = [];
     if (kind === "goal") scopes.push(scope("Goal", "parts", { presentationHint: "arguments" }));
     if (kind === "goal" && what.waitsFor.length > 0) scopes.push(scope("Waits for", "waits"));
@@ -109,7 +95,7 @@ class Inside {
    * @param {{ filter?: string, start?: number, end?: number }} page
    */
   async variablesOf(reference, { filter, start = 0, end } = {}) {
-    const found = this.referred(reference);
+    const found = this.references.get(reference);
     if (found === undefined) return undefined;
     const parts = await this[`in_${found.kind}`](found.what);
     const { indexed, named } = Array.isArray(parts) ? { indexed: [], named: parts } : parts;
@@ -138,9 +124,10 @@ class Inside {
     return waits.map((wait) => flat(this.session.run.labelOf(wait.variable), holdersIn(this.session, wait)));
   }
 
+  /** What the variables of a step's clause stand for. */
   async in_environment(number) {
-    await this.session.look();
-    return this.environment(number);
+    const env = (await this.session.look()).environmentOf(number) ?? new Map();
+    return [...env].filter(([name]) => Reader.isWritten(name)).map(([name, term]) => this.variable(name, term));
   }
 
   async in_binds(number) {
@@ -151,7 +138,8 @@ class Inside {
   async in_why(number) {
     const run = await this.session.look();
     const textOf = (cause) => run.textOf(this.session.kept.steps.get(cause).goal);
-    return readLines(await this.session.ask(`why ${number}`)).map(({ number: cause, rest }) => flat(`step ${cause}`, `${textOf(cause)}   ${rest}`));
+    const causes = stepsIn(await this.session.ask(`why ${number}`));
+    return causes.map(({ step, after }) => flat(`step ${step}`, `${textOf(step)}  ${after}`));
   }
 
   /** The query's variables, of which the console tells the values: so not all records need be read. */
@@ -175,14 +163,14 @@ class Inside {
   }
 
   async in_shelf() {
-    return readLines(await this.session.ask("shelf")).map(({ number, rest }) => flat(`step ${number}`, rest));
+    return stepsIn(await this.session.ask("shelf")).map(({ step, after }) => flat(`step ${step}`, after.trimStart()));
   }
 
   /** The term for which a name stands in a frame: of its clause, of the query, or `_n_m`; undefined where it is none. */
   async termNamed(name, frame) {
     const label = /^(_\d+_\d+)( \(|$)/.exec(name);
     if (label !== null) return { variable: label[1] };
-    const { kind, what } = this.referred(frame) ?? {}, run = await this.session.look();
+    const { kind, what } = this.references.get(frame) ?? {}, run = await this.session.look();
     const number = kind === "goal" ? run.makerOf(what.name)?.number : ["step", "environment"].includes(kind) ? what : undefined;
     return run.environmentOf(number ?? 0)?.get(name) ?? run.environmentOf(0).get(name);
   }

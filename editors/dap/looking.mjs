@@ -1,12 +1,11 @@
 // Requests that look at a stop and change nothing: threads, frames, scopes, variables, texts, values.
 import path from "node:path";
 import * as Own from "../../front/run/own.mjs";
-import { NAMES, commandOf, helpLines } from "../../front/protocol/commands.mjs";
+import { commandOf, helpLines } from "../../front/protocol/commands.mjs";
 import { completionsOf } from "../../front/protocol/complete.mjs";
 import { plural, whyNoClause } from "../../front/run/reasons.mjs";
 import { QUERY, STEPS, SHELF } from "./places.mjs";
-import { Refused } from "./refused.mjs";
-import { requests } from "./requests.mjs";
+import { requests, Refused } from "./requests.mjs";
 
 const MOST_THREADS = 1000, MOST_FRAMES = 200, LONGEST_NAME = 300;
 
@@ -26,8 +25,7 @@ export default requests({
   async on_stackTrace({ threadId, startFrame = 0, levels }) {
     const isJudged = this.isJudged(threadId), goal = isJudged ? undefined : await this.goalOf(threadId);
     if (goal === undefined && !isJudged) {
-      const id = this.inside.reference("done"), name = await this.whyNoGoal();
-      return { stackFrames: [{ id, name, ...this.places.spotOf(undefined) }], totalFrames: 1 };
+      return { stackFrames: [this.frame("done", undefined, await this.whyNoGoal())], totalFrames: 1 };
     }
     const first = isJudged ? await this.judgedFrame() : this.frameOfGoal(goal), steps = this.stepsTo(isJudged ? this.judgedGoal : goal.name);
     const last = startFrame + (levels || MOST_FRAMES), shown = steps.slice(Math.max(startFrame - 1, 0), last - 1);
@@ -49,18 +47,24 @@ export default requests({
     return goals.length === 0 ? "all is done" : `this process has ended; others have ${plural(goals.length, "goal")}`;
   },
 
+  /** A frame of a goal, or of a step, which can be restarted; `place` is one of Run's. */
+  frame(kind, what, name, place) {
+    const more = kind === "step" && { canRestart: true };
+    return { id: this.inside.reference(kind, what), name, ...more, ...this.places.spotOf(place) };
+  },
+
   frameOfGoal(goal) {
-    return { id: this.inside.reference("goal", goal), name: goal.text.slice(0, LONGEST_NAME), ...this.places.spotOf(this.session.run.placeOf(goal.name)) };
+    return this.frame("goal", goal, goal.text.slice(0, LONGEST_NAME), this.session.run.placeOf(goal.name));
   },
 
   frameOfStep({ number, goal, act }) {
     const text = goal === null ? "" : `${this.frameText(goal) ?? goal} `;
     const place = goal === null ? undefined : this.session.run.placeOf(goal);
-    return { id: this.inside.reference("step", number), name: `step ${number}: ${text.slice(0, LONGEST_NAME)}${act}`, canRestart: true, ...this.places.spotOf(place) };
+    return this.frame("step", number, `step ${number}: ${text.slice(0, LONGEST_NAME)}${act}`, place);
   },
 
   async on_scopes({ frameId }) {
-    if (this.inside.referred(frameId) === undefined) throw new Refused("this frame is of a stop that is over");
+    if (this.inside.references.get(frameId) === undefined) throw new Refused("this frame is of a stop that is over");
     return { scopes: this.inside.scopesOf(frameId, await this.session.goalsTold() ?? []) };
   },
 
@@ -86,7 +90,8 @@ export default requests({
   },
 
   async on_stepInTargets({ frameId }) {
-    const { kind, what } = this.inside.referred(frameId) ?? {}, yes = kind === "goal" && what.sort === "call" ? await this.session.clausesSayingYes(what.name) : [];
+    const { kind, what } = this.inside.references.get(frameId) ?? {}, isCall = kind === "goal" && what.sort === "call";
+    const yes = isCall ? await this.session.clausesSayingYes(what.name) : [];
     const label = ({ number, text }) => `clause ${number}: ${text.replace(/\s+/g, " ").slice(0, 90)}`;
     return { targets: yes.map((number) => ({ id: number, label: label(this.session.clauses[number - 1]) })) };
   },
@@ -121,8 +126,8 @@ export default requests({
   async on_evaluate({ expression, context, frameId }) {
     const line = expression.trim(), term = /^[A-Z_]\w*$/.test(line) ? await this.inside.termNamed(line, frameId) : undefined;
     if (term !== undefined) {
-      const { value, type, variablesReference, indexedVariables, namedVariables } = this.inside.variable(line, term);
-      return { result: value, type, variablesReference, indexedVariables, namedVariables };
+      const { name, evaluateName, value, ...shown } = this.inside.variable(line, term);
+      return { result: value, ...shown };
     }
     if (context === "hover" || context === "watch") throw new Refused(`${line} is no variable here`);
     return { result: (await this.consoleLine(line)).join("\n"), variablesReference: 0 };
@@ -130,13 +135,13 @@ export default requests({
 
   /** The lines that a line of the editor's console is answered by. */
   async consoleLine(line) {
-    const [word, ...words] = line.split(/ +/), name = NAMES.includes(word) ? word : undefined;
+    const [word, ...words] = line.split(/ +/);
     if (commandOf(word) === "help") return helpLines(words);
-    if (["stuck", "stat"].includes(name)) return Own[name](this.session, words);
-    if (["holders", "list"].includes(name) && words.length < 2) return Own[name](this.session, words);
+    if (["stuck", "stat"].includes(word)) return Own[word](this.session, words);
+    if (["holders", "list"].includes(word) && words.length < 2) return Own[word](this.session, words);
     const judged = await this.judge(line), version = words[0] === "1" ? "1" : "", file = words.slice(version.length).join(" ");
     if (judged !== undefined) return judged;
-    if (name === "save" && file !== "") return this.session.saveInto(file, version);
+    if (word === "save" && file !== "") return this.session.saveInto(file, version);
     return this.typed(line, word);
   },
 });

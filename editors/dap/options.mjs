@@ -4,8 +4,8 @@ import * as Print from "../../front/text/print.mjs";
 import * as Printed from "../../front/text/printed.mjs";
 import * as Reader from "../../front/text/reader.mjs";
 import Run from "../../front/run/run.mjs";
-import { fits, formOf, repeatedIn, whyRepeated } from "../../front/run/patterns.mjs";
-import { Refused } from "./refused.mjs";
+import { formOf, repeatedIn, whyRepeated } from "../../front/run/patterns.mjs";
+import { Refused } from "./requests.mjs";
 
 /** @typedef {import("../../front/types").Clause} Clause */
 
@@ -48,42 +48,39 @@ function readHits(text) {
 const LONGEST = 200; // letters of a value in a text
 const valueOf = (term, run) => Print.term(term, { store: run.shown, most: LONGEST });
 
-/** What the variables of a clause's head stand for where a goal meets it. */
-const headOf = (clause, run, name) => Run.bindingsOf(clause.head, run.goalOf(name).call, run);
-
 /**
- * What stands for a word in braces of a log text: a function of the run and the goal's name. A name of the clause means
- * its variable, and only where the head has it: those of the body are not there yet. Undefined where nothing does.
+ * What the words of a log text stand for, by the words: functions of the run and the goal's name. A name of the clause
+ * means its variable, and only where the head has it: those of the body are not there yet.
  */
-function readWord(word, clause, query) {
-  if (word === "goal") return (run, name) => run.textOf(name);
-  if (word === "name") return (run, name) => name;
-  if (Reader.isState(word)) return (run) => valueOf({ variable: word }, run);
-  const isOfHead = clause !== undefined && Reader.addVariables(new Set(), clause.head).has(word);
-  if (isOfHead) return (run, name) => valueOf(headOf(clause, run, name).get(word), run);
-  if (clause?.news.includes(word) || !query.includes(word)) return undefined;
-  return (run) => valueOf(run.environmentOf(0).get(word), run);
+function wordsFor(clause, query) {
+  const words = new Map([["goal", (run, name) => run.textOf(name)], ["name", (run, name) => name]]);
+  const inHead = clause === undefined ? new Set() : Reader.addVariables(new Set(), clause.head);
+  const headOf = (run, name) => Run.bindingsOf(clause.head, run.goalOf(name).call, run);
+  for (const word of new Set([...inHead, ...query].filter(Reader.isWritten))) {
+    if (inHead.has(word)) words.set(word, (run, name) => valueOf(headOf(run, name).get(word), run));
+    else if (!clause?.news.includes(word)) words.set(word, (run) => valueOf(run.environmentOf(0).get(word), run));
+  }
+  return words;
 }
 
 const IN_BRACES = /\{(.*?)\}/g;
 
-/** Why a word in braces is refused, in words. */
-function whyNoWord(word, clause, query) {
-  const inHead = clause === undefined ? [] : [...Reader.addVariables(new Set(), clause.head)];
-  const names = new Set([...inHead, ...query].filter((name) => Reader.isWritten(name) && !clause?.news.includes(name)));
+/** Why a word in braces is refused that is none of those known, in words. */
+function whyNoWord(word, clause, known) {
   const isOfBody = clause?.news.includes(word);
   const why = isOfBody ? `the clause's body makes ${word}, and is not reached yet` : `{${word}} stands for nothing`;
-  return `${why}; a log text can name ${["goal", "name", ...names].map((name) => `{${name}}`).join(" ")}`;
+  return `${why}; a log text can name ${[...known.keys()].map((name) => `{${name}}`).join(" ")}`;
 }
 
 /** What a log text becomes at a hit, as a function of the run and the goal's name; undefined where there is none. */
 function readMessage(text, clause, query) {
   if (!isGiven(text)) return undefined;
-  const meant = (word) => readWord(word.trim(), clause, query), words = [...String(text).matchAll(IN_BRACES)];
-  const wrong = words.find(([, word]) => meant(word) === undefined);
-  if (wrong !== undefined) throw new Refused(whyNoWord(wrong[1].trim(), clause, query));
+  const known = wordsFor(clause, query), words = [...String(text).matchAll(IN_BRACES)].map(([, word]) => word.trim());
+  const meant = (word) => (Reader.isState(word) ? (run) => valueOf({ variable: word }, run) : known.get(word));
+  const wrong = words.find((word) => meant(word) === undefined);
+  if (wrong !== undefined) throw new Refused(whyNoWord(wrong, clause, known));
   if (/[{}]/.test(String(text).replace(IN_BRACES, ""))) throw new Refused(`${text}: a brace in it has no partner`);
-  return (run, name) => String(text).replace(IN_BRACES, (all, word) => meant(word)(run, name));
+  return (run, name) => String(text).replace(IN_BRACES, (all, word) => meant(word.trim())(run, name));
 }
 
 /**
@@ -96,4 +93,4 @@ function readOptions({ condition, hitCondition, logMessage }, { predicate, claus
   return { pattern, least, messageOf: readMessage(logMessage, clause, query) };
 }
 
-export { readFunction, readOptions, termOf, fits };
+export { readFunction, readOptions, termOf };

@@ -1,21 +1,23 @@
 // Where things stand, for an editor: in the program's file, in the query's comment there, or in a text that is in no file. An editor may
 // count lines and columns from 0 or from 1.
 import path from "node:path";
+import * as Causes from "../../front/text/causes.mjs";
 import { COMMENT, queryOf } from "../../front/text/query_comment.mjs";
 
 const QUERY = 1, STEPS = 2, SHELF = 3; // references of the texts that are in no file
 const NAMES = { [QUERY]: "query", [STEPS]: "kept steps", [SHELF]: "taken back" };
 
 class Places {
-  constructor(file, program, query, first) {
+  /** The places of a program's file with its text, and of a query; `first` is the number of the first line, 0 or 1. */
+  constructor({ file, text, query }, first) {
     this.file = file;
-    this.program = program;
+    this.program = text;
     this.queryText = query;
-    this.first = first; // the number of the first line, 0 or 1
-    const found = COMMENT.exec(program);
+    this.first = first;
+    const found = COMMENT.exec(text);
     if (found === null || found[1] !== query) return;
     const at = found.index + found[0].indexOf(query);
-    this.query = { line: program.slice(0, at).split("\n").length, letter: at - program.lastIndexOf("\n", at - 1) };
+    this.query = { line: text.slice(0, at).split("\n").length, letter: at - text.lastIndexOf("\n", at - 1) };
   }
 
   /** A number of ours, as the editor counts. */
@@ -53,6 +55,12 @@ class Places {
     if (this.query === undefined) return this.at(this.virtual(QUERY), inQuery);
     const { line, letter } = this.query, shift = (column) => column + letter - 1;
     return this.at(this.source(), { line, letter: shift(inQuery.letter), endLine: line, endLetter: shift(inQuery.endLetter) });
+  }
+
+  /** Where the cause of a refusal or a note stands. */
+  spotOfCause(cause) {
+    const { line, length, isQuery } = cause, letter = Causes.letterOf(cause, isQuery ? this.queryText : this.program);
+    return this.spotOf({ clause: isQuery ? 0 : 1, line, letter, endLine: line, endLetter: letter + length });
   }
 }
 

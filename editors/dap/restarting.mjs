@@ -4,8 +4,8 @@ import { isDeepStrictEqual } from "node:util";
 import * as ReloadPlan from "../../front/run/reload_plan.mjs";
 import { NO_MEMORY, changesOf, probeOf, reloadOf, reloadedLines } from "../../front/session/reloading.mjs";
 import { askedBy } from "./beginning.mjs";
-import { Refused } from "./refused.mjs";
-import { requests } from "./requests.mjs";
+import { Places } from "./places.mjs";
+import { requests, Refused } from "./requests.mjs";
 import { EditorSession } from "./session.mjs";
 
 const AGAIN = "a further restart begins anew";
@@ -37,24 +37,19 @@ export default requests({
   /** The steps by clauses that are still there stay; breakpoints and what is spied stay, too. */
   async reload(asked) {
     const { session } = this, probe = probeOf(session);
-    await this.accepted(probe.tryOut(), probe, this.placesOf(asked));
+    await this.accepted(probe.tryOut(), probe, new Places(asked, this.first));
     const found = await reloadOf(session, probe);
     if (found === undefined) throw new Refused(NO_MEMORY);
     const next = new EditorSession(session.words, session.native, found.handed);
     next.savedInto = session.savedInto;
     await this.goOnWith(next, { ...asked, text: probe.text });
-    this.goOnShowing(found.plan);
+    if (ReloadPlan.isRenumbered(found.plan)) this.countProcesses();
+    else this.processes.session = this.session; // they keep their numbers where the goals keep their names
     this.tellRun(changesOf(found), 0);
     const lines = reloadedLines(found);
     this.tell([...lines, AGAIN]);
     await this.breakAgain(found);
     this.later(() => this.stopped("restart", lines[0]));
-  },
-
-  /** The processes keep their numbers where the goals keep their names. */
-  goOnShowing(plan) {
-    if (ReloadPlan.isRenumbered(plan)) this.countProcesses();
-    else this.processes.session = this.session;
   },
 
   /** Breakpoints are set again. One at a variable goes where that is gone, or has another name now. */

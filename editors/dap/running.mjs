@@ -1,6 +1,6 @@
 // Runs: forwards in slices, so that a pause is heard between two of them, and backwards to a breakpoint.
 import * as Own from "../../front/run/own.mjs";
-import { requests } from "./requests.mjs";
+import { requests, CANCELLED } from "./requests.mjs";
 import { Ended } from "../../front/session/program.mjs";
 import { plural } from "../../front/run/reasons.mjs";
 import * as Replies from "../../front/protocol/replies.mjs";
@@ -27,7 +27,6 @@ export default requests({
   async running(what) {
     this.isRunning = true;
     this.runner = this.handling;
-    this.wantsPause = false;
     try {
       return await what();
     } finally {
@@ -141,28 +140,19 @@ export default requests({
       this.tellRun(reply, 0);
       return Replies.isRefused(reply) ? ["pause", reply[0], { thread }] : ["step", reply.at(-1), { thread }];
     } catch (error) {
-      if (!(error instanceof Ended) || this.ending === undefined) throw error;
-      await this.ending;
+      if (error !== CANCELLED) throw error;
+      await this.session.ending;
       return ["pause", "the run was ended; the session stands as before it", { thread }];
     } finally {
-      this.isSkipping = false;
-      this.ending = undefined;
+      this.isSkipping = this.session.isCancelled = false;
     }
   },
 
-  /** Asks a run to stop: in slices it does so after one, in one piece it is ended. */
+  /** Asks a run to stop: in slices it does so after one, in one piece it is ended; where it cannot be, that is told. */
   stopRun() {
     this.wantsPause = true;
-    if (!this.isSkipping || this.ending !== undefined) return;
-    this.ending = this.session.endRun();
-    this.ending.catch((error) => this.goesOn(error));
-  },
-
-  /** Tells that a run could not be ended, and goes on. Where the program has ended, the run hears of it. */
-  goesOn(error) {
-    if (error instanceof Ended) return;
-    this.ending = undefined;
-    this.tell([`${error.message}; the run goes on`], "important");
+    if (!this.isSkipping || this.session.isCancelled) return;
+    this.session.cancel(true).catch((error) => this.tell([`${error.message}; the run goes on`], "important"));
   },
 
   /** Backwards: to before the step that bound a watched variable, else to before a step at a breakpoint, else to the beginning. */

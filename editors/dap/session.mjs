@@ -3,10 +3,10 @@
 import fs from "node:fs";
 import path from "node:path";
 import { whyNoName } from "../../front/session/files.mjs";
-import { Ended } from "../../front/session/program.mjs";
+import { unlessEnded } from "../../front/session/program.mjs";
 import { Session } from "../../front/session/session.mjs";
 import { isWhole } from "../../front/session/way_back.mjs";
-import { Cancelled, Refused } from "./refused.mjs";
+import { CANCELLED, Refused } from "./requests.mjs";
 
 const CONTROL = /[\u0000-\u0008\u000a-\u001f\u007f-\u009f]/; // a line feed would make two lines of one
 
@@ -14,27 +14,19 @@ class EditorSession extends Session {
   /** Sends a line; one that would be two, or that a terminal would not take, is refused and not sent. */
   async ask(line) {
     if (CONTROL.test(line)) throw new Refused("a line feed or another control stands in it: one line is taken at a time");
-    const reply = await this.askedUnlessCancelled(line);
+    if (this.isCancelled) throw CANCELLED;
+    const reply = await unlessEnded(super.ask(line), (ended) => { throw this.isCancelled ? CANCELLED : ended; });
     if (!/^ *save( |$)/.test(line) || isWhole(reply)) return reply;
     throw new Refused("F1 no memory: lines of the history are missing, so it is none, and nothing was saved");
   }
 
-  async askedUnlessCancelled(line) {
-    if (this.isCancelled) throw new Cancelled();
-    try {
-      return await super.ask(line);
-    } catch (error) {
-      throw this.isCancelled && error instanceof Ended ? new Cancelled() : error;
-    }
-  }
-
   /**
-   * Ends the line that the program is at: the session is as before it. As long as `isCancelled` says so no other line
-   * is asked. Throws where the line cannot be ended: then it goes on.
+   * Ends the line that is asked, where one is: the session is as before it. As long as `isCancelled` says so no other
+   * line is asked. Throws where the line cannot be ended: then it goes on.
    */
-  async cancel() {
+  async cancel(isAsking = this.program.isBusy) {
     this.isCancelled = true;
-    if (!this.program.isBusy) return;
+    if (!isAsking) return;
     this.ending ??= this.endRun();
     try {
       await this.ending;

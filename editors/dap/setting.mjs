@@ -3,28 +3,30 @@ import path from "node:path";
 import * as Reader from "../../front/text/reader.mjs";
 import { FILTERS } from "./breakpoints.mjs";
 import { readFunction, readOptions } from "./options.mjs";
-import { Refused } from "./refused.mjs";
-import { requests } from "./requests.mjs";
+import { requests, Refused } from "./requests.mjs";
 
 const KNOWN_FILTERS = FILTERS.map(({ filter }) => filter);
 const NO_CONDITION = "no condition is read here: a run stops where the variable is bound";
 
 /**
- * The answers to an editor's list of breakpoints, each made by `make`, which refuses what it cannot make. `numbers` are
- * those that they had, where they were set before.
+ * What becomes of an editor's list of breakpoints: what is answered to each, and the points at which runs stop. `make`
+ * gives of one its points and what else is answered, or refuses it. `numbers` are those that they had, where they were
+ * set before.
  */
-async function answers(adapter, list, numbers, make) {
-  const answered = [];
+async function madeOf(adapter, list, numbers, make) {
+  const answered = [], points = [];
   for (const [place, given] of [...list ?? []].entries()) {
-    const id = numbers[place] ?? adapter.breakpoints.number();
+    const id = numbers[place] ?? (adapter.breakpoints.last += 1);
     try {
-      answered.push({ id, ...await make(given, id) });
+      const { stops, ...shown } = await make(given);
+      stops.forEach((stop) => points.push({ id, hits: 0, ...stop }));
+      answered.push({ id, verified: true, ...shown });
     } catch (error) {
       if (!(error instanceof Refused)) throw error;
       answered.push({ id, verified: false, message: error.message });
     }
   }
-  return answered;
+  return { answered, points };
 }
 
 export default requests({
@@ -47,27 +49,23 @@ export default requests({
   },
 
   async on_setBreakpoints(request, numbers = []) {
-    const { source } = request, points = [];
-    const isOurs = source.path !== undefined && path.resolve(source.path) === this.places.file;
-    const answered = await answers(this, request.breakpoints, numbers, (given, id) => {
+    const { source } = request, isOurs = source.path !== undefined && path.resolve(source.path) === this.places.file;
+    const { answered, points } = await madeOf(this, request.breakpoints, numbers, (given) => {
       const clause = isOurs ? this.clauseAt(this.places.meant(given.line)) : undefined;
       if (clause === undefined) throw new Refused("no clause stands here");
       const { predicate, number } = clause, query = this.session.variables;
       const options = readOptions(given, { predicate, clause, query });
-      points.push({ id, kind: "clause", hits: 0, predicate, clause: number, ...options });
       const fits = options.pattern === undefined ? "" : ` and that fits ${String(given.condition).trim()}`;
       const message = `stops before a goal to which clause ${number} says yes${fits}`;
-      return { verified: true, line: this.places.shown(clause.line), source: this.places.source(), message };
+      const stops = [{ kind: "clause", predicate, clause: number, ...options }];
+      return { stops, line: this.places.shown(clause.line), source: this.places.source(), message };
     });
     return isOurs ? this.goOnWithPoints("on_setBreakpoints", request, answered, { clauses: points }) : { breakpoints: answered };
   },
 
   async on_setFunctionBreakpoints(request, numbers = []) {
-    const points = [], { predicates } = this.session;
-    const answered = await answers(this, request.breakpoints, numbers, (given, id) => {
-      points.push(...this.pointsAt(readFunction(given.name, predicates), given, id));
-      return { verified: true };
-    });
+    const make = (given) => ({ stops: this.stopsAt(given) });
+    const { answered, points } = await madeOf(this, request.breakpoints, numbers, make);
     return this.goOnWithPoints("on_setFunctionBreakpoints", request, answered, { predicates: points });
   },
 
@@ -78,32 +76,31 @@ export default requests({
     return { breakpoints: answered };
   },
 
-  /** A breakpoint at predicates: at those of which the condition is a pattern too, where there is one. */
-  pointsAt(places, given, id) {
-    const made = [], query = this.session.variables;
+  /** Where a function breakpoint stops: at its predicates, or at those of which its condition is a pattern. */
+  stopsAt(given) {
+    const stops = [], { variables: query, predicates } = this.session;
     let why;
-    for (const { predicate, pattern: named } of places) {
+    for (const { predicate, pattern: named } of readFunction(given.name, predicates)) {
       try {
-        made.push({ id, kind: "predicate", hits: 0, predicate, named, ...readOptions(given, { predicate, query }) });
+        stops.push({ kind: "predicate", predicate, named, ...readOptions(given, { predicate, query }) });
       } catch (error) {
         if (!(error instanceof Refused)) throw error;
         why ??= error;
       }
     }
-    if (made.length === 0) throw why;
-    return made;
+    if (stops.length === 0) throw why;
+    return stops;
   },
 
   /** A filter may come by its name alone, or as an option with a condition, which is not read. */
   async on_setExceptionBreakpoints({ filters = [], filterOptions = [] }) {
-    const set = new Set(), given = [...filters.map((filterId) => ({ filterId })), ...filterOptions];
-    const answered = await answers(this, given, [], ({ filterId, condition }) => {
+    const given = [...filters.map((filterId) => ({ filterId })), ...filterOptions];
+    const { answered, points } = await madeOf(this, given, [], ({ filterId, condition }) => {
       if (!KNOWN_FILTERS.includes(filterId)) throw new Refused(`no such filter; there are: ${KNOWN_FILTERS.join(", ")}`);
       if (condition) throw new Refused("no condition is read here: a run stops at each such goal");
-      set.add(filterId);
-      return { verified: true };
+      return { stops: [{ filter: filterId }] };
     });
-    this.breakpoints.filters = set;
+    this.breakpoints.filters = new Set(points.map(({ filter }) => filter));
     return { breakpoints: answered };
   },
 
@@ -116,12 +113,10 @@ export default requests({
   },
 
   async on_setDataBreakpoints({ breakpoints }) {
-    const points = [];
-    const answered = await answers(this, breakpoints, [], async ({ dataId, condition, hitCondition }, id) => {
+    const { answered, points } = await madeOf(this, breakpoints, [], async ({ dataId, condition, hitCondition }) => {
       if (!await this.isVariable(dataId)) throw new Refused(`${dataId} is no variable of the run; one is named as _1_2`);
       if (condition || hitCondition) throw new Refused(NO_CONDITION);
-      points.push({ id, variable: dataId });
-      return { verified: true };
+      return { stops: [{ variable: dataId }] };
     });
     this.breakpoints.variables = points;
     return { breakpoints: answered };

@@ -1,7 +1,6 @@
 // Requests that take steps, forwards and back.
-import { requests } from "./requests.mjs";
+import { requests, Refused } from "./requests.mjs";
 import * as Replies from "../../front/protocol/replies.mjs";
-import { Refused } from "./refused.mjs";
 
 export default requests({
   /** The process that goes on after a step: that of the goal stepped where it goes on, else of the first ready goal that was made. */
@@ -84,7 +83,7 @@ export default requests({
   },
 
   on_restartFrame({ frameId }) {
-    const { kind, what } = this.inside.referred(frameId) ?? {};
+    const { kind, what } = this.inside.references.get(frameId) ?? {};
     if (kind !== "step") throw new Refused("this goal was not stepped yet");
     this.later(() => this.rollTo(what, "restart"));
   },

@@ -1,6 +1,5 @@
 // What the files of requests add to the adapter, and what they hand to each other, for tools/lint.
 import { Beginning } from "./beginning.mjs";
-import Cancelling from "./cancelling.mjs";
 import Changing from "./changing.mjs";
 import Judging from "./judging.mjs";
 import Looking from "./looking.mjs";
@@ -9,7 +8,7 @@ import Running from "./running.mjs";
 import Setting from "./setting.mjs";
 import Stepping from "./stepping.mjs";
 
-type Requests = typeof Beginning & typeof Cancelling & typeof Changing & typeof Judging & typeof Looking
+type Requests = typeof Beginning & typeof Changing & typeof Judging & typeof Looking
   & typeof Restarting & typeof Running & typeof Setting & typeof Stepping;
 
 declare module "./adapter.mjs" {

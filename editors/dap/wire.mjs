@@ -1,4 +1,6 @@
 // The Debug Adapter Protocol's messages: texts of JSON, each after a head that tells its length in bytes.
+import { tried } from "../../front/session/files.mjs";
+
 const HEAD_END = "\r\n\r\n";
 
 /** A message as it is sent. */
@@ -22,19 +24,10 @@ class Decoder {
       const found = /^content-length: *(\d+)/im.exec(this.bytes.toString("latin1", 0, end)), start = end + HEAD_END.length;
       const length = found === null ? 0 : Number(found[1]);
       if (this.bytes.length < start + length) return;
-      this.tell(this.bytes.toString("utf8", start, start + length));
+      const message = tried(() => JSON.parse(this.bytes.toString("utf8", start, start + length)));
       this.bytes = this.bytes.subarray(start + length);
+      if (message !== undefined) this.hear(message);
     }
-  }
-
-  tell(text) {
-    let message;
-    try {
-      message = JSON.parse(text);
-    } catch {
-      return;
-    }
-    this.hear(message);
   }
 }
 

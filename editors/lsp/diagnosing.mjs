@@ -8,9 +8,8 @@ const NO_QUERY = "true"; // what is asked where the program's comment has no que
 const START = { start: { line: 0, character: 0 }, end: { line: 0, character: 1 } };
 
 /** Where a cause stands in the program's text: of the query's, in the comment. */
-function rangeOf(cause, text, places) {
-  const letter = Causes.letterOf(cause, cause.isQuery ? places.queryText : text);
-  const spot = places.spotOf({ clause: cause.isQuery ? 0 : 1, line: cause.line, letter, endLine: cause.line, endLetter: letter + cause.length });
+function rangeOf(cause, places) {
+  const spot = places.spotOfCause(cause);
   return { start: { line: spot.line, character: spot.column }, end: { line: spot.endLine, character: spot.endColumn } };
 }
 
@@ -22,26 +21,25 @@ const messageOf = ({ title, hints, isQuery }) => [`${isQuery ? "query: " : ""}${
 /**
  * The diagnostic of a refusal.
  * @param {Refusal} refusal
- * @param {string} text
  * @param {Places} places
  */
-function refusedFor({ said, lines, cause }, text, places) {
+function refusedFor({ said, lines, cause }, places) {
   const [code] = /F\d+/.exec(said) ?? [], told = { severity: ERROR, source: "ghcdb", ...(code && { code }) };
   if (cause === undefined) return { ...told, range: START, message: [said, ...lines].join("\n") };
-  return { ...told, range: rangeOf(cause, text, places), message: messageOf(cause) };
+  return { ...told, range: rangeOf(cause, places), message: messageOf(cause) };
 }
 
 /** The diagnostic of a note. */
-function notedFor(cause, text, places) {
-  return { severity: WARNING, source: "ghcdb", range: rangeOf(cause, text, places), message: messageOf(cause) };
+function notedFor(cause, places) {
+  return { severity: WARNING, source: "ghcdb", range: rangeOf(cause, places), message: messageOf(cause) };
 }
 
 /** The diagnostics of a program's text. */
 async function diagnosticsOf(text, native) {
-  const query = queryOf(text) || NO_QUERY, places = new Places("program", text, query, 0);
+  const query = queryOf(text) || NO_QUERY, places = new Places({ file: "program", text, query }, 0);
   const refusals = await everyRefusal({ text, query }, native);
-  if (refusals.length > 0) return refusals.map((refusal) => refusedFor(refusal, text, places));
-  return Causes.notesOn(text, "program").map((cause) => notedFor(cause, text, places));
+  if (refusals.length > 0) return refusals.map((refusal) => refusedFor(refusal, places));
+  return Causes.notesOn(text, "program").map((cause) => notedFor(cause, places));
 }
 
 export { diagnosticsOf };

@@ -9,8 +9,8 @@ import { fileURLToPath } from "node:url";
 import { Client } from "./lib/client.mjs";
 import { activated } from "./lib/stand_in.mjs";
 import { lacks, lacksInEmacs } from "./lib/there.mjs";
+import { zip } from "../vscode/archive.mjs";
 import { packedFiles, vsixFiles } from "../vscode/packing.mjs";
-import { zip } from "../vscode/zip.mjs";
 
 const HERE = path.dirname(fileURLToPath(import.meta.url));
 

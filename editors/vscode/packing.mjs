@@ -1,7 +1,9 @@
-// Which files the packed extension has: its own, and inside it the adapter, the language server and all that these need, in the places that they have here.
+// Packs the extension: its own files, and inside it the adapter, the language server and all that these need, in the
+// places that they have here.
 import fs from "node:fs";
 import path from "node:path";
 import { fileURLToPath } from "node:url";
+import { zip } from "./archive.mjs";
 
 const HERE = path.dirname(fileURLToPath(import.meta.url));
 
@@ -10,16 +12,13 @@ const OWN = ["package.json", "extension.js", "language.js", "language-configurat
 const FOLDERS = ["editors/dap", "editors/lsp", "front/protocol", "front/text", "front/run", "front/session"]; // of these all that ends in .mjs
 const SINGLE = ["editors/ghcdb-adapter", "editors/ghcdb-lsp", "web/ghcdb.html"];
 
-const read = (file) => fs.readFileSync(file);
 const scriptsIn = (folder) => fs.readdirSync(path.join(ROOT, folder)).filter((name) => name.endsWith(".mjs")).map((name) => `${folder}/${name}`);
 
 /** The extension's files by their names, each as bytes. */
 function packedFiles() {
-  const inside = [...FOLDERS.flatMap(scriptsIn), ...SINGLE];
-  const files = new Map();
-  for (const name of OWN) files.set(name, read(path.join(HERE, name)));
-  for (const name of inside) files.set(`inside/${name}`, read(path.join(ROOT, name)));
-  return files;
+  const own = OWN.map((name) => [name, `editors/vscode/${name}`]);
+  const inside = [...FOLDERS.flatMap(scriptsIn), ...SINGLE].map((name) => [`inside/${name}`, name]);
+  return new Map([...own, ...inside].map(([place, name]) => [place, fs.readFileSync(path.join(ROOT, name))]));
 }
 
 const TYPES = `<?xml version="1.0" encoding="utf-8"?>
@@ -45,11 +44,16 @@ function manifest({ name, publisher, version, displayName, description, engines 
 
 /** The files of the archive that VS Code installs. */
 function vsixFiles(files) {
-  const about = JSON.parse(files.get("package.json"));
-  const packed = new Map([["[Content_Types].xml", Buffer.from(TYPES)]]);
-  packed.set("extension.vsixmanifest", Buffer.from(manifest(about)));
-  for (const [name, bytes] of files) packed.set(`extension/${name}`, bytes);
+  const about = Buffer.from(manifest(JSON.parse(files.get("package.json"))));
+  const packed = new Map([["[Content_Types].xml", Buffer.from(TYPES)], ["extension.vsixmanifest", about]]);
+  files.forEach((bytes, name) => packed.set(`extension/${name}`, bytes));
   return packed;
 }
 
-export { packedFiles, vsixFiles };
+/** Writes the extension into a file, and tells the name. */
+function pack(file = path.join(HERE, "ghcdb.vsix")) {
+  fs.writeFileSync(file, zip(vsixFiles(packedFiles())));
+  process.stdout.write(`${file}\n`);
+}
+
+export { pack, packedFiles, vsixFiles };

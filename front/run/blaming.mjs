@@ -1,8 +1,11 @@
 // The talk about who is to blame: which question is open, what an answer to it says, and which predicates are trusted.
 import * as BlameLines from "../protocol/blame_lines.mjs";
+import { meant, usageOf } from "../protocol/commands.mjs";
 import * as Own from "./own.mjs";
 import * as Printed from "../text/printed.mjs";
 import * as Replies from "../protocol/replies.mjs";
+import { afterBlame } from "./blame_words.mjs";
+import { notesAfter } from "./telling.mjs";
 
 const ANSWERS = new Map(Object.entries({ y: true, yes: true, right: true, n: false, no: false, wrong: false }));
 const BACK = "u";
@@ -13,6 +16,7 @@ class Blaming {
     this.trusted = new Set(); // predicates, as `part/4`
     this.byTrust = new Set(); // goals that were taken for right, for their predicate is trusted
     this.line = undefined; // of `blame`, that was answered last
+    this.told = undefined; // what its reply tells
     this.goal = undefined; // about which it asks; none where it has found who is to blame
   }
 
@@ -26,6 +30,7 @@ class Blaming {
     if (Replies.isRefused(reply)) return;
     const told = BlameLines.read(reply);
     this.line = line;
+    this.told = told;
     this.changes = this.session.kept.changes;
     this.goal = told.ask?.goal;
     this.predicate = told.given === null ? undefined : Printed.predicateOf(told.given);
@@ -83,6 +88,14 @@ class Blaming {
     return named.map((predicate) => (trusted.has(predicate) ? `${predicate} is trusted: blame takes its calls for right` : `${predicate} is trusted no longer`));
   }
 
+  /** What `blame`, `trust` or an answer means: lines to be told, and the line of `blame` to be asked then, if any. */
+  asked(name, words) {
+    if (name === "blame") return { told: [], line: this.lineOf(words) };
+    if (name === "trust") return { told: this.trustLines(words[0]), line: this.isTrusted ? this.line : undefined };
+    const line = this.lineWith(name);
+    return { told: line === undefined ? [this.whyNoLine(name)] : [], line };
+  }
+
   /**
    * Asks a line of `blame`, and answers itself what is asked about calls that are trusted, until `isEnded` says so. Gives the line that was
    * asked last, its reply, and notes on what was taken for right.
@@ -99,6 +112,13 @@ class Blaming {
       this.note(line, reply);
     }
     return { line, reply, notes: goals.length === 0 ? [] : [`right, for they are trusted: ${goals.join(", ")}`] };
+  }
+
+  /** What the reply to a line of `blame` means, or what helps where it is refused. */
+  async wordsAfter(line, reply) {
+    if (reply[0] === "F25 command") return [usageOf("blame")];
+    if (!Replies.isRefused(reply)) return afterBlame(this.session, line, reply);
+    return notesAfter(this.session, meant("blame", ...line.split(" ").slice(1)), reply);
   }
 }
 
