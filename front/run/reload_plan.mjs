@@ -1,10 +1,10 @@
 // What becomes of a run where its program has changed: which clauses are gone, which steps go with them, and the
 // history by which the rest goes on under the new program. A clause is the same where its tokens are. The console
 // judges the history: nothing is promised here. Pure.
-import * as Consequences from "./consequences.mjs";
 import * as Printed from "../text/printed.mjs";
 import * as Reader from "../text/reader.mjs";
 import * as Tokens from "../text/tokens.mjs";
+import * as Graph from "./graph.mjs";
 
 const VARIABLE = /\b_(\d+)_(\d+)\b/g;
 
@@ -30,20 +30,28 @@ function pairsOf(before, after) {
 }
 
 /**
+ * Which steps of a graph go with clauses: those by one of them, and all that depend on these. 1 for each by its index,
+ * and how many they are.
+ */
+function goingWith(clauses, graph) {
+  const isGone = new Set(clauses.map(({ number }) => number));
+  return Graph.dependents(graph, (index) => isGone.has(graph.clauses.at(index)));
+}
+
+/**
  * The plan for clauses, those before and after, and the steps of a record: the `pairs` of clauses, those that are
  * `gone` and `come`, the steps that go, `going`, and those that stay, `staying`, both in recorded order. A step goes
  * where its clause is gone, and where it depends on one that goes.
  */
 function planOf({ before, after, steps }) {
   const pairs = pairsOf(before, after), numbers = new Set(pairs.values());
-  const wrong = steps.filter(({ clause }) => clause !== null && !pairs.has(clause)).map(({ number }) => number);
-  const reached = Consequences.reachedFrom(wrong, steps);
+  const gone = before.filter(({ number }) => !pairs.has(number)), { isIn } = goingWith(gone, Graph.graphOf(steps));
   return {
     pairs,
-    gone: before.filter(({ number }) => !pairs.has(number)),
+    gone,
     come: after.filter(({ number }) => !numbers.has(number)),
-    going: steps.filter(({ number }) => reached.has(number)),
-    staying: steps.filter(({ number }) => !reached.has(number)),
+    going: steps.filter((step, at) => isIn[at] === 1),
+    staying: steps.filter((step, at) => isIn[at] === 0),
   };
 }
 
@@ -114,4 +122,4 @@ function historyOf(plan, { next, spied, shelved }) {
   return text.map((line) => `${line}\n`).join("");
 }
 
-export { historyOf, isRenumbered, nameAfter, planOf, shelvedAt, shelvedOf };
+export { goingWith, historyOf, isRenumbered, nameAfter, planOf, shelvedAt, shelvedOf };

@@ -3,7 +3,6 @@
 import * as Histories from "../protocol/histories.mjs";
 import * as Replies from "../protocol/replies.mjs";
 import * as Clauses from "../text/clauses.mjs";
-import * as Graph from "./graph.mjs";
 import * as ReloadPlan from "./reload_plan.mjs";
 
 const MOST_TAKEN = 8; // steps that are named
@@ -11,8 +10,7 @@ const MOST_TAKEN = 8; // steps that are named
 /** Which steps of a run go under a text that may be half written: 1 for each by its index, and how many they are. */
 function goingUnder({ graph, clauses }, text) {
   const { gone } = ReloadPlan.planOf({ before: clauses, after: Clauses.clausesOf(text), steps: [] });
-  const isGone = new Set(gone.map(({ number }) => number));
-  return Graph.dependents(graph, (index) => isGone.has(graph.clauses.at(index)));
+  return ReloadPlan.goingWith(gone, graph);
 }
 
 /**
