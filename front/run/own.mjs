@@ -1,5 +1,6 @@
 // The commands that the terminal answers itself: each gives lines, computed from what the session tells. Nothing here changes a session.
 import { buildingLines } from "./building.mjs";
+import * as Graph from "./graph.mjs";
 import { linesAtEnd } from "./let_go.mjs";
 import { plural } from "./reasons.mjs";
 import * as Waits from "./waits.mjs";
@@ -39,23 +40,15 @@ async function records(session, [word]) {
   return shown.length === 0 ? [`no kept step of ${word}`] : shown.map(({ number, goal, act }) => `${number} ${run.textOf(goal)} ${act}`);
 }
 
-/** The longest chain of causes. */
-function longestChain(run, steps) {
-  const depths = new Map();
-  for (const { number, goal } of steps) {
-    const causes = [...(run.records.get(number)?.reads ?? []).map((variable) => run.binders.get(variable)), goal === null ? undefined : run.makerOf(goal)?.number];
-    depths.set(number, 1 + Math.max(0, ...causes.map((cause) => depths.get(cause) ?? 0)));
-  }
-  return [...depths.values()].reduce((most, depth) => Math.max(most, depth), 0);
-}
-
 async function stat(session) {
-  const run = await session.look(), steps = [...session.kept.steps.values()], counts = new Map();
+  const { run } = session, steps = [...session.kept.steps.values()], counts = new Map();
   for (const { goal, act } of steps) {
     const kind = run.predicateOf(goal) ?? act.split(" ")[0];
     counts.set(kind, (counts.get(kind) ?? 0) + 1);
   }
-  const chain = longestChain(run, steps), lines = [...counts].sort((one, other) => other[1] - one[1]).map(([kind, count]) => `${String(count).padStart(6)} ${kind}`);
+  const sorted = [...counts].sort((one, other) => other[1] - one[1]);
+  const chain = Graph.graphOf(await session.ask("records")).deepestChain;
+  const lines = sorted.map(([kind, count]) => `${String(count).padStart(6)} ${kind}`);
   return [...lines, `${plural(steps.length, "step")}, longest chain of causes ${chain}: on average ${(steps.length / Math.max(1, chain)).toFixed(1)} at once`];
 }
 
