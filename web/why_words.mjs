@@ -4,7 +4,6 @@
 import * as WhyNotLines from "../front/protocol/why_not_lines.mjs";
 import * as Printed from "../front/text/printed.mjs";
 import * as Terms from "../front/run/terms.mjs";
-import { unnamedPlace } from "../front/run/let_go.mjs";
 
 const MOST = 6, LONGEST = 120; // goals or steps that are named; letters of a goal that a step took
 
@@ -46,7 +45,7 @@ function letGo({ number, text, act }) {
 /** Where a variable comes from: whether it is a `_`, and which step made it; nothing of one that the query names. */
 function originWords({ run: { graph }, texts }, variable) {
   const [step] = Printed.numbersOf(variable), clause = graph.byNumber.get(step)?.clause;
-  const isUnnamed = texts !== null && unnamedPlace({ ...texts, run: texts }, variable) !== undefined;
+  const isUnnamed = texts !== null && texts.isUnnamed(variable);
   if (step === 0) return isUnnamed ? ["it is a _ of the query"] : [];
   return [isUnnamed ? "it is a _, and step " : "step ", { step }, ` made it${clause ? ` by clause ${clause}` : ""}`];
 }

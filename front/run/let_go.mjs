@@ -113,21 +113,12 @@ async function whyAtEnd(session, goals) {
   return stuckAt(session, waiting);
 }
 
-/** The step that made a variable which is a `_` of its clause, and the clause; undefined of other variables. */
-function unnamedPlace({ run, clauses, kept }, variable) {
-  const [step, place] = Printed.numbersOf(variable), clause = clauses[(kept.steps.get(step)?.clause ?? 0) - 1];
-  const { length } = step === 0 ? run.query.variables : clause?.news ?? [];
-  if (place > length || run.nameOf(variable) !== undefined) return undefined;
-  return { step, clause };
+/** Where a variable comes from: the clause that made it, also where it is a `_`; nothing of one that the query names. */
+function originWords({ run }, variable) {
+  const [step] = Printed.numbersOf(variable), clause = run.clauseOf(step), isUnnamed = run.isUnnamed(variable);
+  if (clause === undefined) return isUnnamed ? "; it is a _ of the query" : "";
+  const made = `clause ${clause.number} (line ${clause.line})`;
+  return isUnnamed ? `; it is a _ of ${made}, made by step ${step}` : `; ${made} made it`;
 }
 
-/** Where a variable was made that is a `_`, so that no other goal there has it; nothing of others. */
-function unnamedWords(session, variable) {
-  const place = unnamedPlace(session, variable);
-  if (place === undefined) return "";
-  const { step, clause } = place;
-  if (step === 0) return "; it is a _ of the query";
-  return `; it is a _ of clause ${clause.number} (line ${clause.line}), made by step ${step}`;
-}
-
-export { whoLetGo, isLetGo, isLong, linesAtEnd, lostWords, takenWords, unnamedPlace, unnamedWords, whyAtEnd };
+export { whoLetGo, isLetGo, isLong, linesAtEnd, lostWords, originWords, takenWords, whyAtEnd };

@@ -1,5 +1,4 @@
 // The commands that the terminal answers itself: each gives lines, computed from what the session tells. Nothing here changes a session.
-import { buildingLines } from "./building.mjs";
 import * as Graph from "./graph.mjs";
 import { linesAtEnd } from "./let_go.mjs";
 import { plural } from "./reasons.mjs";
@@ -18,7 +17,7 @@ async function stuck(session) {
   const goals = await session.goals(), waits = await Waits.waitsOf(session, goals);
   const lines = Waits.linesOf(session, goals, waits);
   const failed = goals.filter(({ status }) => status === "failed").map(({ name, refusal }) => `${name} has failed: ${refusal}; explain ${name} and blame ${name} tell more`);
-  if (lines.length + failed.length > 0) return [...failed, ...lines, ...buildingLines(session, waits)];
+  if (lines.length + failed.length > 0) return [...failed, ...lines, ...Waits.buildingLines(session, waits)];
   return goals.length === 0 ? linesAtEnd(session) : ["no goal waits"];
 }
 

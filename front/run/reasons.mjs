@@ -5,10 +5,9 @@ import * as Reader from "../text/reader.mjs";
 import { plural } from "../text/plural.mjs";
 import Refusals from "../protocol/refusals.mjs";
 import * as Replies from "../protocol/replies.mjs";
-import { buildingLines } from "./building.mjs";
 import { cut, termOf } from "./named.mjs";
 import { whyNo } from "./saying_no.mjs";
-import { lineOf, waitsOf } from "./waits.mjs";
+import { buildingLines, lineOf, waitsOf } from "./waits.mjs";
 
 const MOST = 12; // lines of a kind that it tells
 const MOST_LOOKED = 200_000; // kept steps: of a longer run not all that depends on a step is looked for

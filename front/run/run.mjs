@@ -5,8 +5,6 @@ import * as Printed from "../text/printed.mjs";
 import * as Print from "../text/print.mjs";
 import * as Replies from "../protocol/replies.mjs";
 
-const numbersOf = (name) => name.match(/\d+/g).map(Number);
-
 /** The term in which each variable stands for what `env` gives. */
 function substitute(term, env) {
   return Reader.fold(term, (leaf) => (leaf.variable === undefined ? leaf : env.get(leaf.variable) ?? leaf), (name, terms) => ({ name, arguments: terms }));
@@ -122,7 +120,17 @@ class Run {
 
   /** The step that made a goal; undefined for a goal of the query, and where the step is not kept. */
   makerOf(goal) {
-    return this.kept.steps.get(numbersOf(goal)[0]);
+    return this.kept.steps.get(Printed.nameParts(goal)[0]);
+  }
+
+  /** The clause by which a step took its goal; undefined where it took none, and where the step is not kept. */
+  clauseOf(number) {
+    return this.clauses[this.kept.steps.get(number)?.clause - 1];
+  }
+
+  /** The goals that a step made by its clause, and its variables' names; those of the query where `number` is 0. */
+  madeBy(number) {
+    return number === 0 ? { goals: this.query.goals, news: this.query.variables } : this.clauseOf(number);
   }
 
   /** The goals of an ask, as written. */
@@ -143,13 +151,12 @@ class Run {
 
   /** A goal that a step made, where the goal that the step consumed is known. */
   madeGoal(name) {
-    const step = this.makerOf(name), place = numbersOf(name)[1] - 1;
-    if (step === undefined) return undefined;
-    if (step.act.startsWith("ask ")) return this.askedBy(step)[place];
+    const step = this.makerOf(name), written = this.writtenGoal(name);
+    if (step === undefined || step.act.startsWith("ask ")) return written;
     const consumed = this.goals.get(step.goal);
     if (consumed === undefined) return undefined;
     if (consumed.sort === "stream") return { ...consumed, tail: { variable: `_${step.number}_1` } };
-    const written = this.clauses[step.clause - 1]?.goals[place], env = this.environmentOf(step.number);
+    const env = this.environmentOf(step.number);
     return written === undefined || env === undefined ? undefined : substituteGoal(written, env);
   }
 
@@ -170,9 +177,10 @@ class Run {
   /** What the variables of a step's clause stand for, 0 being the query; undefined where the step takes no clause. */
   environmentOf(number) {
     if (this.environments.has(number)) return this.environments.get(number);
-    const step = this.kept.steps.get(number), goal = this.isFresh && step?.clause ? this.goalOf(step.goal) : undefined;
+    const clause = this.clauseOf(number);
+    const goal = this.isFresh && clause !== undefined ? this.goalOf(this.kept.steps.get(number).goal) : undefined;
     if (goal === undefined) return undefined;
-    const clause = this.clauses[step.clause - 1], env = Run.bindingsOf(clause.head, goal.call, this);
+    const env = Run.bindingsOf(clause.head, goal.call, this);
     clause.news.forEach((name, place) => env.set(name, { variable: `_${number}_${place + 1}` }));
     this.environments.set(number, env);
     return env;
@@ -194,47 +202,53 @@ class Run {
 
   /** The goal of the text of which a goal came: of a clause, of the query, or of an ask. */
   writtenGoal(name) {
-    const [number, place] = numbersOf(name), step = this.kept.steps.get(number);
-    if (number === 0) return this.query.goals[place - 1];
-    if (step === undefined) return undefined;
-    if (step.clause) return this.clauses[step.clause - 1].goals[place - 1];
-    return step.act.startsWith("ask ") ? this.askedBy(step)[place - 1] : undefined;
+    const [number, place] = Printed.nameParts(name), step = this.kept.steps.get(number);
+    const goals = step?.act.startsWith("ask ") ? this.askedBy(step) : this.madeBy(number)?.goals;
+    return goals?.[place - 1];
   }
 
   /** Where a goal stands in the texts: the clause's number, or 0 for the query, and the place; undefined where it has none. */
   placeOf(name) {
     for (let at = name; at !== null && at !== undefined;) {
-      const [number] = numbersOf(at), written = this.writtenGoal(at), step = this.kept.steps.get(number);
+      const written = this.writtenGoal(at), step = this.makerOf(at);
       if (written !== undefined && !step?.act.startsWith("ask ")) return { clause: step?.clause ?? 0, ...written.place };
       at = step?.goal;
     }
     return undefined;
   }
 
+  /** What a variable of the state is in the text, a name or a `_`; undefined where it does not stand there. */
+  writtenVariable(variable) {
+    if (!Reader.isState(variable)) return undefined;
+    const [number, place] = Printed.numbersOf(variable);
+    return this.madeBy(number)?.news[place - 1];
+  }
+
   /** The name that the text gives to a variable of the state; undefined where it has none. */
   nameOf(variable) {
-    if (!Reader.isState(variable)) return undefined;
-    const [number, place] = numbersOf(variable), step = this.kept.steps.get(number);
-    const names = number === 0 ? this.query.variables : step?.clause ? this.clauses[step.clause - 1].news : [];
-    const name = names[place - 1];
+    const name = this.writtenVariable(variable);
     return name !== undefined && Reader.isWritten(name) ? name : undefined;
+  }
+
+  /** Is a variable of the state a `_` of the text? */
+  isUnnamed(variable) {
+    const name = this.writtenVariable(variable);
+    return name !== undefined && !Reader.isWritten(name);
   }
 
   /** A variable with its name in words, as `_16_2 (Tail1 of step 16)`. */
   labelOf(variable) {
-    const name = this.nameOf(variable), [number] = numbersOf(variable);
+    const name = this.nameOf(variable), [number] = Printed.numbersOf(variable);
     return name === undefined ? variable : `${variable} (${name} of ${number === 0 ? "the query" : `step ${number}`})`;
   }
 
   /** The variables of the state to which the text gives a name. */
   variablesNamed(name) {
-    const found = [], place = this.query.variables.indexOf(name);
-    if (place >= 0) found.push(`_0_${place + 1}`);
-    for (const step of this.kept.steps.values()) {
-      const at = step.clause ? this.clauses[step.clause - 1].news.indexOf(name) : -1;
-      if (at >= 0) found.push(`_${step.number}_${at + 1}`);
-    }
-    return found;
+    const found = (number) => {
+      const place = this.madeBy(number)?.news.indexOf(name) ?? -1;
+      return place < 0 ? [] : [`_${number}_${place + 1}`];
+    };
+    return [0, ...this.kept.steps.keys()].flatMap(found);
   }
 }
 

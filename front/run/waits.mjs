@@ -1,12 +1,17 @@
 // Why goals wait: who has what they wait for, whether anybody can bind it, and who let it go; as `whynot` tells it, in
-// words. Nothing here looks for it.
+// words. Nothing here looks for it. And whether a goal waits for what a head would have to build, which no head does.
+import * as Builders from "../text/builders.mjs";
+import * as CheckerCauses from "../text/checker_causes.mjs";
+import * as Print from "../text/print.mjs";
 import * as Printed from "../text/printed.mjs";
 import * as WhyNotLines from "../protocol/why_not_lines.mjs";
-import { isLong, lostWords, unnamedWords } from "./let_go.mjs";
+import { isLong, lostWords, originWords } from "./let_go.mjs";
+import { termOf } from "./named.mjs";
 
 const NAMED = 12; // goals or variables that a line names
 const TOLD = 200; // goals of which it is told
 const ASKED = 40; // goals about which it is asked: a reply tells of others, too
+const BUILDING = 6; // lines on what heads would have to build
 
 /** Things by their variables. */
 function byVariable(all) {
@@ -77,16 +82,10 @@ const inVain = ({ goal, status }) =>
   `${goal}, which ${status.startsWith("failed") ? "has failed" : "waits for it too"}`;
 const standing = ({ goal, status }) => `${goal} ${status.split(" ")[0]}`;
 
-/** By which clause a variable was made; nothing of one of the query. */
-function makerWords({ clauses, kept }, variable) {
-  const [number] = Printed.numbersOf(variable), clause = clauses[(kept.steps.get(number)?.clause ?? 0) - 1];
-  return clause === undefined ? "" : `; clause ${clause.number} (line ${clause.line}) made it`;
-}
-
-/** Who let go of a variable that nobody binds; else that it is a `_`, or who made it. */
+/** Who let go of a variable that nobody binds; else where it comes from. */
 function lostOf(session, { variable, told }) {
   const who = lostWords(session, told.lost.get(variable) ?? []);
-  return who === "" ? unnamedWords(session, variable) || makerWords(session, variable) : `; ${who}`;
+  return who === "" ? originWords(session, variable) : `; ${who}`;
 }
 
 /** Who has what a wait is for, in words. */
@@ -134,4 +133,41 @@ async function lostLines(session, goals) {
   return [];
 }
 
-export { holdersOf, waitsOf, isHelpless, holdersIn, lineOf, linesOf, lostLines };
+/** Do none of the goals beside which a variable was made ever bind it, nor whom they hand it to? */
+function isNobodys(session, variable, places) {
+  const [maker] = Printed.numbersOf(variable), name = session.run.nameOf(variable);
+  return name !== undefined && !session.run.madeBy(maker).goals.some((goal) => Builders.mayBind(goal, name, places));
+}
+
+/**
+ * What of a goal's heads may be the cause that it waits for a variable: the first head that wants something there,
+ * where no goal ever makes that, or where another clause of the predicate does. Is it sure that the body has to?
+ */
+function causeOf(session, { goal, variable }, places) {
+  /** @type {any} */
+  const call = goal.sort === "call" ? termOf(goal.text) : undefined;
+  const place = call?.arguments?.findIndex((argument) => argument.variable === variable) ?? -1;
+  if (place < 0) return undefined;
+  const predicate = Print.predicateOf(call), [clause] = CheckerCauses.readersOf(session.clauses, predicate, place);
+  if (clause === undefined) return undefined;
+  const isBound = places.has(Builders.keyOf(predicate, place)), isLost = isNobodys(session, variable, places);
+  const isSure = isBound || (isLost && Builders.isBuilt(clause, place));
+  return isSure || isLost ? { variable, clause, place, isSure } : undefined;
+}
+
+/** A cause in words. */
+function wordsOf(session, { variable, clause, place, isSure }) {
+  const isOfQuery = Printed.numbersOf(variable)[0] === 0;
+  return `a head reads and does not build: ${Builders.words(session.clauses, clause, place, { isSure, isOfQuery })}`;
+}
+
+/** Lines on waits for what heads want. Of a variable those that are sure go first. */
+function buildingLines(session, waits) {
+  const places = Builders.placesBound(session.clauses);
+  const causes = waits.filter(isHelpless).map((wait) => causeOf(session, wait, places)).filter(Boolean);
+  const sure = new Set(causes.filter(({ isSure }) => isSure).map(({ variable }) => variable));
+  const told = causes.filter(({ variable, isSure }) => isSure || !sure.has(variable));
+  return [...new Set(told.map((cause) => wordsOf(session, cause)))].slice(0, BUILDING);
+}
+
+export { buildingLines, holdersOf, waitsOf, isHelpless, holdersIn, lineOf, linesOf, lostLines };
