@@ -133,7 +133,7 @@ async function afterBlame(session, line, reply) {
 }
 
 /** After `part`: the names of the variables, and the clause that took the call. */
-function afterPart(session, goal, reply) {
+function afterPart(session, { words: [goal] }, reply) {
   const told = BlameLines.read(reply), made = told.taken === null ? [] : takenWords(session, goal);
   return [callWords(session, told.gave === null && told.left === null ? { ...told, left: told.standing } : told, goal), ...warnings(told), ...made];
 }

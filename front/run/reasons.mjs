@@ -6,15 +6,39 @@ import { plural } from "../text/plural.mjs";
 import Refusals from "../protocol/refusals.mjs";
 import * as Replies from "../protocol/replies.mjs";
 import { cut, termOf } from "./named.mjs";
-import { whyNo } from "./saying_no.mjs";
+import Run from "./run.mjs";
 import { buildingLines, lineOf, waitsOf } from "./waits.mjs";
 
 const MOST = 12; // lines of a kind that it tells
+const WIDEST = 60; // letters of a term or a side that are shown
 const MOST_LOOKED = 200_000; // kept steps: of a longer run not all that depends on a step is looked for
 
 const some = (words) => (words.length > MOST ? [...words.slice(0, MOST), ".."] : words);
 
 const labelOf = (session) => (variable) => session.run.labelOf(variable);
+
+/** A term in few letters, with what a store gives. */
+const shown = (term, store) => Print.term(term, { store, most: WIDEST });
+
+/** What a test's variables stand for in a call, as `(N = 0)`; nothing where it has none, or the call is unknown. */
+function valuesIn({ head }, test, call) {
+  const terms = test.sort === "comparison" ? [test.left, test.right] : [test.call];
+  const names = [...Reader.addVariables(new Set(), ...terms)];
+  if (call === undefined || names.length === 0) return "";
+  const bindings = Run.bindingsOf(head, call);
+  return ` (${names.map((name) => `${name} = ${shown(bindings.get(name))}`).join(", ")})`;
+}
+
+/** Why a clause says no, `at` one of its places, to a call as it stands; of one that is too long it is undefined. */
+function whyNo(clause, { part, number }, call) {
+  if (part === "head") {
+    const wants = `the head wants ${shown(clause.head.arguments[number - 1])}`;
+    if (call === undefined) return `${wants} as argument ${number}`;
+    return `${wants}, the goal has ${shown(call.arguments[number - 1])}`;
+  }
+  const test = clause.tests[number - 1];
+  return `${test.text} ${part === "value" ? "has no value" : "says no"}${valuesIn(clause, test, call)}`;
+}
 
 /** Why clauses say no to a call with a text, by the lines of `clauses`. */
 function whyNoTo(session, text, lines) {
@@ -55,14 +79,14 @@ function boundBefore(run, goal) {
 async function whyUnequal(session, name) {
   const run = await session.look(), goal = run.goalOf(name);
   if (goal?.right === undefined) return [];
-  const [left, right] = [goal.left, goal.right].map((term) => Print.term(term, { store: run.shown, most: 60 }));
+  const [left, right] = [goal.left, goal.right].map((term) => shown(term, run.shown));
   return [`${left} and ${right}`, ...boundBefore(run, goal)];
 }
 
 /** What could not be computed: which of these the console does not tell. */
 async function whyNoValue(session, name) {
   const goal = await session.goalNamed(name), [, right] = / := (.*)$/.exec(goal?.text ?? "") ?? [];
-  return right === undefined ? [] : [`${cut(right, 60)}: division by zero, no integer, or beyond 64 bits`];
+  return right === undefined ? [] : [`${cut(right, WIDEST)}: division by zero, no integer, or beyond 64 bits`];
 }
 
 /** Who could bind what a goal waits for. */
@@ -87,4 +111,4 @@ async function whyFailed(session, name, refusal) {
   return refusal === "F13" ? whyNoValue(session, name) : [Refusals[refusal]];
 }
 
-export { MOST, plural, some, labelOf, whyTheySayNo, whyNoClause, whyWaits, whyFailed, hasConsequences };
+export { MOST, plural, some, labelOf, whyNo, whyTheySayNo, whyNoClause, whyWaits, whyFailed, hasConsequences };
