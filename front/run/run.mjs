@@ -4,6 +4,7 @@ import * as Reader from "../text/reader.mjs";
 import * as Printed from "../text/printed.mjs";
 import * as Print from "../text/print.mjs";
 import * as Replies from "../protocol/replies.mjs";
+import { beginningOf } from "./named.mjs";
 
 /** The term in which each variable stands for what `env` gives. */
 function substitute(term, env) {
@@ -15,12 +16,8 @@ function substituteGoal(goal, env) {
   return { sort: goal.sort, left: substitute(goal.left, env), right: substitute(goal.right, env) };
 }
 
-const NONE = [];
 const SETTLED = { endOf: (term) => term }; // of a goal as the console prints it, in which bindings are followed
 const LONGEST = 1_048_576, SHOWN = 200; // letters of a binding that is read; letters of a longer one that are shown
-
-// What is thrown where a binding would have to be read whose text is too long for that.
-class TooLong extends Error {}
 
 class Run {
   /** The run of a program's clauses and a query, of which no step is known. `kept` tells its steps, as they are now. */
@@ -28,7 +25,7 @@ class Run {
     this.clauses = clauses;
     this.kept = kept;
     this.query = Reader.readQuery(query);
-    this.records = new Map(); // by the step's number
+    this.records = new Map(); // what each step bound, by its number
     this.bound = new Map(); // what each variable is bound to: a text, or the term once it was read
     this.binders = new Map(); // the step that bound a variable
     this.goals = new Map(); // goals as written, by name
@@ -47,10 +44,9 @@ class Run {
     let streams = 0;
     this.query.goals.forEach((goal, place) => {
       const made = substituteGoal(goal, this.environments.get(0));
-      const isStream = made.sort === "call" && made.call.name === "instream" && made.call.arguments.length === 1;
-      const name = `0.${place + 1}`;
-      if (isStream) this.goals.set(name, { sort: "stream", stream: (streams += 1), tail: made.call.arguments[0] });
-      else this.goals.set(name, made);
+      const isStream = Print.predicateOf(made.call) === "instream/1";
+      const stream = isStream && { sort: "stream", stream: (streams += 1), tail: made.call.arguments[0] };
+      this.goals.set(`0.${place + 1}`, stream || made);
     });
   }
 
@@ -75,8 +71,8 @@ class Run {
   /** Learns steps as their record lines tell them. */
   learnSteps(steps) {
     this.learnedAt = this.kept.changes;
-    for (const { number, reads, binds, names } of steps) {
-      this.records.set(number, { reads, binds, names });
+    for (const { number, binds } of steps) {
+      this.records.set(number, { binds });
       for (const { variable, term } of binds) {
         this.bound.set(variable, term);
         this.binders.set(variable, number);
@@ -87,7 +83,7 @@ class Run {
   /** Forgets what was known of steps that went. */
   forget(numbers) {
     for (const number of numbers) {
-      for (const { variable } of this.records.get(number)?.binds ?? NONE) {
+      for (const { variable } of this.records.get(number)?.binds ?? []) {
         this.bound.delete(variable);
         this.binders.delete(variable);
       }
@@ -95,27 +91,26 @@ class Run {
     }
   }
 
-  termOf(variable) {
+  /** What a variable is bound to. Of a text that is too long to be read `shown` letters stand for it, or it throws. */
+  termOf(variable, shown) {
     const bound = this.bound.get(variable);
     if (typeof bound !== "string") return bound;
-    if (bound.length > LONGEST) throw new TooLong(`the value of ${variable} has ${bound.length} letters, and is not taken apart`);
+    const { length } = bound, isLong = length > LONGEST;
+    if (isLong && shown !== undefined) return beginningOf(bound, shown);
+    if (isLong) throw new Error(`the value of ${variable} has ${length} letters, and is not taken apart`);
     const term = Reader.readTerm(bound);
     this.bound.set(variable, term);
     return term;
   }
 
   /** Where the chain of a term ends, as far as it is known. */
-  endOf(term) {
-    return this.isFresh ? Printed.endOfChain(term, ({ variable }) => (variable === undefined ? undefined : this.termOf(variable))) : term;
+  endOf(term, shown) {
+    return this.isFresh ? Printed.endOfChain(term, ({ variable }) => this.termOf(variable, shown)) : term;
   }
 
   /** The store as it is shown: of a binding that is too long to be read its first letters stand for it. */
   get shown() {
-    const boundTo = ({ variable }) => {
-      const bound = variable === undefined ? undefined : this.bound.get(variable);
-      return bound?.length > LONGEST ? { name: `${bound.slice(0, SHOWN)}${Print.CUT}`, arguments: [] } : bound && this.termOf(variable);
-    };
-    return { endOf: (term) => (this.isFresh ? Printed.endOfChain(term, boundTo) : term) };
+    return { endOf: (term) => this.endOf(term, SHOWN) };
   }
 
   /** The step that made a goal; undefined for a goal of the query, and where the step is not kept. */
