@@ -1,6 +1,5 @@
 // The commands that the terminal answers itself: each gives lines, computed from what the session tells. Nothing here changes a session.
 import * as Graph from "./graph.mjs";
-import { linesAtEnd } from "./let_go.mjs";
 import { plural } from "./reasons.mjs";
 import * as Waits from "./waits.mjs";
 import * as Printed from "../text/printed.mjs";
@@ -18,7 +17,7 @@ async function stuck(session) {
   const lines = Waits.linesOf(session, goals, waits);
   const failed = goals.filter(({ status }) => status === "failed").map(({ name, refusal }) => `${name} has failed: ${refusal}; explain ${name} and blame ${name} tell more`);
   if (lines.length + failed.length > 0) return [...failed, ...lines, ...Waits.buildingLines(session, waits)];
-  return goals.length === 0 ? linesAtEnd(session) : ["no goal waits"];
+  return goals.length === 0 ? Waits.linesAtEnd(session) : ["no goal waits"];
 }
 
 /** The variables of the state that a word names: `_n_m`, or a name of the text. */

@@ -13,8 +13,7 @@ import { causeInTerm } from "../text/causes_in_terms.mjs";
 import * as Replies from "../protocol/replies.mjs";
 import * as WhyNotLines from "../protocol/why_not_lines.mjs";
 import { afterPart, otherClauseWords } from "./blame_words.mjs";
-import { linesAtEnd, takenWords, whoLetGo } from "./let_go.mjs";
-import { holdersOf, lostLines } from "./waits.mjs";
+import { holdersOf, linesAtEnd, lostLines, takenWords, whoLetGo } from "./waits.mjs";
 import { MOST, plural, some, labelOf, whyTheySayNo, whyNoClause, whyWaits, whyFailed, hasConsequences } from "./reasons.mjs";
 
 const BEGINNING = 200; // letters that it tells of a value that is too long
