@@ -22,12 +22,9 @@ const whyRepeated = (variable) => `a variable of a pattern fits everything, so t
 /** Does a goal fit a pattern? A variable of the pattern fits everything. */
 function fits(pattern, term, run) {
   if (pattern.variable !== undefined) return true;
-  const end = run.endOf(term);
-  if (pattern.integer !== undefined || end.arguments === undefined) {
-    return pattern.integer === end.integer && pattern.arguments === end.arguments;
-  }
-  if (pattern.name !== end.name || pattern.arguments.length !== end.arguments.length) return false;
-  return pattern.arguments.every((argument, place) => fits(argument, end.arguments[place], run));
+  const end = run.endOf(term), { integer, name, arguments: terms = [] } = pattern;
+  if (integer !== end.integer || name !== end.name || terms.length !== (end.arguments ?? []).length) return false;
+  return terms.every((argument, place) => fits(argument, end.arguments[place], run));
 }
 
 // The patterns to which the goals of a predicate are narrowed, at which a run stops.

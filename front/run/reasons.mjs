@@ -64,8 +64,8 @@ async function whyNoClause(session, name, clause) {
 /** The variable that was bound to the value of a term, at the end of its chain; undefined where the term is no variable, or unbound. */
 function boundVariable(run, term) {
   let last;
-  const asTerm = (bound) => (typeof bound !== "string" ? bound : { variable: Reader.isState(bound) ? bound : undefined });
-  const end = Printed.endOfChain(term, ({ variable }) => asTerm(run.bound.get(variable)), ({ variable }) => { last = variable; });
+  const boundTo = ({ variable }) => run.termOf(variable, WIDEST);
+  const end = Printed.endOfChain(term, boundTo, ({ variable }) => { last = variable; });
   return end.variable === undefined ? last : undefined;
 }
 
