@@ -27,8 +27,8 @@ function functorOf(term) {
 
 /** Follows a chain of bindings, and notes each step on it. */
 function follow(graph, term, steps) {
-  const isBound = (end) => isVariable(end) && graph.binderOf(end) !== undefined;
-  return Printed.endOfChain(term, (end) => (isBound(end) ? graph.termOf(end) : undefined), (end) => steps.push(graph.binderOf(end)));
+  const boundTo = (end) => (isVariable(end) ? graph.termOf(end) : undefined);
+  return Printed.endOfChain(term, boundTo, (end) => steps.push(graph.binderOf(end)));
 }
 
 /**

@@ -128,11 +128,6 @@ class Run {
     return number === 0 ? { goals: this.query.goals, news: this.query.variables } : this.clauseOf(number);
   }
 
-  /** The goals of an ask, as written. */
-  askedBy(step) {
-    return Reader.readQuery(step.act.slice("ask ".length)).goals;
-  }
-
   /** A goal as written, by its name; undefined where it is not known. */
   goalOf(name) {
     const chain = [];
@@ -147,7 +142,7 @@ class Run {
   /** A goal that a step made, where the goal that the step consumed is known. */
   madeGoal(name) {
     const step = this.makerOf(name), written = this.writtenGoal(name);
-    if (step === undefined || step.act.startsWith("ask ")) return written;
+    if (step === undefined || step.kind === "ask") return written;
     const consumed = this.goals.get(step.goal);
     if (consumed === undefined) return undefined;
     if (consumed.sort === "stream") return { ...consumed, tail: { variable: `_${step.number}_1` } };
@@ -198,15 +193,15 @@ class Run {
   /** The goal of the text of which a goal came: of a clause, of the query, or of an ask. */
   writtenGoal(name) {
     const [number, place] = Printed.nameParts(name), step = this.kept.steps.get(number);
-    const goals = step?.act.startsWith("ask ") ? this.askedBy(step) : this.madeBy(number)?.goals;
-    return goals?.[place - 1];
+    const made = step?.kind === "ask" ? Reader.readQuery(step.act.slice("ask ".length)) : this.madeBy(number);
+    return made?.goals[place - 1];
   }
 
   /** Where a goal stands in the texts: the clause's number, or 0 for the query, and the place; undefined where it has none. */
   placeOf(name) {
     for (let at = name; at !== null && at !== undefined;) {
       const written = this.writtenGoal(at), step = this.makerOf(at);
-      if (written !== undefined && !step?.act.startsWith("ask ")) return { clause: step?.clause ?? 0, ...written.place };
+      if (written !== undefined && step?.kind !== "ask") return { clause: step?.clause ?? 0, ...written.place };
       at = step?.goal;
     }
     return undefined;

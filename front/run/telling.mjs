@@ -113,11 +113,9 @@ const HELPERS = {
 
 /** What helps with a refusal. */
 async function afterRefusal(session, meaning, reply) {
-  const [number] = reply[0].split(" ");
-  if (["ask", "in"].includes(meaning.name)) {
-    const told = badText(session, meaning, reply);
-    if (told !== undefined) return told;
-  }
+  const [number] = reply[0].split(" "), isText = ["ask", "in"].includes(meaning.name);
+  const why = isText ? badText(session, meaning, reply) : undefined;
+  if (why !== undefined) return why;
   const limit = Replies.limitIn(reply[0], meaning.line);
   if (limit !== undefined) return [limit, ...(meaning.name === "show" ? await beginningOf(session, meaning.words) : [])];
   const helper = meaning.name === "redo" ? notRedone : HELPERS[`${meaning.name} ${number}`] ?? HELPERS[number];
