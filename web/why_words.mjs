@@ -22,11 +22,11 @@ function byVariable(told) {
   return variables.map((variable) => ({ variable, holders: among(holders, variable), lost: among(lost, variable) }));
 }
 
-/** Does each goal that reaches a variable wait for it alone, or has failed? Then none of them can bind it. */
-const isHelpless = ({ holders }) => !holders.some(WhyNotLines.mayBind);
-
-/** The first variable that none of those can bind who reach it; where there is none, goals wait for each other. */
-const causeIn = (told) => byVariable(told).find(isHelpless);
+/**
+ * The first variable that none of the goals can bind that reach it: each waits for it alone, or has failed. Where there
+ * is none, goals wait for each other.
+ */
+const causeIn = (told) => byVariable(told).find(({ holders }) => !holders.some(WhyNotLines.mayBind));
 
 /** A goal, a call with its predicate's name in front. */
 function goalWords({ run: { goals } }, name) {

@@ -130,4 +130,4 @@ function afterPart(session, { words: [goal] }, reply) {
   return [callWords(session, told.gave === null && told.left === null ? { ...told, left: told.standing } : told, goal), ...warnings(told), ...made];
 }
 
-export { afterBlame, afterPart, callWords, otherClauseWords };
+export { afterBlame, afterPart, callWords, otherClauseWords, questionsLeft };

@@ -80,8 +80,8 @@ class Values {
   /** The store before the step at a place of the row. */
   before(place) {
     const boundTo = ({ variable }) => {
-      const bound = variable === undefined ? undefined : this.bound.get(variable);
-      return bound !== undefined && bound.at < place ? this.termOf(bound) : undefined;
+      const bound = this.bound.get(variable);
+      return bound?.at < place ? this.termOf(bound) : undefined;
     };
     return { endOf: (term) => Printed.endOfChain(term, boundTo) };
   }
