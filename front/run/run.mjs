@@ -57,15 +57,13 @@ class Run {
 
   /** Learns the lines of the reply to `records`, as it is now. */
   learn(lines) {
-    const told = new Set(lines.map(Replies.numberIn));
-    this.forget([...this.records.keys()].filter((number) => !told.has(number)));
+    this.forget([...this.records.keys()]);
     this.learnMore(lines);
   }
 
   /** Learns record lines of further steps: with what was known of the others that is all of the run as it is now. */
   learnMore(lines) {
-    const unknown = lines.filter((line) => !this.records.has(Replies.numberIn(line)));
-    this.learnSteps(unknown.map(Replies.readRecord).filter((step) => step !== null));
+    this.learnSteps(Replies.readRecords(lines.filter((line) => !this.records.has(Replies.numberIn(line)))));
   }
 
   /** Learns steps as their record lines tell them. */
