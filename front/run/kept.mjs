@@ -2,9 +2,6 @@
 import * as Effects from "../protocol/effects.mjs";
 import * as Replies from "../protocol/replies.mjs";
 
-/** A step without what it read, bound and made. */
-const withoutTerms = ({ number, goal, act, kind, clause }) => ({ number, goal, act, kind, clause });
-
 class Kept {
   constructor() {
     this.steps = new Map(); // by number, in recorded order
@@ -19,9 +16,10 @@ class Kept {
     return Effects.effectOf(line) !== "looks";
   }
 
-  add(step) {
-    this.steps.set(step.number, step);
-    if (step.goal !== null) this.takers.set(step.goal, step.number);
+  /** Adds a step, without what it read, bound and made. */
+  add({ number, goal, act, kind, clause }) {
+    this.steps.set(number, { number, goal, act, kind, clause });
+    if (goal !== null) this.takers.set(goal, number);
   }
 
   remove(number) {
@@ -38,7 +36,7 @@ class Kept {
     this.takers.clear();
     for (const line of records) {
       const step = Replies.readRecord(line);
-      if (step !== null) this.add(withoutTerms(step));
+      if (step !== null) this.add(step);
     }
   }
 

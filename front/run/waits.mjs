@@ -121,7 +121,7 @@ async function whyAtEnd(session, goals) {
   return stuckAt(session, waiting);
 }
 
-/** Where a variable comes from: the clause that made it, also where it is a `_`; nothing of one that the query names. */
+/** Where a variable comes from: which clause made it, also as a `_`; nothing of one that the query names. */
 function originWords({ run }, variable) {
   const [step] = Printed.numbersOf(variable), clause = run.clauseOf(step), isUnnamed = run.isUnnamed(variable);
   if (clause === undefined) return isUnnamed ? "; it is a _ of the query" : "";
@@ -285,6 +285,6 @@ function buildingLines(session, waits) {
 }
 
 export {
-  buildingLines, gathered, holdersIn, holdersOf, isHelpless, isLetGo, lineOf, linesAtEnd, linesOf, lostLines, takenWords,
-  waitsOf, whoLetGo, whyAtEnd,
+  buildingLines, gathered, holdersIn, holdersOf, isHelpless, isLetGo, lineOf, linesAtEnd, linesOf, lostLines,
+  takenWords, waitsOf, whoLetGo, whyAtEnd,
 };

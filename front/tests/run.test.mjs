@@ -66,7 +66,8 @@ test("a rollback takes the consequences that were told", async () => {
     while (kept.steps.size > 0) {
       const numbers = [...kept.steps.keys()], number = numbers[Math.floor(numbers.length / 2)];
       const told = [number, ...Replies.readRecords(session.line(`effects ${number}`)).map((step) => step.number)].join(",");
-      const graph = Graph.graphOf(session.line("records")), { isIn } = Graph.effectsReached(graph, graph.indexOf(number));
+      const graph = Graph.graphOf(session.line("records"));
+      const { isIn } = Graph.effectsReached(graph, graph.indexOf(number));
       assert.strictEqual(numbers.filter((kept) => isIn[graph.indexOf(kept)] === 1).join(","), told);
       assert.strictEqual(type(`roll ${number}`)[0], `undone ${told}`);
       assert.strictEqual(kept.steps.has(number), false);
