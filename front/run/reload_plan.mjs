@@ -93,13 +93,17 @@ function shelvedOf(plan, shelf) {
   return shelved;
 }
 
-/** What gives the line of a step: its number, goal and variables as they are afterwards, and its clause's number. */
-function lineMaker(plan) {
-  const known = numbering(plan), after = (number) => known(number) ?? number;
-  const renamed = (act) => act.replace(VARIABLE, (all, number, place) => `_${after(number)}_${place}`);
-  const actOf = ({ clause, act }) => (clause === null ? renamed(act) : `by ${plan.pairs.get(clause)}`);
-  const goalOf = ({ goal }) => goal?.replace(/^\d+/, (number) => String(after(number))) ?? "-";
-  return (step) => `${after(step.number)} ${goalOf(step)} ${actOf(step)}`;
+/** What gives the line of a step in a history, with its clause's number afterwards. */
+const lineIn = ({ pairs }) => ({ number, goal, clause, act }) =>
+  `${number} ${goal ?? "-"} ${clause === null ? act : `by ${pairs.get(clause)}`}`;
+
+/** The steps that stay, with their numbers, goals and variables as they are afterwards. */
+function renumbered(plan) {
+  const after = numbering(plan);
+  const renamed = (act) => act.replace(VARIABLE, (all, number, place) => `_${after(number) ?? number}_${place}`);
+  const goalOf = (goal) => goal?.replace(/^\d+/, (number) => String(after(number)));
+  return plan.staying.map(({ number, goal, clause, act }) =>
+    ({ number: after(number), goal: goalOf(goal), clause, act: renamed(act) }));
 }
 
 const FIRST = 3; // the line of a history at which the steps of its opening begin
@@ -113,9 +117,9 @@ const shelvedAt = ({ staying }, shelved, line) => shelved[line - FIRST - staying
  * opening, and those of the shelf stand after them, and are taken back; steps with other numbers are its entries.
  */
 function historyOf(plan, { next, spied, shelved }) {
-  const isAnew = isRenumbered(plan), lineOf = lineMaker(plan);
+  const isAnew = isRenumbered(plan), lineOf = lineIn(plan);
   const opening = isAnew ? [] : [...plan.staying, ...shelved].map(lineOf);
-  const entries = isAnew ? plan.staying.map(lineOf) : shelved.map(({ number }) => `undo ${number}`).reverse();
+  const entries = isAnew ? renumbered(plan).map(lineOf) : shelved.map(({ number }) => `undo ${number}`).reverse();
   const [first, last] = isAnew ? [1, entries.length + 1] : [next, next];
   const text = [
     "ghc-history 2", `opening ${opening.length} ${first}`, ...opening, `entries ${entries.length}`, ...entries,
