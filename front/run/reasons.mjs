@@ -1,4 +1,4 @@
-// Why something stands as it does, in words: a goal that waits or has failed, a step that others depend on.
+// Why something stands as it does, in words: a goal that waits or failed, a clause that says no, a step others rest on.
 import * as Print from "../text/print.mjs";
 import * as Printed from "../text/printed.mjs";
 import * as Reader from "../text/reader.mjs";

@@ -247,7 +247,7 @@ async function lostLines(session, goals) {
   return [];
 }
 
-/** Do none of the goals beside which a variable was made ever bind it, nor whom they hand it to? */
+/** Was a variable handed, where it was made, to goals alone that never bind it? */
 function isNobodys(session, variable, places) {
   const [maker] = Printed.numbersOf(variable), name = session.run.nameOf(variable);
   return name !== undefined && !session.run.madeBy(maker).goals.some((goal) => Builders.mayBind(goal, name, places));
