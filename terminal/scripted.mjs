@@ -5,7 +5,7 @@ import { whyRefused } from "../front/session/refused.mjs";
 import { ScriptSession, asked } from "../front/session/script_session.mjs";
 import { everyRefusal } from "../front/session/every_refusal.mjs";
 import { withQuery } from "../front/session/words_with_query.mjs";
-import { isLetGo } from "../front/run/let_go.mjs";
+import { isLetGo } from "../front/run/waits.mjs";
 import { isWhole } from "../front/session/way_back.mjs";
 import { readWords, isSession } from "../front/protocol/words.mjs";
 import * as Replies from "../front/protocol/replies.mjs";

@@ -2,7 +2,7 @@
 import * as Replies from "../front/protocol/replies.mjs";
 import * as Graph from "../front/run/graph.mjs";
 import { NO_WAITS, arcsAmong } from "../front/run/arcs.mjs";
-import { whyAtEnd } from "../front/run/let_go.mjs";
+import { whyAtEnd } from "../front/run/waits.mjs";
 import State from "./state.mjs";
 import * as Talk from "./talk.mjs";
 

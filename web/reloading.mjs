@@ -1,6 +1,6 @@
 // A program that is edited while it runs: a button tells how many of the kept steps stay under the new text, and goes
 // on with them. The console judges whether they do.
-import * as Reloads from "../front/run/reloads.mjs";
+import * as ReloadPlan from "../front/run/reload_plan.mjs";
 import Deeds from "./deeds.mjs";
 import { find, make } from "./elements.mjs";
 import * as StepWords from "./step_words.mjs";
@@ -23,7 +23,7 @@ function follow() {
   const button = find("reload"), { count } = State.run.graph;
   clearTimeout(timer);
   button.hidden = !isOffered();
-  going = button.hidden ? NO_STEP : Reloads.goingUnder(State.run, find("program").value);
+  going = button.hidden ? NO_STEP : ReloadPlan.goingUnder(State.run, find("program").value);
   button.textContent = `Reload, keep ${StepWords.keptOf(count - going.count, count)}`;
 }
 

@@ -2,7 +2,7 @@
 // session lives in a worker, so that the page goes on meanwhile; what a line leads to comes later, and is read in slices of time.
 import * as Asking from "../front/protocol/asking.mjs";
 import { NO_WAITS, arcsAmong } from "../front/run/arcs.mjs";
-import { whyAtEnd } from "../front/run/let_go.mjs";
+import { whyAtEnd } from "../front/run/waits.mjs";
 import RunModel from "../front/run/run_model.mjs";
 import * as Service from "./service.mjs";
 import State from "./state.mjs";

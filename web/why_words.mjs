@@ -4,7 +4,7 @@
 import * as WhyNotLines from "../front/protocol/why_not_lines.mjs";
 import * as Printed from "../front/text/printed.mjs";
 import * as Terms from "../front/run/terms.mjs";
-import { unnamedPlace } from "../front/run/let_go.mjs";
+import { gathered } from "../front/run/waits.mjs";
 
 const MOST = 6, LONGEST = 120; // goals or steps that are named; letters of a goal that a step took
 
@@ -16,21 +16,17 @@ function listed(all) {
 }
 
 /** Each variable that was told, with the goals that reach it and the steps that let it go. */
-function byVariable({ holders, lost }) {
-  const names = [...holders, ...lost].map(({ variable }) => variable);
-  const all = new Map(names.map((variable) => [variable, { variable, holders: [], lost: [] }]));
-  for (const { variable, goal, status } of holders) {
-    all.get(variable).holders.push({ variable, goal, status, waitsFor: WhyNotLines.waitsFor({ status }) });
-  }
-  for (const step of lost) all.get(step.variable).lost.push(step);
-  return [...all.values()];
+function byVariable(told) {
+  const { holders, lost } = gathered(told), among = (all, variable) => all.get(variable) ?? [];
+  const variables = [...new Set([...holders.keys(), ...lost.keys()])];
+  return variables.map((variable) => ({ variable, holders: among(holders, variable), lost: among(lost, variable) }));
 }
 
-/** Does each goal that reaches a variable wait for it alone, or has failed? Then none of them can bind it. */
-const isHelpless = ({ holders }) => !holders.some(WhyNotLines.mayBind);
-
-/** The first variable that none of those can bind who reach it; where there is none, goals wait for each other. */
-const causeIn = (told) => byVariable(told).find(isHelpless);
+/**
+ * The first variable that none of the goals can bind that reach it: each waits for it alone, or has failed. Where there
+ * is none, goals wait for each other.
+ */
+const causeIn = (told) => byVariable(told).find(({ holders }) => !holders.some(WhyNotLines.mayBind));
 
 /** A goal, a call with its predicate's name in front. */
 function goalWords({ run: { goals } }, name) {
@@ -46,14 +42,15 @@ function letGo({ number, text, act }) {
 /** Where a variable comes from: whether it is a `_`, and which step made it; nothing of one that the query names. */
 function originWords({ run: { graph }, texts }, variable) {
   const [step] = Printed.numbersOf(variable), clause = graph.byNumber.get(step)?.clause;
-  const isUnnamed = texts !== null && unnamedPlace({ ...texts, run: texts }, variable) !== undefined;
+  const isUnnamed = texts !== null && texts.isUnnamed(variable);
   if (step === 0) return isUnnamed ? ["it is a _ of the query"] : [];
   return [isUnnamed ? "it is a _, and step " : "step ", { step }, ` made it${clause ? ` by clause ${clause}` : ""}`];
 }
 
 /** Why nobody binds a variable: who waits for it, and which step let it go, else where it comes from. */
 function causeWords(known, { variable, holders, lost }) {
-  const waiting = holders.filter(({ waitsFor }) => waitsFor.length > 0).map(({ goal }) => goalWords(known, goal));
+  const isWaiting = (holder) => WhyNotLines.waitsFor(holder).length > 0;
+  const waiting = holders.filter(isWaiting).map(({ goal }) => goalWords(known, goal));
   const wait = waiting.length === 1 ? "waits" : "wait";
   const who = waiting.length === 0 ? [`${variable} is never bound`]
     : [...listed(waiting), ` ${wait} for ${variable}, which no other goal has`];
@@ -64,14 +61,15 @@ function causeWords(known, { variable, holders, lost }) {
 const STATUSES = new Map([["ready", "is ready"], ["stream", "is an input"]]);
 
 /** What a goal does that reaches a variable. */
-function statusWords({ status, waitsFor }, variable) {
+function statusWords({ variable, status }) {
+  const waitsFor = WhyNotLines.waitsFor({ status });
   if (waitsFor.length === 0) return ` ${STATUSES.get(status) ?? `has ${status}`}`;
   return ` waits for ${waitsFor.map((one) => (one === variable ? "it" : one)).join(" and ")}`;
 }
 
 /** Of each variable in words: which goals reach it, and which steps let it go. */
 const rowsOf = (known, told) => byVariable(told).map(({ variable, holders, lost }) => {
-  const who = holders.map((holder) => [...goalWords(known, holder.goal), statusWords(holder, variable)]);
+  const who = holders.map((holder) => [...goalWords(known, holder.goal), statusWords(holder)]);
   const reach = who.length > 0 ? listed(who) : ["no goal has it"];
   return [`${variable}: `, ...reach, ...(lost.length > 0 ? ["; ", ...listed(lost.map(letGo))] : []), "."];
 });

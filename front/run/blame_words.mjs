@@ -6,21 +6,11 @@ import * as Print from "../text/print.mjs";
 import * as Printed from "../text/printed.mjs";
 import { WIDEST, cut, namesIn, termOf } from "./named.mjs";
 import { plural, some, whyFailed, whyWaits, hasConsequences } from "./reasons.mjs";
+import Run from "./run.mjs";
 
 const WIDEST_VALUE = 80, WIDEST_CLAUSE = 120; // letters of a value and of a clause that are shown
 
 const WHY_FAILED = { F10: "no clause takes it (F10)", F11: "its two sides are different things (F11)", F12: "a value would hold itself (F12)", F13: "it has no value (F13)" };
-
-/** For each variable of a call that got a value the variable and the value, by the call's text before and after. */
-function gains(before, after) {
-  const found = new Map(), left = [[before, after]];
-  while (left.length > 0) {
-    const [one, other] = left.pop();
-    if (one.variable !== undefined && one.variable !== other.variable && !found.has(one.variable)) found.set(one.variable, { variable: one, value: other });
-    if (one.arguments?.length > 0) left.push(...one.arguments.map((argument, place) => [argument, other.arguments[place]]).reverse());
-  }
-  return [...found.values()];
-}
 
 /** A call, and what it gave, in words with the names of variables: `call` and `gave`, the latter nothing where it is not told. */
 function callIn(run, { given, gave }) {
@@ -28,7 +18,9 @@ function callIn(run, { given, gave }) {
   if (terms.includes(undefined)) return { call: cut(given, WIDEST), gave: gave === null ? "" : cut(gave, WIDEST) };
   const store = namesIn(run, texts), call = Print.term(before, { store, most: WIDEST });
   if (gave === null) return { call, gave: "" };
-  const told = gains(before, after).map(({ variable, value }) => `${Print.term(variable, { store })} = ${Print.term(value, { store, most: WIDEST_VALUE })}`);
+  const gains = [...Run.bindingsOf(before, after)].filter(([variable, value]) => value.variable !== variable);
+  const shown = (term) => Print.term(term, { store, most: WIDEST_VALUE });
+  const told = gains.map(([variable, value]) => `${Print.term({ variable }, { store })} = ${shown(value)}`);
   return { call, gave: told.length === 0 ? "nothing" : some(told).join(", ") };
 }
 
@@ -133,9 +125,9 @@ async function afterBlame(session, line, reply) {
 }
 
 /** After `part`: the names of the variables, and the clause that took the call. */
-function afterPart(session, goal, reply) {
+function afterPart(session, { words: [goal] }, reply) {
   const told = BlameLines.read(reply), made = told.taken === null ? [] : takenWords(session, goal);
   return [callWords(session, told.gave === null && told.left === null ? { ...told, left: told.standing } : told, goal), ...warnings(told), ...made];
 }
 
-export { afterBlame, afterPart, callWords, otherClauseWords };
+export { afterBlame, afterPart, callWords, otherClauseWords, questionsLeft };

@@ -25,15 +25,16 @@ class Blaming {
     return this.line !== undefined && this.changes === this.session.kept.changes;
   }
 
-  /** Notes what a line of `blame` was answered by. */
-  note(line, reply) {
-    if (Replies.isRefused(reply)) return;
-    const told = BlameLines.read(reply);
+  /** Asks a line of `blame`, and notes what it was answered by. */
+  async askOnce(line) {
+    const reply = await this.session.ask(line), told = BlameLines.read(reply);
+    if (Replies.isRefused(reply)) return reply;
     this.line = line;
     this.told = told;
     this.changes = this.session.kept.changes;
     this.goal = told.ask?.goal;
     this.predicate = told.given === null ? undefined : Printed.predicateOf(told.given);
+    return reply;
   }
 
   /**
@@ -102,14 +103,12 @@ class Blaming {
    */
   async ask(given, isEnded = () => false) {
     const goals = [];
-    let line = given, reply = await this.session.ask(line);
-    this.note(line, reply);
+    let line = given, reply = await this.askOnce(line);
     while (BlameLines.isQuestion(reply) && this.trusted.has(this.predicate) && !isEnded()) {
       goals.push(this.goal);
       this.byTrust.add(this.goal);
       line = BlameLines.answered(line, this.goal, true);
-      reply = await this.session.ask(line);
-      this.note(line, reply);
+      reply = await this.askOnce(line);
     }
     return { line, reply, notes: goals.length === 0 ? [] : [`right, for they are trusted: ${goals.join(", ")}`] };
   }

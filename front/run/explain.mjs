@@ -19,16 +19,13 @@ function argumentsOf(term) {
   return open < 0 ? [] : Printed.splitOutside(term.slice(open + 1, -1), ",");
 }
 
-/** What a term has outside its arguments: `f/2`, `./2` of a list's cell, or the term itself. */
-function functorOf(term) {
-  if (term.startsWith("[") && term !== "[]") return "./2";
-  return argumentsOf(term).length > 0 ? Printed.predicateOf(term) : term;
-}
+/** What stands in front of a term's arguments: the name of a structure, nothing of a list; else the whole term. */
+const nameIn = (term) => term.slice(0, term.search(/[([]|$/));
 
 /** Follows a chain of bindings, and notes each step on it. */
 function follow(graph, term, steps) {
-  const isBound = (end) => isVariable(end) && graph.binderOf(end) !== undefined;
-  return Printed.endOfChain(term, (end) => (isBound(end) ? graph.termOf(end) : undefined), (end) => steps.push(graph.binderOf(end)));
+  const boundTo = (end) => (isVariable(end) ? graph.termOf(end) : undefined);
+  return Printed.endOfChain(term, boundTo, (end) => steps.push(graph.binderOf(end)));
 }
 
 /**
@@ -52,9 +49,9 @@ function clashOf(one, other) {
   while (left.length > 0) {
     const [first, second] = left.pop();
     if (isVariable(first) || isVariable(second)) continue;
-    if (functorOf(first) !== functorOf(second)) return [first, second];
-    const seconds = argumentsOf(second);
-    left.push(...argumentsOf(first).map((part, place) => [part, seconds[place]]).reverse());
+    const firsts = argumentsOf(first), seconds = argumentsOf(second);
+    if (nameIn(first) !== nameIn(second) || firsts.length !== seconds.length) return [first, second];
+    left.push(...firsts.map((part, place) => [part, seconds[place]]).reverse());
   }
   return null;
 }

@@ -4,9 +4,9 @@ import * as Printed from "../text/printed.mjs";
 import * as Print from "../text/print.mjs";
 import * as Reader from "../text/reader.mjs";
 import * as Replies from "../protocol/replies.mjs";
-import { cut } from "./named.mjs";
+import { LONGEST, beginningOf, cut } from "./named.mjs";
 
-const LONGEST = 20_000, SHOWN = 40, WIDEST = 90; // letters of a text that is read, of a longer one that is shown, of a goal in a line
+const SHOWN = 40, WIDEST = 90; // letters that are shown of a text that is too long to be read, and of a goal in a line
 
 const placeOf = (step) => (step.goal === null ? [0, 0] : Printed.nameParts(step.goal));
 const byPlace = (one, other) => placeOf(one.step)[1] - placeOf(other.step)[1];
@@ -38,11 +38,9 @@ function choose(roots, most) {
 function countHidden(nodes) {
   let alone = 0;
   for (const node of nodes.values()) {
-    if (node.isShown) continue;
-    const above = node.parent?.isShown ? node.parent : node.parent?.above;
-    node.above = above;
-    if (above === undefined) alone += 1;
-    else above.below += 1;
+    node.above = node.isShown ? node : node.parent?.above;
+    if (node.above === undefined) alone += 1;
+    else if (!node.isShown) node.above.below += 1;
   }
   return alone;
 }
@@ -75,16 +73,15 @@ class Values {
 
   termOf(bound) {
     if (typeof bound.term !== "string") return bound.term;
-    const isLong = bound.term.length > LONGEST;
-    bound.term = isLong ? { name: `${bound.term.slice(0, SHOWN)}${Print.CUT}`, arguments: [] } : Reader.readTerm(bound.term);
+    bound.term = bound.term.length > LONGEST ? beginningOf(bound.term, SHOWN) : Reader.readTerm(bound.term);
     return bound.term;
   }
 
   /** The store before the step at a place of the row. */
   before(place) {
     const boundTo = ({ variable }) => {
-      const bound = variable === undefined ? undefined : this.bound.get(variable);
-      return bound !== undefined && bound.at < place ? this.termOf(bound) : undefined;
+      const bound = this.bound.get(variable);
+      return bound?.at < place ? this.termOf(bound) : undefined;
     };
     return { endOf: (term) => Printed.endOfChain(term, boundTo) };
   }

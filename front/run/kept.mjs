@@ -2,12 +2,6 @@
 import * as Effects from "../protocol/effects.mjs";
 import * as Replies from "../protocol/replies.mjs";
 
-/** May a line change which steps are kept? */
-const mayChange = (line) => Effects.effectOf(line) !== "looks";
-
-/** A step without what it read, bound and made. */
-const withoutTerms = ({ number, goal, act, kind, clause }) => ({ number, goal, act, kind, clause });
-
 class Kept {
   constructor() {
     this.steps = new Map(); // by number, in recorded order
@@ -17,9 +11,15 @@ class Kept {
     this.removed = new Set(); // steps that went since somebody looked; some may be there again
   }
 
-  add(step) {
-    this.steps.set(step.number, step);
-    if (step.goal !== null) this.takers.set(step.goal, step.number);
+  /** May a line change which steps are kept? */
+  static mayChange(line) {
+    return Effects.effectOf(line) !== "looks";
+  }
+
+  /** Adds a step, without what it read, bound and made. */
+  add({ number, goal, act, kind, clause }) {
+    this.steps.set(number, { number, goal, act, kind, clause });
+    if (goal !== null) this.takers.set(goal, number);
   }
 
   remove(number) {
@@ -36,25 +36,23 @@ class Kept {
     this.takers.clear();
     for (const line of records) {
       const step = Replies.readRecord(line);
-      if (step !== null) this.add(withoutTerms(step));
+      if (step !== null) this.add(step);
     }
   }
 
   /** Learns what the reply to a line tells. */
   learn(line, reply) {
-    if (!mayChange(line) || Replies.isRefused(reply)) return;
+    if (!Kept.mayChange(line) || Replies.isRefused(reply)) return;
     this.changes += 1;
     if (reply[0] === "arranged") this.arrange(line.trim().split(/ +/).slice(1).map(Number));
     for (const told of reply) this.learnLine(told);
   }
 
   learnLine(told) {
-    const taken = Replies.readTaken(told);
-    if (taken !== null) return this.add(taken);
-    const undone = Replies.readUndone(told), call = Replies.readCall(told);
-    if (undone !== null) for (const number of undone) this.remove(number);
+    const taken = Replies.readTaken(told), call = Replies.readCall(told);
+    if (taken !== null) this.add(taken);
     if (call !== null) this.texts.set(call.name, call.text);
-    return undefined;
+    for (const number of Replies.readUndone(told) ?? []) this.remove(number);
   }
 
   /** The steps that went since this was asked last. */
@@ -71,8 +69,7 @@ class Kept {
   }
 
   arrange(numbers) {
-    const steps = this.steps;
-    this.steps = new Map(numbers.map((number) => [number, steps.get(number)]));
+    this.steps = new Map(numbers.map((number) => [number, this.steps.get(number)]));
   }
 
   /** The number of the last step in recorded order; undefined where none is kept. */
@@ -82,7 +79,5 @@ class Kept {
     return last;
   }
 }
-
-Kept.mayChange = mayChange;
 
 export default Kept;

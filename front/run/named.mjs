@@ -27,10 +27,13 @@ function namesIn(run, texts) {
 /** The term that a text is; undefined where it is too long or too deep to be read. */
 const termOf = (text) => (text.length > LONGEST ? undefined : Reader.termIn(text));
 
+/** What stands as a term for a text that is too long to be read. */
+const beginningOf = (text, most) => ({ name: `${text.slice(0, most)}${Print.CUT}`, arguments: [] });
+
 /** A call with the names of its variables. */
 function namedCall(run, text) {
   const call = termOf(text);
   return call === undefined ? cut(text, WIDEST) : Print.term(call, { store: namesIn(run, [text]), most: WIDEST });
 }
 
-export { WIDEST, cut, namesIn, termOf, namedCall };
+export { LONGEST, WIDEST, beginningOf, cut, namesIn, termOf, namedCall };

@@ -1,6 +1,5 @@
 // The commands that the terminal answers itself: each gives lines, computed from what the session tells. Nothing here changes a session.
-import { buildingLines } from "./building.mjs";
-import { linesAtEnd } from "./let_go.mjs";
+import * as Graph from "./graph.mjs";
 import { plural } from "./reasons.mjs";
 import * as Waits from "./waits.mjs";
 import * as Printed from "../text/printed.mjs";
@@ -17,8 +16,8 @@ async function stuck(session) {
   const goals = await session.goals(), waits = await Waits.waitsOf(session, goals);
   const lines = Waits.linesOf(session, goals, waits);
   const failed = goals.filter(({ status }) => status === "failed").map(({ name, refusal }) => `${name} has failed: ${refusal}; explain ${name} and blame ${name} tell more`);
-  if (lines.length + failed.length > 0) return [...failed, ...lines, ...buildingLines(session, waits)];
-  return goals.length === 0 ? linesAtEnd(session) : ["no goal waits"];
+  if (lines.length + failed.length > 0) return [...failed, ...lines, ...Waits.buildingLines(session, waits)];
+  return goals.length === 0 ? Waits.linesAtEnd(session) : ["no goal waits"];
 }
 
 /** The variables of the state that a word names: `_n_m`, or a name of the text. */
@@ -39,23 +38,15 @@ async function records(session, [word]) {
   return shown.length === 0 ? [`no kept step of ${word}`] : shown.map(({ number, goal, act }) => `${number} ${run.textOf(goal)} ${act}`);
 }
 
-/** The longest chain of causes. */
-function longestChain(run, steps) {
-  const depths = new Map();
-  for (const { number, goal } of steps) {
-    const causes = [...(run.records.get(number)?.reads ?? []).map((variable) => run.binders.get(variable)), goal === null ? undefined : run.makerOf(goal)?.number];
-    depths.set(number, 1 + Math.max(0, ...causes.map((cause) => depths.get(cause) ?? 0)));
-  }
-  return [...depths.values()].reduce((most, depth) => Math.max(most, depth), 0);
-}
-
 async function stat(session) {
-  const run = await session.look(), steps = [...session.kept.steps.values()], counts = new Map();
+  const { run } = session, steps = [...session.kept.steps.values()], counts = new Map();
   for (const { goal, act } of steps) {
     const kind = run.predicateOf(goal) ?? act.split(" ")[0];
     counts.set(kind, (counts.get(kind) ?? 0) + 1);
   }
-  const chain = longestChain(run, steps), lines = [...counts].sort((one, other) => other[1] - one[1]).map(([kind, count]) => `${String(count).padStart(6)} ${kind}`);
+  const sorted = [...counts].sort((one, other) => other[1] - one[1]);
+  const chain = Graph.graphOf(await session.ask("records")).deepestChain;
+  const lines = sorted.map(([kind, count]) => `${String(count).padStart(6)} ${kind}`);
   return [...lines, `${plural(steps.length, "step")}, longest chain of causes ${chain}: on average ${(steps.length / Math.max(1, chain)).toFixed(1)} at once`];
 }
 

@@ -22,52 +22,45 @@ const whyRepeated = (variable) => `a variable of a pattern fits everything, so t
 /** Does a goal fit a pattern? A variable of the pattern fits everything. */
 function fits(pattern, term, run) {
   if (pattern.variable !== undefined) return true;
-  const end = run.endOf(term);
-  if (pattern.integer !== undefined || end.arguments === undefined) {
-    return pattern.integer === end.integer && pattern.arguments === end.arguments;
-  }
-  if (pattern.name !== end.name || pattern.arguments.length !== end.arguments.length) return false;
-  return pattern.arguments.every((argument, place) => fits(argument, end.arguments[place], run));
+  const end = run.endOf(term), { integer, name, arguments: terms = [] } = pattern;
+  if (integer !== end.integer || name !== end.name || terms.length !== (end.arguments ?? []).length) return false;
+  return terms.every((argument, place) => fits(argument, end.arguments[place], run));
 }
 
 // The patterns to which the goals of a predicate are narrowed, at which a run stops.
 class Patterns {
   constructor() {
-    this.ofPredicate = new Map(); // of each predicate its patterns, by their texts
+    this.known = new Map(); // patterns by their texts
   }
 
   /** Narrows the goals of the predicate to those that fit this pattern, beside those that fit the others. */
   add(pattern) {
-    const predicate = Print.predicateOf(pattern), patterns = this.ofPredicate.get(predicate) ?? new Map();
-    this.ofPredicate.set(predicate, patterns.set(Print.term(pattern), pattern));
+    this.known.set(Print.term(pattern), pattern);
   }
 
   /** Takes a pattern away; false where it is not there. */
   remove(pattern) {
-    const predicate = Print.predicateOf(pattern), patterns = this.ofPredicate.get(predicate);
-    const wasThere = patterns?.delete(Print.term(pattern)) ?? false;
-    if (patterns?.size === 0) this.forget(predicate);
-    return wasThere;
+    return this.known.delete(Print.term(pattern));
   }
 
   /** From now on no goal of the predicate is looked at. */
   forget(predicate) {
-    this.ofPredicate.delete(predicate);
+    this.textsOf(predicate).forEach((text) => this.known.delete(text));
   }
 
   get isEmpty() {
-    return this.ofPredicate.size === 0;
+    return this.known.size === 0;
   }
 
   /** The texts of a predicate's patterns. */
   textsOf(predicate) {
-    return [...this.ofPredicate.get(predicate)?.keys() ?? []];
+    return [...this.known.keys()].filter((text) => Print.predicateOf(this.known.get(text)) === predicate);
   }
 
   /** Is a goal of the predicate one of those at which a run stops? `call` is the goal as written. */
   meets(predicate, call, run) {
-    const patterns = [...this.ofPredicate.get(predicate)?.values() ?? []];
-    return patterns.length === 0 || patterns.some((pattern) => fits(pattern, call, run));
+    const texts = this.textsOf(predicate);
+    return texts.length === 0 || texts.some((text) => fits(this.known.get(text), call, run));
   }
 }
 

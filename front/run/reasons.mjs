@@ -1,21 +1,44 @@
-// Why something stands as it does, in words: a goal that waits or has failed, a step that others depend on.
+// Why something stands as it does, in words: a goal that waits or failed, a clause that says no, a step others rest on.
 import * as Print from "../text/print.mjs";
 import * as Printed from "../text/printed.mjs";
 import * as Reader from "../text/reader.mjs";
 import { plural } from "../text/plural.mjs";
 import Refusals from "../protocol/refusals.mjs";
 import * as Replies from "../protocol/replies.mjs";
-import { buildingLines } from "./building.mjs";
 import { cut, termOf } from "./named.mjs";
-import { whyNo } from "./saying_no.mjs";
-import { lineOf, waitsOf } from "./waits.mjs";
+import Run from "./run.mjs";
+import { buildingLines, lineOf, waitsOf } from "./waits.mjs";
 
 const MOST = 12; // lines of a kind that it tells
+const WIDEST = 60; // letters of a term or a side that are shown
 const MOST_LOOKED = 200_000; // kept steps: of a longer run not all that depends on a step is looked for
 
 const some = (words) => (words.length > MOST ? [...words.slice(0, MOST), ".."] : words);
 
 const labelOf = (session) => (variable) => session.run.labelOf(variable);
+
+/** A term in few letters, with what a store gives. */
+const shown = (term, store) => Print.term(term, { store, most: WIDEST });
+
+/** What a test's variables stand for in a call, as `(N = 0)`; nothing where it has none, or the call is unknown. */
+function valuesIn({ head }, test, call) {
+  const terms = test.sort === "comparison" ? [test.left, test.right] : [test.call];
+  const names = [...Reader.addVariables(new Set(), ...terms)];
+  if (call === undefined || names.length === 0) return "";
+  const bindings = Run.bindingsOf(head, call);
+  return ` (${names.map((name) => `${name} = ${shown(bindings.get(name))}`).join(", ")})`;
+}
+
+/** Why a clause says no, `at` one of its places, to a call as it stands; of one that is too long it is undefined. */
+function whyNo(clause, { part, number }, call) {
+  if (part === "head") {
+    const wants = `the head wants ${shown(clause.head.arguments[number - 1])}`;
+    if (call === undefined) return `${wants} as argument ${number}`;
+    return `${wants}, the goal has ${shown(call.arguments[number - 1])}`;
+  }
+  const test = clause.tests[number - 1];
+  return `${test.text} ${part === "value" ? "has no value" : "says no"}${valuesIn(clause, test, call)}`;
+}
 
 /** Why clauses say no to a call with a text, by the lines of `clauses`. */
 function whyNoTo(session, text, lines) {
@@ -41,8 +64,8 @@ async function whyNoClause(session, name, clause) {
 /** The variable that was bound to the value of a term, at the end of its chain; undefined where the term is no variable, or unbound. */
 function boundVariable(run, term) {
   let last;
-  const asTerm = (bound) => (typeof bound !== "string" ? bound : { variable: Reader.isState(bound) ? bound : undefined });
-  const end = Printed.endOfChain(term, ({ variable }) => asTerm(run.bound.get(variable)), ({ variable }) => { last = variable; });
+  const boundTo = ({ variable }) => run.termOf(variable, WIDEST);
+  const end = Printed.endOfChain(term, boundTo, ({ variable }) => { last = variable; });
   return end.variable === undefined ? last : undefined;
 }
 
@@ -56,14 +79,14 @@ function boundBefore(run, goal) {
 async function whyUnequal(session, name) {
   const run = await session.look(), goal = run.goalOf(name);
   if (goal?.right === undefined) return [];
-  const [left, right] = [goal.left, goal.right].map((term) => Print.term(term, { store: run.shown, most: 60 }));
+  const [left, right] = [goal.left, goal.right].map((term) => shown(term, run.shown));
   return [`${left} and ${right}`, ...boundBefore(run, goal)];
 }
 
 /** What could not be computed: which of these the console does not tell. */
 async function whyNoValue(session, name) {
   const goal = await session.goalNamed(name), [, right] = / := (.*)$/.exec(goal?.text ?? "") ?? [];
-  return right === undefined ? [] : [`${cut(right, 60)}: division by zero, no integer, or beyond 64 bits`];
+  return right === undefined ? [] : [`${cut(right, WIDEST)}: division by zero, no integer, or beyond 64 bits`];
 }
 
 /** Who could bind what a goal waits for. */
@@ -88,4 +111,4 @@ async function whyFailed(session, name, refusal) {
   return refusal === "F13" ? whyNoValue(session, name) : [Refusals[refusal]];
 }
 
-export { MOST, plural, some, labelOf, whyTheySayNo, whyNoClause, whyWaits, whyFailed, hasConsequences };
+export { MOST, plural, some, labelOf, whyNo, whyTheySayNo, whyNoClause, whyWaits, whyFailed, hasConsequences };

@@ -4,8 +4,7 @@ import * as Reader from "../text/reader.mjs";
 import * as Printed from "../text/printed.mjs";
 import * as Print from "../text/print.mjs";
 import * as Replies from "../protocol/replies.mjs";
-
-const numbersOf = (name) => name.match(/\d+/g).map(Number);
+import { beginningOf } from "./named.mjs";
 
 /** The term in which each variable stands for what `env` gives. */
 function substitute(term, env) {
@@ -17,12 +16,8 @@ function substituteGoal(goal, env) {
   return { sort: goal.sort, left: substitute(goal.left, env), right: substitute(goal.right, env) };
 }
 
-const NONE = [];
 const SETTLED = { endOf: (term) => term }; // of a goal as the console prints it, in which bindings are followed
 const LONGEST = 1_048_576, SHOWN = 200; // letters of a binding that is read; letters of a longer one that are shown
-
-// What is thrown where a binding would have to be read whose text is too long for that.
-class TooLong extends Error {}
 
 class Run {
   /** The run of a program's clauses and a query, of which no step is known. `kept` tells its steps, as they are now. */
@@ -30,7 +25,7 @@ class Run {
     this.clauses = clauses;
     this.kept = kept;
     this.query = Reader.readQuery(query);
-    this.records = new Map(); // by the step's number
+    this.records = new Map(); // what each step bound, by its number
     this.bound = new Map(); // what each variable is bound to: a text, or the term once it was read
     this.binders = new Map(); // the step that bound a variable
     this.goals = new Map(); // goals as written, by name
@@ -49,10 +44,9 @@ class Run {
     let streams = 0;
     this.query.goals.forEach((goal, place) => {
       const made = substituteGoal(goal, this.environments.get(0));
-      const isStream = made.sort === "call" && made.call.name === "instream" && made.call.arguments.length === 1;
-      const name = `0.${place + 1}`;
-      if (isStream) this.goals.set(name, { sort: "stream", stream: (streams += 1), tail: made.call.arguments[0] });
-      else this.goals.set(name, made);
+      const isStream = Print.predicateOf(made.call) === "instream/1";
+      const stream = isStream && { sort: "stream", stream: (streams += 1), tail: made.call.arguments[0] };
+      this.goals.set(`0.${place + 1}`, stream || made);
     });
   }
 
@@ -63,22 +57,20 @@ class Run {
 
   /** Learns the lines of the reply to `records`, as it is now. */
   learn(lines) {
-    const told = new Set(lines.map(Replies.numberIn));
-    this.forget([...this.records.keys()].filter((number) => !told.has(number)));
+    this.forget([...this.records.keys()]);
     this.learnMore(lines);
   }
 
   /** Learns record lines of further steps: with what was known of the others that is all of the run as it is now. */
   learnMore(lines) {
-    const unknown = lines.filter((line) => !this.records.has(Replies.numberIn(line)));
-    this.learnSteps(unknown.map(Replies.readRecord).filter((step) => step !== null));
+    this.learnSteps(Replies.readRecords(lines.filter((line) => !this.records.has(Replies.numberIn(line)))));
   }
 
   /** Learns steps as their record lines tell them. */
   learnSteps(steps) {
     this.learnedAt = this.kept.changes;
-    for (const { number, reads, binds, names } of steps) {
-      this.records.set(number, { reads, binds, names });
+    for (const { number, binds } of steps) {
+      this.records.set(number, { binds });
       for (const { variable, term } of binds) {
         this.bound.set(variable, term);
         this.binders.set(variable, number);
@@ -89,7 +81,7 @@ class Run {
   /** Forgets what was known of steps that went. */
   forget(numbers) {
     for (const number of numbers) {
-      for (const { variable } of this.records.get(number)?.binds ?? NONE) {
+      for (const { variable } of this.records.get(number)?.binds ?? []) {
         this.bound.delete(variable);
         this.binders.delete(variable);
       }
@@ -97,37 +89,41 @@ class Run {
     }
   }
 
-  termOf(variable) {
+  /** What a variable is bound to. Of a text that is too long to be read `shown` letters stand for it, or it throws. */
+  termOf(variable, shown) {
     const bound = this.bound.get(variable);
     if (typeof bound !== "string") return bound;
-    if (bound.length > LONGEST) throw new TooLong(`the value of ${variable} has ${bound.length} letters, and is not taken apart`);
+    const { length } = bound, isLong = length > LONGEST;
+    if (isLong && shown !== undefined) return beginningOf(bound, shown);
+    if (isLong) throw new Error(`the value of ${variable} has ${length} letters, and is not taken apart`);
     const term = Reader.readTerm(bound);
     this.bound.set(variable, term);
     return term;
   }
 
   /** Where the chain of a term ends, as far as it is known. */
-  endOf(term) {
-    return this.isFresh ? Printed.endOfChain(term, ({ variable }) => (variable === undefined ? undefined : this.termOf(variable))) : term;
+  endOf(term, shown) {
+    return this.isFresh ? Printed.endOfChain(term, ({ variable }) => this.termOf(variable, shown)) : term;
   }
 
   /** The store as it is shown: of a binding that is too long to be read its first letters stand for it. */
   get shown() {
-    const boundTo = ({ variable }) => {
-      const bound = variable === undefined ? undefined : this.bound.get(variable);
-      return bound?.length > LONGEST ? { name: `${bound.slice(0, SHOWN)}${Print.CUT}`, arguments: [] } : bound && this.termOf(variable);
-    };
-    return { endOf: (term) => (this.isFresh ? Printed.endOfChain(term, boundTo) : term) };
+    return { endOf: (term) => this.endOf(term, SHOWN) };
   }
 
   /** The step that made a goal; undefined for a goal of the query, and where the step is not kept. */
   makerOf(goal) {
-    return this.kept.steps.get(numbersOf(goal)[0]);
+    return this.kept.steps.get(Printed.nameParts(goal)[0]);
   }
 
-  /** The goals of an ask, as written. */
-  askedBy(step) {
-    return Reader.readQuery(step.act.slice("ask ".length)).goals;
+  /** The clause by which a step took its goal; undefined where it took none, and where the step is not kept. */
+  clauseOf(number) {
+    return this.clauses[this.kept.steps.get(number)?.clause - 1];
+  }
+
+  /** The goals that a step made by its clause, and its variables' names; those of the query where `number` is 0. */
+  madeBy(number) {
+    return number === 0 ? { goals: this.query.goals, news: this.query.variables } : this.clauseOf(number);
   }
 
   /** A goal as written, by its name; undefined where it is not known. */
@@ -143,13 +139,12 @@ class Run {
 
   /** A goal that a step made, where the goal that the step consumed is known. */
   madeGoal(name) {
-    const step = this.makerOf(name), place = numbersOf(name)[1] - 1;
-    if (step === undefined) return undefined;
-    if (step.act.startsWith("ask ")) return this.askedBy(step)[place];
+    const step = this.makerOf(name), written = this.writtenGoal(name);
+    if (step === undefined || step.kind === "ask") return written;
     const consumed = this.goals.get(step.goal);
     if (consumed === undefined) return undefined;
     if (consumed.sort === "stream") return { ...consumed, tail: { variable: `_${step.number}_1` } };
-    const written = this.clauses[step.clause - 1]?.goals[place], env = this.environmentOf(step.number);
+    const env = this.environmentOf(step.number);
     return written === undefined || env === undefined ? undefined : substituteGoal(written, env);
   }
 
@@ -170,9 +165,10 @@ class Run {
   /** What the variables of a step's clause stand for, 0 being the query; undefined where the step takes no clause. */
   environmentOf(number) {
     if (this.environments.has(number)) return this.environments.get(number);
-    const step = this.kept.steps.get(number), goal = this.isFresh && step?.clause ? this.goalOf(step.goal) : undefined;
+    const clause = this.clauseOf(number);
+    const goal = this.isFresh && clause !== undefined ? this.goalOf(this.kept.steps.get(number).goal) : undefined;
     if (goal === undefined) return undefined;
-    const clause = this.clauses[step.clause - 1], env = Run.bindingsOf(clause.head, goal.call, this);
+    const env = Run.bindingsOf(clause.head, goal.call, this);
     clause.news.forEach((name, place) => env.set(name, { variable: `_${number}_${place + 1}` }));
     this.environments.set(number, env);
     return env;
@@ -194,47 +190,53 @@ class Run {
 
   /** The goal of the text of which a goal came: of a clause, of the query, or of an ask. */
   writtenGoal(name) {
-    const [number, place] = numbersOf(name), step = this.kept.steps.get(number);
-    if (number === 0) return this.query.goals[place - 1];
-    if (step === undefined) return undefined;
-    if (step.clause) return this.clauses[step.clause - 1].goals[place - 1];
-    return step.act.startsWith("ask ") ? this.askedBy(step)[place - 1] : undefined;
+    const [number, place] = Printed.nameParts(name), step = this.kept.steps.get(number);
+    const made = step?.kind === "ask" ? Reader.readQuery(step.act.slice("ask ".length)) : this.madeBy(number);
+    return made?.goals[place - 1];
   }
 
   /** Where a goal stands in the texts: the clause's number, or 0 for the query, and the place; undefined where it has none. */
   placeOf(name) {
     for (let at = name; at !== null && at !== undefined;) {
-      const [number] = numbersOf(at), written = this.writtenGoal(at), step = this.kept.steps.get(number);
-      if (written !== undefined && !step?.act.startsWith("ask ")) return { clause: step?.clause ?? 0, ...written.place };
+      const written = this.writtenGoal(at), step = this.makerOf(at);
+      if (written !== undefined && step?.kind !== "ask") return { clause: step?.clause ?? 0, ...written.place };
       at = step?.goal;
     }
     return undefined;
   }
 
+  /** What a variable of the state is in the text, a name or a `_`; undefined where it does not stand there. */
+  writtenVariable(variable) {
+    if (!Reader.isState(variable)) return undefined;
+    const [number, place] = Printed.numbersOf(variable);
+    return this.madeBy(number)?.news[place - 1];
+  }
+
   /** The name that the text gives to a variable of the state; undefined where it has none. */
   nameOf(variable) {
-    if (!Reader.isState(variable)) return undefined;
-    const [number, place] = numbersOf(variable), step = this.kept.steps.get(number);
-    const names = number === 0 ? this.query.variables : step?.clause ? this.clauses[step.clause - 1].news : [];
-    const name = names[place - 1];
+    const name = this.writtenVariable(variable);
     return name !== undefined && Reader.isWritten(name) ? name : undefined;
+  }
+
+  /** Is a variable of the state a `_` of the text? */
+  isUnnamed(variable) {
+    const name = this.writtenVariable(variable);
+    return name !== undefined && !Reader.isWritten(name);
   }
 
   /** A variable with its name in words, as `_16_2 (Tail1 of step 16)`. */
   labelOf(variable) {
-    const name = this.nameOf(variable), [number] = numbersOf(variable);
+    const name = this.nameOf(variable), [number] = Printed.numbersOf(variable);
     return name === undefined ? variable : `${variable} (${name} of ${number === 0 ? "the query" : `step ${number}`})`;
   }
 
   /** The variables of the state to which the text gives a name. */
   variablesNamed(name) {
-    const found = [], place = this.query.variables.indexOf(name);
-    if (place >= 0) found.push(`_0_${place + 1}`);
-    for (const step of this.kept.steps.values()) {
-      const at = step.clause ? this.clauses[step.clause - 1].news.indexOf(name) : -1;
-      if (at >= 0) found.push(`_${step.number}_${at + 1}`);
-    }
-    return found;
+    const found = (number) => {
+      const place = this.madeBy(number)?.news.indexOf(name) ?? -1;
+      return place < 0 ? [] : [`_${number}_${place + 1}`];
+    };
+    return [0, ...this.kept.steps.keys()].flatMap(found);
   }
 }
 

@@ -13,8 +13,7 @@ import { causeInTerm } from "../text/causes_in_terms.mjs";
 import * as Replies from "../protocol/replies.mjs";
 import * as WhyNotLines from "../protocol/why_not_lines.mjs";
 import { afterPart, otherClauseWords } from "./blame_words.mjs";
-import { linesAtEnd, takenWords, whoLetGo } from "./let_go.mjs";
-import { holdersOf, lostLines } from "./waits.mjs";
+import { holdersOf, linesAtEnd, lostLines, takenWords, whoLetGo } from "./waits.mjs";
 import { MOST, plural, some, labelOf, whyTheySayNo, whyNoClause, whyWaits, whyFailed, hasConsequences } from "./reasons.mjs";
 
 const BEGINNING = 200; // letters that it tells of a value that is too long
@@ -81,12 +80,6 @@ function badText(session, meaning, reply) {
   return cause === undefined ? undefined : Causes.linesOf(cause, text);
 }
 
-const HELPERS = {
-  F5: noPredicate, F7: noGoal, F8: noSuchClause, F9: (session, [name]) => whyWaits(session, name), F10: (session, [name, clause]) => whyNoClause(session, name, clause),
-  F11: (session, [name]) => whyFailed(session, name, "F11"), F13: (session, [name]) => whyFailed(session, name, "F13"), F14: noOpenStream, F16: notKept, F17: hasConsequences,
-  F21: notLawful, F23: noVariable,
-};
-
 /** How a value begins that is too long to be printed. */
 async function beginningOf(session, [word]) {
   const run = await session.look(), variable = Reader.isState(word) ? word : run.variablesNamed(word)[0];
@@ -108,19 +101,25 @@ function unknownOf(session, words) {
 
 const notPart = () => ["no such call is there, and no kept step took one: goals and records list them"];
 
-// What helps with refusals of some commands, where it is not what helps with those of others.
-const OF_COMMANDS = { blame: { F7: notBlamed, F23: unknownOf }, part: { F7: notPart } };
+// What helps with a refusal; where it is another thing for one command, that command stands before it.
+const HELPERS = {
+  F5: noPredicate, F7: noGoal, F8: noSuchClause, F14: noOpenStream, F16: notKept, F17: hasConsequences, F21: notLawful,
+  F23: noVariable, "blame F7": notBlamed, "blame F23": unknownOf, "part F7": notPart,
+  F9: (session, [name]) => whyWaits(session, name),
+  F10: (session, [name, clause]) => whyNoClause(session, name, clause),
+  F11: (session, [name]) => whyFailed(session, name, "F11"),
+  F13: (session, [name]) => whyFailed(session, name, "F13"),
+};
 
 /** What helps with a refusal. */
 async function afterRefusal(session, meaning, reply) {
-  const [number] = reply[0].split(" ");
-  if (["ask", "in"].includes(meaning.name)) {
-    const told = badText(session, meaning, reply);
-    if (told !== undefined) return told;
-  }
+  const [number] = reply[0].split(" "), isText = ["ask", "in"].includes(meaning.name);
+  const why = isText ? badText(session, meaning, reply) : undefined;
+  if (why !== undefined) return why;
   const limit = Replies.limitIn(reply[0], meaning.line);
   if (limit !== undefined) return [limit, ...(meaning.name === "show" ? await beginningOf(session, meaning.words) : [])];
-  const helper = meaning.name === "redo" ? notRedone : OF_COMMANDS[meaning.name]?.[number] ?? HELPERS[number], told = await helper?.(session, meaning.words, reply);
+  const helper = meaning.name === "redo" ? notRedone : HELPERS[`${meaning.name} ${number}`] ?? HELPERS[number];
+  const told = await helper?.(session, meaning.words, reply);
   return told === undefined || told.length === 0 ? [Refusals[number]] : told;
 }
 
@@ -148,7 +147,7 @@ async function afterStop(session, line) {
 }
 
 /** After SUSP and FAIL lines: for what a goal waits, by the names of the text; why it has failed. */
-async function afterSettling(session, reply) {
+async function afterSettling(session, meaning, reply) {
   const told = [];
   for (const line of reply) {
     const [port, name, rest] = line.split(" ");
@@ -162,7 +161,7 @@ async function afterSettling(session, reply) {
 }
 
 /** Who could bind a variable that `show` tells to be unbound. */
-async function afterShow(session, [name], reply) {
+async function afterShow(session, { words: [name] }, reply) {
   const [, variable] = /^\S+ = (_\d+_\d+)$/.exec(reply[0]) ?? [];
   if (variable === undefined) return [];
   const goals = await session.goalsTold(), holders = holdersOf(goals ?? []).get(variable) ?? [];
@@ -178,8 +177,6 @@ function namesOf(session, variables, start = "") {
   return named.length === 0 ? [] : [`${start}${some(named.map(labelOf(session))).join(", ")}`];
 }
 
-const afterGoals = (session, reply) => namesOf(session, Replies.readGoals(reply).flatMap(({ waitsFor }) => waitsFor), "waited for: ");
-
 /** The same of variables that begin lines. */
 const namesOfFirst = (session, lines) => namesOf(session, lines.map((line) => line.split(" ")[0]));
 
@@ -187,7 +184,7 @@ const namesOfFirst = (session, lines) => namesOf(session, lines.map((line) => li
 const namesOfAll = (session, reply) => namesOf(session, reply.flatMap(Printed.variablesIn));
 
 /** The clause by which a step was taken, and what its variables stand for. */
-async function afterGoal(session, [word]) {
+async function afterGoal(session, { words: [word] }) {
   const step = session.kept.steps.get(Number(word)), clause = session.clauses[step?.clause - 1];
   if (clause === undefined) return [];
   const run = await session.look(), values = [...run.environmentOf(step.number) ?? []].filter(([name]) => Reader.isWritten(name));
@@ -220,34 +217,35 @@ async function afterExplain(session, meaning, reply) {
 }
 
 /** After `whynot`: variables by the names of the text, and the clauses of the steps that let them go. */
-function afterWhyNot(session, reply) {
+function afterWhyNot(session, meaning, reply) {
   const { lost } = WhyNotLines.read(reply), steps = new Map(lost.map((step) => [step.number, step]));
   const taken = [...steps.values()].map((step) => `step ${step.number} took ${takenWords(session, step)}`);
   return [...namesOfAll(session, reply), ...some(taken)];
 }
 
 /** After `keep`: what the last line counts. */
-function afterKeep(reply) {
+function afterKeep(session, meaning, reply) {
   const [, count] = /^kept (\d+)$/.exec(reply.at(-1)) ?? [];
   if (count === undefined) return [];
   return [`${plural(Number(count), "step")} left; shelf lists what was taken back, redo N puts a step there again`];
 }
+
+// What is added after a reply to some commands; after one to any other it is told what was settled.
+const AFTER = {
+  show: afterShow, explain: afterExplain, part: afterPart, whynot: afterWhyNot, keep: afterKeep, goal: afterGoal,
+  goals: (session, meaning, reply) =>
+    namesOf(session, Replies.readGoals(reply).flatMap(({ waitsFor }) => waitsFor), "waited for: "),
+  who: (session, meaning, reply) => namesOfFirst(session, reply),
+  clauses: async (session, { words: [name] }, reply) =>
+    [...await whyTheySayNo(session, name, reply), ...namesOfAll(session, reply)],
+};
 
 /** All that is added after a reply to a line of the console. */
 async function notesAfter(session, meaning, reply) {
   if (Replies.isRefused(reply)) return afterRefusal(session, meaning, reply);
   const last = reply.at(-1) ?? "";
   if (last.startsWith("stopped ")) return afterStop(session, last);
-  if (meaning.name === "show") return afterShow(session, meaning.words, reply);
-  if (meaning.name === "goals") return afterGoals(session, reply);
-  if (meaning.name === "who") return namesOfFirst(session, reply);
-  if (meaning.name === "explain") return afterExplain(session, meaning, reply);
-  if (meaning.name === "part") return afterPart(session, meaning.words[0], reply);
-  if (meaning.name === "whynot") return afterWhyNot(session, reply);
-  if (meaning.name === "keep") return afterKeep(reply);
-  if (meaning.name === "goal") return afterGoal(session, meaning.words);
-  if (meaning.name === "clauses") return [...await whyTheySayNo(session, meaning.words[0], reply), ...namesOfAll(session, reply)];
-  return afterSettling(session, reply);
+  return (AFTER[meaning.name] ?? afterSettling)(session, meaning, reply);
 }
 
 export { notesAfter };

@@ -1,13 +1,11 @@
 // A session goes on under its program as the file has it now: which of its steps stay, in words, and the session that
 // takes its place. The history by which it does is made here; the console loads it, and judges.
-import * as Histories from "../protocol/histories.mjs";
 import * as Replies from "../protocol/replies.mjs";
 import { wordsOfQuery } from "../protocol/words.mjs";
 import { plural } from "../run/reasons.mjs";
 import * as ReloadPlan from "../run/reload_plan.mjs";
 import { unlessEnded } from "./program.mjs";
 import { Session } from "./session.mjs";
-import { isWhole } from "./way_back.mjs";
 
 const MOST_TRIED = 20; // histories that are tried, with fewer and fewer steps of the shelf
 const NO_MEMORY = "memory was refused for the history; the session stands";
@@ -43,13 +41,14 @@ async function shelvedBy(session, plan, shelf, handedWith) {
  */
 async function reloadOf(session, { clauses, predicates, bytes }) {
   const records = await session.ask("records"), saved = await session.ask("save"), shelf = await session.ask("shelf");
-  if (![records, saved, shelf].every(isWhole)) return undefined;
-  const plan = ReloadPlan.planOf({ before: session.clauses, after: clauses, steps: Replies.readRecords(records) });
-  const spied = Histories.spiesIn(saved), isThere = (predicate) => predicates.includes(predicate);
-  const given = { next: Histories.nextIn(saved), spied: spied.filter(isThere) }, before = Replies.readShelf(shelf);
-  const handedWith = (shelved) => ({ program: bytes, history: ReloadPlan.historyOf(plan, { ...given, shelved }) });
-  const shelved = await shelvedBy(session, plan, before, handedWith), isShelved = new Set(shelved);
-  const unshelved = before.filter((step) => !isShelved.has(step)), unspied = spied.filter((one) => !isThere(one));
+  const plan = ReloadPlan.planTold({ before: session.clauses, after: clauses, records, saved, shelf });
+  if (plan === undefined) return undefined;
+  const isThere = (predicate) => predicates.includes(predicate), spied = plan.spied.filter(isThere);
+  const historyWith = (shelved) => ReloadPlan.historyOf(plan, { next: plan.next, spied, shelved });
+  const handedWith = (shelved) => ({ program: bytes, history: historyWith(shelved) });
+  const shelved = await shelvedBy(session, plan, plan.shelf, handedWith), isShelved = new Set(shelved);
+  const unshelved = plan.shelf.filter((step) => !isShelved.has(step));
+  const unspied = plan.spied.filter((one) => !isThere(one));
   return { plan, shelved, unshelved, unspied, handed: handedWith(shelved) };
 }
 

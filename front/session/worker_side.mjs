@@ -5,7 +5,7 @@ import Told from "../protocol/told.mjs";
 import * as Short from "../protocol/short.mjs";
 import Engine from "./engine.mjs";
 import Host from "./host.mjs";
-import * as Reloads from "../run/reloads.mjs";
+import * as ReloadPlan from "../run/reload_plan.mjs";
 import * as Replies from "../protocol/replies.mjs";
 import * as Reader from "../text/reader.mjs";
 
@@ -97,13 +97,14 @@ class WorkerSide {
   reload({ program }) {
     const { program: text, query } = this.given, fresh = this.engine.open({ program, query });
     if (fresh.refused) return { refusal: fresh.start.trim() };
-    const plan = Reloads.planOf({ before: Reader.readProgram(text), after: Reader.readProgram(program), ...this.whole() });
+    const [before, after] = [text, program].map(Reader.readProgram);
+    const plan = ReloadPlan.planTold({ before, after, ...this.whole() });
     if (plan === undefined) return { refusal: Replies.NO_MEMORY };
     let given, session;
-    for (const history of plan.histories) {
+    for (const history of ReloadPlan.historiesOf(plan)) {
       given = { program, query, history };
       session = this.engine.open(given);
-      if (!session.refused) return { ...this.begin(given, session), given, ...Reloads.inShort(plan) };
+      if (!session.refused) return { ...this.begin(given, session), given, ...ReloadPlan.inShort(plan) };
     }
     return { refusal: session.start.trim() };
   }

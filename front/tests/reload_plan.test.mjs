@@ -2,7 +2,7 @@
 import assert from "node:assert";
 import test from "node:test";
 import * as Replies from "../protocol/replies.mjs";
-import * as Consequences from "../run/consequences.mjs";
+import * as Graph from "../run/graph.mjs";
 import * as ReloadPlan from "../run/reload_plan.mjs";
 import * as Reader from "../text/reader.mjs";
 
@@ -77,6 +77,10 @@ test("of a shelf those steps may stay whose clause and goal are there, and the h
 });
 
 test("what depends on steps", () => {
-  const cases = [[[2], "2,3,6"], [[4], "4,5,6"], [[6], "6"], [[1], "1,2,3,4,5,6"], [[3, 5], "3,5,6"], [[], ""], [[9], "9"]];
-  for (const [numbers, wanted] of cases) assert.strictEqual([...Consequences.reachedFrom(numbers, RECORDS)].sort((a, b) => a - b).join(), wanted);
+  const cases = [[[2], "2,3,6"], [[4], "4,5,6"], [[6], "6"], [[1], "1,2,3,4,5,6"], [[3, 5], "3,5,6"], [[], ""]];
+  const graph = Graph.graphOf(RECORDS), numberAt = (index) => graph.numbers.at(index);
+  for (const [numbers, wanted] of cases) {
+    const { isIn } = Graph.dependents(graph, (index) => numbers.includes(numberAt(index)));
+    assert.strictEqual(RECORDS.filter((step, index) => isIn[index] === 1).map(({ number }) => number).join(), wanted);
+  }
 });

@@ -5,7 +5,7 @@ import path from "node:path";
 import test from "node:test";
 import { fileURLToPath } from "node:url";
 import * as Asking from "../protocol/asking.mjs";
-import * as Consequences from "../run/consequences.mjs";
+import * as Graph from "../run/graph.mjs";
 import Kept from "../run/kept.mjs";
 import * as Print from "../text/print.mjs";
 import * as Reader from "../text/reader.mjs";
@@ -66,8 +66,9 @@ test("a rollback takes the consequences that were told", async () => {
     while (kept.steps.size > 0) {
       const numbers = [...kept.steps.keys()], number = numbers[Math.floor(numbers.length / 2)];
       const told = [number, ...Replies.readRecords(session.line(`effects ${number}`)).map((step) => step.number)].join(",");
-      const reached = Consequences.reachedFrom([number], Replies.readRecords(session.line("records")));
-      assert.strictEqual(numbers.filter((kept) => reached.has(kept)).join(","), told);
+      const graph = Graph.graphOf(session.line("records"));
+      const { isIn } = Graph.effectsReached(graph, graph.indexOf(number));
+      assert.strictEqual(numbers.filter((kept) => isIn[graph.indexOf(kept)] === 1).join(","), told);
       assert.strictEqual(type(`roll ${number}`)[0], `undone ${told}`);
       assert.strictEqual(kept.steps.has(number), false);
     }

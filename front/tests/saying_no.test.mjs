@@ -3,7 +3,7 @@ import assert from "node:assert";
 import test from "node:test";
 import * as Reader from "../text/reader.mjs";
 import * as Replies from "../protocol/replies.mjs";
-import { whyNo } from "../run/saying_no.mjs";
+import { whyNo } from "../run/reasons.mjs";
 
 const CLAUSES = Reader.readProgram("p(a,[f(X)|L],N) :- integer(X), N * 2 > X, 1 < 0 | q(L).\n");
 

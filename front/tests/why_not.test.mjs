@@ -5,7 +5,7 @@ import test from "node:test";
 import * as Replies from "../protocol/replies.mjs";
 import * as Short from "../protocol/short.mjs";
 import * as WhyNotLines from "../protocol/why_not_lines.mjs";
-import { isLetGo, linesAtEnd, whoLetGo, whyAtEnd } from "../run/let_go.mjs";
+import { isLetGo, linesAtEnd, whoLetGo, whyAtEnd } from "../run/waits.mjs";
 import { OPENED, TURNED, played } from "./lib/played.mjs";
 
 const LOST = {

@@ -5,7 +5,7 @@ import test from "node:test";
 import { fileURLToPath } from "node:url";
 import { queryOf } from "../../front/text/query_comment.mjs";
 import { arcsAmong } from "../../front/run/arcs.mjs";
-import { whyAtEnd } from "../../front/run/let_go.mjs";
+import { whyAtEnd } from "../../front/run/waits.mjs";
 import * as Asking from "../../front/protocol/asking.mjs";
 import { engineOfPage } from "../../front/session/engine_of_page.mjs";
 import * as Outcome from "../outcome.mjs";

@@ -5,7 +5,7 @@ import test from "node:test";
 import * as Replies from "../../front/protocol/replies.mjs";
 import * as Clauses from "../../front/text/clauses.mjs";
 import * as Graph from "../../front/run/graph.mjs";
-import * as Reloads from "../../front/run/reloads.mjs";
+import * as ReloadPlan from "../../front/run/reload_plan.mjs";
 import WorkerSide from "../../front/session/worker_side.mjs";
 import { engineOfPage } from "../../front/session/engine_of_page.mjs";
 import * as StepWords from "../step_words.mjs";
@@ -51,7 +51,7 @@ test("under each text the session goes on with the steps that the button counts,
       const side = sideOf(play);
       if (side === null) break;
       const before = standOf(side.session), graph = Graph.graphOf(side.session.line("records"));
-      const going = Reloads.goingUnder({ graph, clauses: Clauses.clausesOf(play.program) }, program);
+      const going = ReloadPlan.goingUnder({ graph, clauses: Clauses.clausesOf(play.program) }, program);
       assertClosed(side, graph, going);
       const told = side.reload({ program });
       if (told.refusal) {
