@@ -9,7 +9,7 @@ import * as Blaming from "./blaming.mjs";
 import Canvas from "./canvas.mjs";
 import * as Choosing from "./choosing.mjs";
 import Deeds from "./deeds.mjs";
-import { find, make, withCode } from "./elements.mjs";
+import { find, make } from "./elements.mjs";
 import * as ExampleNotes from "./example_notes.mjs";
 import * as Files from "./files.mjs";
 import * as Fitting from "./fitting.mjs";
@@ -35,24 +35,11 @@ import State from "./state.mjs";
 import * as Talk from "./talk.mjs";
 import * as Trail from "./trail.mjs";
 import * as Walking from "./walking.mjs";
-import * as Welcome from "./welcome.mjs";
 import * as Why from "./why.mjs";
 
 const FIRST_EXAMPLE = "quicksort", FIRST_QUERY = "quicksort([3,1,2],R)";
 const typedBefore = [];
 let recall = 0;
-
-const HELP = [
-  ["Picture", "A line is a process, and time goes right. `●` reduces a goal by a clause, `◆` binds a variable, `■` computes, a flag is an input. A grey line leads from a step to a goal that it made, a blue arrow to a step that read what it bound; an orange dashed one says that this woke a goal that waited. A green ring is a goal that is ready, a dashed one waits, and its dotted arc points at a goal that has its variable. A hexagon is an ask, which no goal was there for; a line of dashes and dots leads to it from a step that made a variable that it names."],
-  ["Click", "a step, a goal, a variable, or something that was taken back, and choose. Each click types a line at the console, below, where you see what it is called. A click on a clause of the program lights its steps. `Add goals` adds some while the program runs: write them as a query has them."],
-  ["Names", "A variable has the program's name, with the number of its step below the line: `Rel₆` is Rel of step 6. Point at it to see its number, and click it to type that at the console."],
-  ["Keys", "`s` steps the first goal that is ready, `r` runs, `u` takes back the last step, `a` asks for more goals, `t` sorts the steps by process, `d` changes between recorded order and chains of causes, `f` finds steps, `y` and `n` answer a question, `b` takes the last answer back, `p` goes back to what you looked at before, `/` goes to the console, `Escape` closes, and `Ctrl` `Enter` in the program starts it. In the picture `←` `→` go from step to step, `↑` `↓` to a cause or an effect, `Enter` opens what can be done."],
-  ["Move and size", "Drag the picture, or turn the wheel over it, to move it; with `Ctrl` the wheel sizes it. Drag with `Shift`, in the picture or in the strip above it, to select an area: its steps are lit and counted by predicate. `Shift` `←` `→` do so from the chosen step on."],
-  ["Mend", "Change the program while a run stands: `Reload`, beside `Run`, says how many steps stay under the new text, and goes on with them. Those that go are ringed while you point at it."],
-  ["Why?", "Click a value that is wrong, or a goal that has failed or waits, then `Find the wrong clause`. You are asked about a few calls: was what each gave right, for what it was given? Then the clause that is wrong is marked, and its step can be taken back. `Why?` tells who waits for whom, and which step let a variable go: a red cross stands there. `Other choices` tells what a value would be, had a step gone by another clause."],
-  ["Kept", "This browser keeps the last five sessions of your own programs, and what you typed since Start: after a reload the page offers them. `Link` puts program, query and lines into the address. Nothing leaves this browser by itself."],
-  ["Texts", "`Save` keeps program, query and all lines in a text; `Open` plays it again. It opens histories (as `save` writes them) and programs, too. All that is described in docs/LANGUAGE.md and docs/FORMATS.md."],
-];
 
 const typed = () => ({ program: find("program").value, query: find("query").value, history: "" });
 
@@ -161,7 +148,7 @@ const showDetail = () => Panels.showDetail(Shown.chosen);
 
 /** What shows a change, in its order: each is told what it is, and the fresh entries of the console. */
 const parts = () => [
-  nameExample, Welcome.hide, OnScreen.follow, Beside.follow, Result.show, redraw, showNewSteps, Looking.follow, Panels.showTold, Panels.showGoals, Store.show,
+  nameExample, hideWelcome, OnScreen.follow, Beside.follow, Result.show, redraw, showNewSteps, Looking.follow, Panels.showTold, Panels.showGoals, Store.show,
   Panels.showShelf, Panels.showCount, showDetail, Answers.show, Trail.follow, Why.show, Blaming.show, Choosing.follow, Guide.onChange,
   tellCause, Reloading.follow, Fitting.showLit, Keeping.keep,
 ];
@@ -216,17 +203,12 @@ function tidy() {
   Talk.send(`arrange ${Graph.tidyOrder(State.run.graph, laneOf).join(" ")}`).then(() => setOrder("record"));
 }
 
-function showHelp() {
-  const words = HELP.map(([name, text]) => make("p", null, make("b", null, `${name}: `), ...withCode(text)));
-  const close = make("button", { class: "main-button" }, "Close");
-  close.addEventListener("click", () => find("help").close());
-  find("help").replaceChildren(make("h2", null, "ghcdb in a page"), ...words, Welcome.language(), make("p", { class: "dim" }, `${Panels.madeWith()}.`), close);
-  find("help").showModal();
-}
+const showHelp = () => find("help").showModal();
+const hideWelcome = () => { find("welcome").hidden = true; };
 
 /** Empties program and query, to be written. */
 function writeOwn() {
-  Welcome.hide();
+  hideWelcome();
   setTyped({ program: "", query: "" });
   showTab("program");
   find("program").focus();
@@ -234,7 +216,8 @@ function writeOwn() {
 
 const BUTTONS = {
   "begin-tour": () => Keeping.beginOther(Guide.begin), "welcome-tour": () => Keeping.beginOther(Guide.begin),
-  "welcome-run": () => { Welcome.hide(); find("leap").click(); }, "welcome-own": writeOwn, "close-welcome": Welcome.hide, "open-help": showHelp, "open-file": () => find("file").click(),
+  "welcome-run": () => { hideWelcome(); find("leap").click(); }, "welcome-own": writeOwn, "close-welcome": hideWelcome,
+  "open-help": showHelp, "close-help": () => find("help").close(), "open-file": () => find("file").click(),
   "larger-query": () => begin({ ...typed(), query: find("larger-query").value }), "start-anew": startTyped,
   "save-session": () => Files.saveSession(), "save-picture": () => Menus.open({ picture: true }, find("save-picture")),
   "ask-more": () => Menus.open({ ask: true }, find("ask-more")),
@@ -499,14 +482,21 @@ const doers = {
 };
 Object.assign(Deeds, doers);
 
+/** Fills what page.html leaves open: the examples, the half page on the language, and with what the page was made. */
+function fillTexts() {
+  find("examples").append(...EXAMPLES.map(({ name }) => make("option", { value: name }, name)));
+  for (const place of document.querySelectorAll(".language")) place.append(find("language").content.cloneNode(true));
+  find("made-with").textContent = `${Panels.madeWith()}.`;
+}
+
 async function startPage() {
   if (typeof WebAssembly === "undefined") throw new Error("it has no WebAssembly, in which the program comes; some browsers switch it off in a strict mode");
-  for (const example of EXAMPLES) find("examples").append(make("option", { value: example.name }, example.name));
+  fillTexts();
   listenToAll();
   setTheme(window.matchMedia("(prefers-color-scheme: dark)").matches ? "dark" : "light");
   showTab("run");
   Keeping.offer(await fromAddress());
-  if (location.hash.length < 2 && find("answer").hidden) Welcome.show();
+  if (location.hash.length < 2 && find("answer").hidden) find("welcome").hidden = false;
   document.body.classList.add("started");
 }
 

@@ -15,6 +15,7 @@ export interface Places {
   "link-text": HTMLInputElement;
   overview: HTMLCanvasElement;
   help: HTMLDialogElement;
+  language: HTMLTemplateElement;
   start: HTMLFormElement;
   play: HTMLButtonElement;
   step: HTMLButtonElement;
