@@ -3,7 +3,7 @@ import * as BlameLines from "../front/protocol/blame_lines.mjs";
 import * as Terms from "../front/run/terms.mjs";
 import * as Printed from "../front/text/printed.mjs";
 import Deeds from "./deeds.mjs";
-import { find, make, closeButton, ringing, goTo, goToGoal } from "./elements.mjs";
+import { find, make, closeButton, joined, ringing, link, goTo, goToGoal } from "./elements.mjs";
 import * as Names from "./names.mjs";
 import OnScreen from "./on_screen.mjs";
 import * as Parts from "./parts.mjs";
@@ -82,7 +82,7 @@ const standing = ({ status, waitsFor, refusal }) => (status === "failed" ? `it h
 /** What makes a question harder than its two sides tell: an order, goals that were asked for, a goal that is left. */
 function warnings({ asked: asks, inTurns, left: goal, ask, fault }) {
   const own = ask !== null ? ask.goal : fault.goal;
-  const named = asks.slice(0, MOST_ASKS).flatMap((step, at) => [at > 0 ? ", " : "", goTo(step)]);
+  const named = joined(asks.slice(0, MOST_ASKS).map((step) => goTo(step)), ", ");
   return [
     goal !== null && goal.goal !== own ? make("p", null, "Goal ", goToGoal(goal.goal), ` came of it, and ${standing(goal)}.`) : null,
     inTurns ? make("p", null, "Some of what it was given came of what it gave before: judge by the order, too.") : null,
@@ -105,7 +105,7 @@ function questionParts(told) {
   const answer = (isRight, id, key, words) => make("button", { id, "data-line": BlameLines.answered(line, goal, isRight), title: `${BlameLines.answered(line, goal, isRight)} (key ${key})` }, words);
   const by = taker === undefined ? "" : [", which step ", goTo(taker.number), ` took${taker.clause ? ` by clause ${taker.clause}` : ""}`];
   return [
-    titleRow(make("b", null, "Is this right?"), ` Question ${count + 1} of about ${count + questionsLeft(of)}: call `, make("button", { class: "link", id: "blame-light", title: "lights the part of this call" }, goal), ...by, ". ",
+    titleRow(make("b", null, "Is this right?"), ` Question ${count + 1} of about ${count + questionsLeft(of)}: call `, link({ id: "blame-light", title: "lights the part of this call" }, goal), ...by, ". ",
       make("span", { class: "dim" }, `Of ${plural(of, "call")} it is not known yet.`)),
     sides(told), ...warnings(told),
     answerRow(answer(true, "blame-right", "y", "Right"), answer(false, "blame-wrong", "n", "Wrong"), backButton(), make("span", { class: "dim" }, hintFor(told))),

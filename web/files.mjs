@@ -4,10 +4,10 @@ import * as SessionText from "../front/protocol/session_text.mjs";
 import * as Graph from "../front/run/graph.mjs";
 import * as Lanes from "../front/run/lanes.mjs";
 import * as Terms from "../front/run/terms.mjs";
+import { queryOf } from "../front/text/query_comment.mjs";
+import { HOLE, AGAIN, isBroken } from "./answers.mjs";
 import Deeds from "./deeds.mjs";
 import { find, make } from "./elements.mjs";
-import * as ExampleNotes from "./example_notes.mjs";
-import { HOLE, AGAIN, isBroken } from "./holes.mjs";
 import * as Names from "./names.mjs";
 import OnScreen from "./on_screen.mjs";
 import * as Picture from "./picture.mjs";
@@ -95,7 +95,7 @@ function openProgram(text) {
     Deeds.tell(true, `This text was not opened: ${Program.tellTooLong(text)}`);
     return;
   }
-  const program = text.replace(/\r\n?/g, "\n"), query = ExampleNotes.read({ program }).query || Deeds.typed().query;
+  const program = text.replace(/\r\n?/g, "\n"), query = queryOf(program) || Deeds.typed().query;
   Deeds.beginOther(() => Deeds.begin({ program, query }));
 }
 

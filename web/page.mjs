@@ -24,7 +24,6 @@ import * as Paper from "./paper.mjs";
 import * as Panels from "./panels.mjs";
 import { pauses } from "./pausing.mjs";
 import * as Program from "./program.mjs";
-import * as Refusing from "./refusing.mjs";
 import * as Reloading from "./reloading.mjs";
 import * as Resting from "./resting.mjs";
 import * as Result from "./result.mjs";
@@ -139,8 +138,8 @@ function lightClause(number) {
 
 /** Where program or query was refused, it says why; else what is noted on the program. */
 function tellCause(what) {
-  if (what !== "start" || Refusing.show(State.given, State.refusal)) return;
-  const notes = State.refusal ? [] : Refusing.notes(State.given.program);
+  if (what !== "start" || Answers.showRefusal(State.given, State.refusal)) return;
+  const notes = State.refusal ? [] : Answers.notesOn(State.given.program);
   if (notes.length > 0) Answers.put(false, ...notes);
 }
 
@@ -477,7 +476,8 @@ const doers = {
   showSlice: Canvas.showSlice, showAsked: Canvas.showAsked, lanesBottom: () => Canvas.view.bottom, wholePicture: Files.wholePicture,
   markClause: Program.markClause, markLit: Program.markLit, showPlace: Program.showPlace, lightClause, size: Fitting.size, selectRange: Selecting.selectRange,
   resultOf: Result.ofKept, tell: Answers.put, hideAnswer: Answers.hide, tellSlice: Resting.tell, openMenu: Menus.open, askFirst: Menus.askFirst, closeMenu: Menus.close,
-  showRefusal: Refusing.show, notesOn: Refusing.notes, whyInShort: Why.inShort, besideParts: Beside.noteParts, canKeepRun: Beside.isComparable, keepRun: Beside.keep,
+  showRefusal: Answers.showRefusal, notesOn: Answers.notesOn,
+  whyInShort: Why.inShort, besideParts: Beside.noteParts, canKeepRun: Beside.isComparable, keepRun: Beside.keep,
   looked: Trail.saved, takeUpLooked: Trail.takeUp, isOnTour: Guide.isOn, endTour: Guide.end, pointAgain: Guide.pointAgain, savePicture: Files.savePicture,
 };
 Object.assign(Deeds, doers);

@@ -2,7 +2,7 @@
 import * as Asking from "../front/protocol/asking.mjs";
 import * as Terms from "../front/run/terms.mjs";
 import Deeds from "./deeds.mjs";
-import { find, make, lineButton, linkedLine } from "./elements.mjs";
+import { find, make, lineButton, joined, link, linkedLine } from "./elements.mjs";
 import * as GoalRows from "./goal_rows.mjs";
 import Shown from "./shown.mjs";
 import State from "./state.mjs";
@@ -16,9 +16,9 @@ const MOST_LINKS = 12;
 function choiceParts(others, number) {
   const [, clauses] = others.find(([step]) => step === number), { clause } = State.run.graph.byNumber.get(number);
   const titleOf = (other) => `keeps this run beside; roll ${number}, then the goal by clause ${other}`;
-  const how = (other) => ({ class: "link", type: "button", "data-try": `${number} ${other}`, title: titleOf(other) });
-  const tries = clauses.flatMap((other, at) => [at > 0 ? ", " : "", make("button", how(other), `try clause ${other}`)]);
-  return [` went by clause ${clause}; `, ...tries, "."];
+  const how = (other) => ({ "data-try": `${number} ${other}`, title: titleOf(other) });
+  const tries = clauses.map((other) => link(how(other), `try clause ${other}`));
+  return [` went by clause ${clause}; `, ...joined(tries, ", "), "."];
 }
 
 /** Lights the steps of a reply to `explain`, and tells what stands in front of them, on which clauses it rests, where another one could be chosen, and their goals as a tree. */
@@ -28,7 +28,8 @@ function tell(name, slice) {
   const words = `${plural(others.length, "step")} decided, for another clause was open (ringed): `;
   const walk = () => Walking.along(others.length, (at) => others[at][0], (number) => choiceParts(others, number));
   const decided = others.length === 0 ? [] : [words, walk(), " "];
-  Deeds.tell(false, make("code", null, `explain ${name}`), " ", ...head.slice(0, MOST_LINKS).flatMap((line, index) => [index > 0 ? ", " : "", ...linkedLine(Terms.cut(line, 160))]), `, ${last}. `, rests === undefined ? "" : `It ${rests}. `,
+  const lines = head.slice(0, MOST_LINKS).map((line) => linkedLine(Terms.cut(line, 160)));
+  Deeds.tell(false, make("code", null, `explain ${name}`), " ", ...joined(lines, ", "), `, ${last}. `, rests === undefined ? "" : `It ${rests}. `,
     ...decided, ...(numbers.length > 0 ? [lineButton("Find the wrong clause", `blame ${name}`, { class: "small" }), GoalRows.of({ numbers, isIn: Shown.slice.isIn })] : []));
 }
 

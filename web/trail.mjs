@@ -1,7 +1,7 @@
 // What was looked at: a trail of steps and goals on which one goes back, and notes on steps. Both are kept with the
 // session, and stand in its link.
 import Deeds from "./deeds.mjs";
-import { find, make, goTo, goToGoal } from "./elements.mjs";
+import { find, make, joined, goTo, goToGoal } from "./elements.mjs";
 import Shown from "./shown.mjs";
 import State from "./state.mjs";
 
@@ -54,7 +54,7 @@ function show() {
   const before = trail.filter(isThere).slice(-MOST_SHOWN), place = now();
   const shown = [...notes].filter(([step]) => isThere({ step }));
   find("trail").hidden = before.length < 2;
-  find("trail").replaceChildren("Looked at: ", ...before.flatMap((one, at) => [at > 0 ? " → " : "", linkTo(one)]));
+  find("trail").replaceChildren("Looked at: ", ...joined(before.map(linkTo), " → "));
   find("trail-back").disabled = before.length < (place === null ? 1 : 2);
   find("note-form").hidden = place === null || place.step === undefined;
   find("notes").hidden = shown.length === 0;
