@@ -93,5 +93,6 @@ function fillRows(name, rows) {
 }
 
 export {
-  keepFocus, find, make, lineButton, buttons, closeButton, joined, ringing, withCode, link, goTo, goToGoal, linkedLine, fillRows,
+  keepFocus, find, make, lineButton, buttons, closeButton, joined, ringing, withCode, link, goTo, goToGoal, linkedLine,
+  fillRows,
 };

@@ -18,6 +18,7 @@ import * as Talk from "./talk.mjs";
 
 const MOST_PIXELS = 60e6; // of a PNG
 const ROOM_ON_PAPER = 1100; // points
+const NO_LINES = { lines: [], replies: [] };
 
 function saveBlob(name, blob) {
   const link = make("a", { href: URL.createObjectURL(blob), download: name });
@@ -80,59 +81,41 @@ const sessionText = () => SessionText.write({ ...State.given, entries: savedEntr
 
 /** Saves the session; a history with a hole is told, and not written. */
 function saveSession() {
-  if (Replies.hasHole(State.given.history)) {
-    Deeds.tell(true, `Nothing was saved: the session began with a history that is not whole: ${HOLE}.`);
-    return;
-  }
-  save("session.txt", "text/plain", sessionText());
-  if (!State.entries.some(isBroken)) return;
-  Deeds.tell(true, `The session is saved without its history: ${HOLE}. ${AGAIN}.`);
+  const isWhole = !Replies.hasHole(State.given.history), tellBad = (why) => Deeds.tell(true, why);
+  if (isWhole) save("session.txt", "text/plain", sessionText());
+  if (!isWhole) tellBad(`Nothing was saved: the session began with a history that is not whole: ${HOLE}.`);
+  else if (State.entries.some(isBroken)) tellBad(`The session is saved without its history: ${HOLE}. ${AGAIN}.`);
 }
 
-/** Begins a session of a program that was opened: on the query that its comment names, else on the one that stands there. */
-function openProgram(text) {
-  if (Program.isTooLong(text)) {
-    Deeds.tell(true, `This text was not opened: ${Program.tellTooLong(text)}`);
-    return;
-  }
-  const program = text.replace(/\r\n?/g, "\n"), query = queryOf(program) || Deeds.typed().query;
-  Deeds.beginOther(() => Deeds.begin({ program, query }));
+/** A program that was opened, on the query that its comment names, else on the one that stands here. */
+function readProgram(text) {
+  if (Program.isTooLong(text)) throw new RangeError(Program.tellTooLong(text));
+  const program = text.replace(/\r\n?/g, "\n");
+  return { program, query: queryOf(program) || Deeds.typed().query, history: "", ...NO_LINES };
 }
 
-/** Whether a history is whole; where it is not, that is told. */
-function isWhole(history) {
-  const isBad = Replies.hasHole(history);
-  if (isBad) Deeds.tell(true, `This text was not opened: its history is not whole: ${HOLE}.`);
-  return !isBad;
+/** What a text begins: a saved session, a history of the program and query that stand here, else a program. */
+function read(text) {
+  if (text.startsWith("ghc-history ")) return { ...Deeds.typed(), history: text, ...NO_LINES };
+  const exampleOf = (name) => EXAMPLES.find((example) => `${example.name}.ghc` === name)?.program;
+  return SessionText.read(text, exampleOf) ?? readProgram(text);
 }
 
-/** Opens a text: a saved session is played again; a history starts a session of the program and query that are there; else it is a program. */
+/** Opens a text, and plays its lines; where that cannot be done, tells why. */
 function openText(text) {
-  if (text.startsWith("ghc-history ")) {
-    if (isWhole(text)) Deeds.beginOther(() => Deeds.begin({ ...Deeds.typed(), history: text }));
-    return;
-  }
-  let session = null;
   try {
-    session = SessionText.read(text, (name) => (EXAMPLES.find((example) => `${example.name}.ghc` === name) || {}).program);
+    const { lines, replies, ...texts } = read(text);
+    if (Replies.hasHole(texts.history)) throw new Error(`its history is not whole: ${HOLE}`);
+    Deeds.beginOther(() => { Deeds.begin(texts, lines).then(() => compare(lines, replies)); });
   } catch (error) {
     Deeds.tell(true, `This text was not opened: ${error.message}.`);
-    return;
   }
-  if (!session) {
-    openProgram(text);
-    return;
-  }
-  if (!isWhole(session.history)) return;
-  Deeds.beginOther(() => {
-    Deeds.begin(session, session.lines).then(() => compare(session));
-  });
 }
 
 /** Tells the first reply that is another than the one in the text that was opened. */
-function compare(session) {
+function compare(lines, replies) {
   if (State.refusal) return;
-  const other = SessionText.firstOther(session.lines, session.replies, State.entries.map((entry) => entry.reply));
+  const other = SessionText.firstOther(lines, replies, State.entries.map((entry) => entry.reply));
   if (other === null) return;
   const cut = (lines) => make("code", null, Terms.cut(lines.join(" ⏎ ") || "(no reply)", 160));
   Deeds.tell(true, `Line ${other.at + 1}, `, make("code", null, other.line), ", is answered otherwise than in the text: there ", cut(other.saved), ", here ", cut(other.now), ".");

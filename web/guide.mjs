@@ -10,15 +10,11 @@ let isAside = false; // whether other lines were typed than the story's
 
 const station = () => (at !== null && at < Tour.STATIONS.length ? Tour.STATIONS[at] : null);
 
-function billProgram() {
-  return EXAMPLES.find((example) => example.name === "bill").program;
-}
-
 /** Begins the session of a station anew, and plays it up to there. */
 function putThere() {
-  const { session } = station(), { program } = Tour.SESSIONS[session];
+  const { program } = Tour.SESSIONS[station().session], bill = EXAMPLES.find(({ name }) => name === "bill");
   isAside = false;
-  Deeds.begin({ program: program(billProgram()), query: Tour.QUERY }, Tour.linesBefore(at));
+  Deeds.begin({ program: program(bill.program), query: Tour.QUERY }, Tour.linesBefore(at));
   show();
 }
 
@@ -37,22 +33,24 @@ function end() {
 /** Types the station's line for the user. */
 const doIt = () => Talk.send(station().line);
 
-function show() {
-  const area = find("guide"), here = station();
-  area.hidden = at === null;
-  document.body.classList.toggle("on-tour", at !== null);
-  if (at === null) {
-    pointAgain();
-    return;
-  }
-  const place = here ? `${at + 1} of ${Tour.STATIONS.length}` : "the end";
-  const words = isAside ? "You left the story, and that is fine. " : "";
+/** What the guide shows: where the tour is, the words of its station, and what leads on. */
+function parts() {
+  const here = station(), place = here ? `${at + 1} of ${Tour.STATIONS.length}` : "the end";
+  const words = isAside ? ["You left the story, and that is fine. "] : withCode(here ? here.words : Tour.END);
   const forth = here && !isAside ? make("button", { id: "tour-do", title: here.line }, "Do it for me") : null;
   const again = isAside ? make("button", { id: "tour-again" }, "Back to the story") : null;
   const back = at > 0 ? make("button", { id: "tour-back", title: "One station back" }, "Back") : null;
-  area.replaceChildren(make("div", { class: "tour-place" }, make("b", null, here ? here.chapter : "Done"), make("span", { class: "dim" }, place)),
-    make("p", null, words, ...(isAside ? [] : withCode(here ? here.words : Tour.END))),
-    buttons(again, forth, back, make("button", { id: "tour-end" }, "End the tour")));
+  const chapter = make("b", null, here ? here.chapter : "Done"), dim = make("span", { class: "dim" }, place);
+  return [
+    make("div", { class: "tour-place" }, chapter, dim), make("p", null, ...words),
+    buttons(again, forth, back, make("button", { id: "tour-end" }, "End the tour")),
+  ];
+}
+
+function show() {
+  find("guide").hidden = at === null;
+  document.body.classList.toggle("on-tour", at !== null);
+  if (at !== null) find("guide").replaceChildren(...parts());
   pointAgain();
 }
 

@@ -229,7 +229,6 @@ const BUTTONS = {
   play: () => Looking.play(), "show-all-steps": () => Looking.showNow(),
   "lanes-alone": () => Panels.showLanesAlone(), "lanes-all": () => { OnScreen.only = null; Canvas.draw(); Panels.showNote(); },
   wrap: () => Program.setWrap(!Program.isWrapped()), again: () => Talk.again(), "close-answer": () => Answers.hide(),
-  "go-without": () => Keeping.goWithout(),
   "why-close": Why.close, "choices-stop": Choosing.stop, "choices-close": Choosing.close,
   "blame-light": () => Blaming.lightAgain(), "blame-close": () => Blaming.close(), "blame-alone": () => Blaming.tryAlone(), "blame-return": () => Blaming.goBack(),
   "tour-do": () => Guide.doIt(), "tour-back": () => Guide.back(), "tour-again": () => Guide.putThere(), "tour-end": () => Guide.end(),
