@@ -250,10 +250,7 @@ function goBack() {
   Deeds.begin(left.given, left.lines);
 }
 
-/** What a key does: the button of this name, where it is there. */
-function press(name) {
-  const button = /** @type {HTMLButtonElement | null} */ (find(`blame-${name}`));
-  if (button !== null && !button.disabled) button.click();
-}
+/** What a key does: a click on the button of this name, where it is there. */
+const press = (name) => find(`blame-${name}`)?.click();
 
 export { show, lightPart, lightAgain, close, tryAlone, goBack, press };

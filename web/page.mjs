@@ -183,8 +183,7 @@ function showTab(name) {
 
 function setOrder(by) {
   Shown.by = by;
-  find("by-record").setAttribute("aria-pressed", String(by === "record"));
-  find("by-depth").setAttribute("aria-pressed", String(by === "depth"));
+  for (const order of ["record", "depth"]) find(`by-${order}`).setAttribute("aria-pressed", String(order === by));
   Canvas.draw();
 }
 
@@ -249,7 +248,6 @@ function choiceAt(element) {
 /** Chooses a step, and brings it into sight. */
 function goToStep(step) {
   if (!State.run.graph.byNumber.has(step)) return;
-  Menus.close();
   if (document.body.dataset.tab === "console") showTab("run");
   goTo({ step });
 }
@@ -263,7 +261,6 @@ function goTo(chosen) {
 /** Chooses a goal that is there, and opens what can be done with it; of one that is gone the step that took it. */
 function goToGoal(goal) {
   const chosen = { goal }, taker = OnScreen.takerOf(goal);
-  Menus.close();
   if (taker !== undefined) {
     goToStep(taker.number);
     return;
@@ -285,48 +282,44 @@ function typeNumber(element) {
   line.focus();
 }
 
-const closing = (does) => (element) => { Menus.close(); does(element); };
-
 /**
- * What a click does, by what it hits: the first of these that fits.
+ * What a click does, by what it hits: the first of these that fits. An open menu is closed before.
  * @type {[string, (element: any) => unknown][]}
  */
 const CLICKS = [
-  ["[data-line]:not(:disabled)", closing(({ dataset }) => Talk.send(dataset.line))],
-  ["[data-types]", closing(typeNumber)],
-  ["[data-root]", closing(explainPart)],
+  ["[data-line]:not(:disabled)", ({ dataset }) => Talk.send(dataset.line)],
+  ["[data-types]", typeNumber],
+  ["[data-root]", explainPart],
   ["[data-keep]", ({ dataset }) => Resting.askKeep(dataset.keep)],
   ["[data-go-goal]", ({ dataset }) => goToGoal(dataset.goGoal)],
-  ["[data-try]", closing(({ dataset }) => Beside.tryClause(...dataset.try.split(" ").map(Number)))],
-  ["[data-kept]", closing(({ dataset }) => Beside.onClick(Number(dataset.kept)))],
-  ["[data-outcome]", closing(({ dataset }) => Choosing.goThere(...dataset.outcome.split(" ")))],
-  ["[data-choices]", closing(({ dataset }) => Choosing.begin(dataset.choices))],
-  ["[data-fold]", closing(({ dataset }) => Looking.fold(dataset.fold, true))],
-  ["[data-unfold]", closing(({ dataset }) => Looking.fold(dataset.unfold, false))],
+  ["[data-try]", ({ dataset }) => Beside.tryClause(...dataset.try.split(" ").map(Number))],
+  ["[data-kept]", ({ dataset }) => Beside.onClick(Number(dataset.kept))],
+  ["[data-outcome]", ({ dataset }) => Choosing.goThere(...dataset.outcome.split(" "))],
+  ["[data-choices]", ({ dataset }) => Choosing.begin(dataset.choices)],
+  ["[data-fold]", ({ dataset }) => Looking.fold(dataset.fold, true)],
+  ["[data-unfold]", ({ dataset }) => Looking.fold(dataset.unfold, false)],
   ["[data-note-away]", ({ dataset }) => Trail.setNote(Number(dataset.noteAway), "")],
   ["[data-go-on]", ({ dataset }) => Keeping.goOn(Number(dataset.goOn))],
-  ["[data-clause]", closing(({ dataset }) => lightClause(Number(dataset.clause)))],
-  ["[data-visit]", closing(({ dataset }) => Canvas.visit(Number(dataset.visit)))],
+  ["[data-clause]", ({ dataset }) => lightClause(Number(dataset.clause))],
+  ["[data-visit]", ({ dataset }) => Canvas.visit(Number(dataset.visit))],
   ["[data-goto]", ({ dataset }) => goToStep(Number(dataset.goto))],
-  ["button[data-tab]", closing(({ dataset }) => showTab(dataset.tab))],
-  [Object.keys(BUTTONS).map((id) => `button#${id}`).join(","), closing(({ id }) => BUTTONS[id]())],
+  ["button[data-tab]", ({ dataset }) => showTab(dataset.tab)],
+  [Object.keys(BUTTONS).map((id) => `button#${id}`).join(","), ({ id }) => BUTTONS[id]()],
 ];
 
 function onClick(event) {
   const { target } = event;
   if (!target.isConnected) return; // the button has put something else in its own place
-  for (const [hit, does] of CLICKS) {
-    const found = target.closest(hit);
-    if (found) return does(found);
-  }
-  if (target.closest("#menu") && !target.closest("[data-close]")) return undefined;
-  return chooseAt(target);
+  const [hit, does] = CLICKS.find(([selector]) => target.closest(selector)) ?? [];
+  if (does === undefined && target.closest("#menu") && !target.closest("[data-close]")) return;
+  Menus.close();
+  if (does === undefined) chooseAt(target);
+  else does(target.closest(hit));
 }
 
 /** Chooses what was clicked, and opens what can be done with it. */
 function chooseAt(target) {
   const choice = choiceAt(target);
-  Menus.close();
   if (choice) {
     if (choice.chosen.variable === undefined) Canvas.choose(choice.chosen.taken === undefined ? choice.chosen : null);
     Menus.open(choice.chosen, choice.found);
@@ -340,29 +333,29 @@ const KEYS = {
   a: () => { showTab("run"); find("ask-more").click(); }, d: () => setOrder(Shown.by === "record" ? "depth" : "record"), "/": () => { showTab("console"); find("line").focus(); }, "?": showHelp,
 };
 
-function onKey(event) {
-  if (event.key === "Enter" && (event.ctrlKey || event.metaKey) && event.target === find("program")) find("start").requestSubmit();
-  if (event.ctrlKey || event.metaKey || event.altKey || find("help").open) return;
-  if (event.key === "Escape" && !find("busy").hidden && State.busy && State.busy.canStop) {
+/** Stops the line that is at work, else closes what is open, else chooses nothing. */
+function onEscape(target) {
+  if (!find("busy").hidden && State.busy?.canStop) {
     Talk.stop();
     return;
   }
-  if (event.key === "Escape" && event.target === find("line")) find("line").blur();
-  if (event.key === "Escape") {
-    const wasOpen = !find("menu").hidden;
-    Menus.close();
-    if (wasOpen) find("canvas").focus();
-    else Canvas.choose(null);
-    return;
-  }
-  if (event.key === "Tab" && event.target.closest("#menu")) Menus.onTab(event);
-  if (event.target.closest("input, textarea, select")) return;
-  const does = KEYS[event.key], isInCanvas = event.target === find("canvas");
-  if (isInCanvas && event.shiftKey && Selecting.onKey(event.key)) {
-    event.preventDefault();
-    return;
-  }
-  if ((isInCanvas && Canvas.onKey(event.key)) || does) event.preventDefault();
+  const wasOpen = !find("menu").hidden;
+  if (target === find("line")) find("line").blur();
+  Menus.close();
+  if (wasOpen) find("canvas").focus();
+  else Canvas.choose(null);
+}
+
+function onKey(event) {
+  const { key, target } = event, isWithOther = event.ctrlKey || event.metaKey;
+  if (key === "Enter" && isWithOther && target === find("program")) find("start").requestSubmit();
+  if (isWithOther || event.altKey || find("help").open) return;
+  if (key === "Escape") onEscape(target);
+  if (key === "Tab" && target.closest("#menu")) Menus.onTab(event);
+  if (target.closest("input, textarea, select")) return;
+  const does = KEYS[key], isInCanvas = target === find("canvas");
+  const isMoved = isInCanvas && ((event.shiftKey && Selecting.onKey(key)) || Canvas.onKey(key));
+  if (isMoved || does) event.preventDefault();
   if (does) does();
 }
 
@@ -426,15 +419,15 @@ function listenToAll() {
 
 /** The session in the letters of an address; null, and in words why, where none is read. */
 async function readLink(letters) {
-  const none = { session: null, why: "The address holds no session that can be read." };
   const tooLong = ({ message }) => `The session in the address is not read: ${message}. Open takes one from a file.`;
   try {
     const session = SessionText.read(await Links.unpack(letters), () => undefined);
-    if (session === null || Replies.hasHole(session.history)) return none;
+    if (session === null || Replies.hasHole(session.history)) throw new Error("no whole session");
     Links.testLines(session);
     return { session };
   } catch (error) {
-    return error instanceof RangeError ? { session: null, why: tooLong(error) } : none;
+    const why = error instanceof RangeError ? tooLong(error) : "The address holds no session that can be read.";
+    return { session: null, why };
   }
 }
 
@@ -474,7 +467,7 @@ const doers = {
   choose: Canvas.choose, scrollTo: Canvas.scrollTo, goTo, visit: Canvas.visit, markWay: Canvas.markWay, ring: Canvas.ring,
   showSlice: Canvas.showSlice, showAsked: Canvas.showAsked, lanesBottom: () => Canvas.view.bottom, wholePicture: Files.wholePicture,
   markClause: Program.markClause, markLit: Program.markLit, showPlace: Program.showPlace, lightClause, size: Fitting.size, selectRange: Selecting.selectRange,
-  resultOf: Result.ofKept, tell: Answers.put, hideAnswer: Answers.hide, tellSlice: Resting.tell, openMenu: Menus.open, askFirst: Menus.askFirst, closeMenu: Menus.close,
+  resultOf: Result.ofKept, tell: Answers.put, hideAnswer: Answers.hide, tellSlice: Resting.tell, openMenu: Menus.open, askFirst: Menus.askFirst,
   showRefusal: Answers.showRefusal, notesOn: Answers.notesOn,
   whyInShort: Why.inShort, besideParts: Beside.noteParts, canKeepRun: Beside.isComparable, keepRun: Beside.keep,
   looked: Trail.saved, takeUpLooked: Trail.takeUp, isOnTour: Guide.isOn, endTour: Guide.end, pointAgain: Guide.pointAgain, savePicture: Files.savePicture,

@@ -35,7 +35,6 @@ function tell(name, slice) {
 
 /** Rings all that would go if a value or a goal were to stand alone, and asks once more. */
 async function askKeep(name) {
-  Deeds.closeMenu();
   const { run } = State, { graph } = run, told = await Talk.askSlice(name);
   if (told === null || run !== State.run) return;
   const { numbers, last } = told;

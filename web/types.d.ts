@@ -82,7 +82,6 @@ export interface Doers {
   tellSlice(name: string, slice: object): void;
   openMenu(chosen: object, anchor: Element): void;
   askFirst(name: string, words: string, line: string, gone: { size: number; has(number: number): boolean }, anchor: Element): void;
-  closeMenu(): void;
   showRefusal(given: Texts, refused: string, ...after: Part[]): boolean;
   notesOn(program: string): Part[];
   whyInShort(why: object): Part[];
