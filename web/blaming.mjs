@@ -97,15 +97,13 @@ function hintFor({ ask, gave, left: goal }) {
   return "Right: it gave what it should, for what it was given. Wrong: it gave something else.";
 }
 
-/** About how many questions are left where so many calls can be wrong: each answer leaves about half of them. */
-const questionsLeft = (of) => Math.ceil(Math.log2(of + 1));
-
 function questionParts(told) {
-  const { line } = asked, { goal, of } = told.ask, count = BlameLines.answersOn(line).length, taker = OnScreen.takerOf(goal);
+  const { line } = asked, { goal, of } = told.ask, taker = OnScreen.takerOf(goal);
+  const count = BlameLines.answersOn(line).length, about = count + BlameLines.questionsLeft(of);
   const answer = (isRight, id, key, words) => make("button", { id, "data-line": BlameLines.answered(line, goal, isRight), title: `${BlameLines.answered(line, goal, isRight)} (key ${key})` }, words);
   const by = taker === undefined ? "" : [", which step ", goTo(taker.number), ` took${taker.clause ? ` by clause ${taker.clause}` : ""}`];
   return [
-    titleRow(make("b", null, "Is this right?"), ` Question ${count + 1} of about ${count + questionsLeft(of)}: call `, link({ id: "blame-light", title: "lights the part of this call" }, goal), ...by, ". ",
+    titleRow(make("b", null, "Is this right?"), ` Question ${count + 1} of about ${about}: call `, link({ id: "blame-light", title: "lights the part of this call" }, goal), ...by, ". ",
       make("span", { class: "dim" }, `Of ${plural(of, "call")} it is not known yet.`)),
     sides(told), ...warnings(told),
     answerRow(answer(true, "blame-right", "y", "Right"), answer(false, "blame-wrong", "n", "Wrong"), backButton(), make("span", { class: "dim" }, hintFor(told))),

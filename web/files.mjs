@@ -1,4 +1,4 @@
-// Saves and opens: a session as a text, the picture as an SVG, a history, a program.
+// Saves and opens: a session as a text, the picture as an SVG, a history, a program; and what is printed.
 import * as Replies from "../front/protocol/replies.mjs";
 import * as SessionText from "../front/protocol/session_text.mjs";
 import * as Graph from "../front/run/graph.mjs";
@@ -160,12 +160,36 @@ function onDrop(event) {
   if (event.dataTransfer.files.length > 0) open(event.dataTransfer.files[0]);
 }
 
+/** Which steps the picture shows. */
+function stepsTold() {
+  const { count } = State.run.graph, most = OnScreen.MOST_SIZE, told = (number) => number.toLocaleString("en");
+  if (count > most) return `The first ${told(most)} of ${told(count)} steps`;
+  return count === 1 ? "1 step" : `All ${told(count)} steps`;
+}
+
+/** The rows of the values, as texts. */
+const values = () => [...find("store").querySelectorAll(".row")].map((row) => make("div", null, row.textContent));
+
+/** Fills what is printed alone: program, query, result, values, and the picture of the whole run. */
+function fillPaper() {
+  const { program, query } = State.given, isThere = State.session && !State.refusal, picture = make("div");
+  if (isThere) picture.innerHTML = wholePicture();
+  const parts = [
+    ["Program", make("pre", null, program)], ["Query", make("pre", null, query)],
+    ["Result", make("p", null, find("result").textContent)],
+    ["Values", make("div", { class: "paper-values" }, ...values())],
+    [isThere ? stepsTold() : "No run", picture],
+  ];
+  const all = parts.flatMap(([name, part]) => [make("h2", null, name), part]);
+  find("paper").replaceChildren(make("h1", null, "ghcdb"), ...all);
+}
+
 function listenToAll() {
   find("file").addEventListener("change", onChosen);
   document.addEventListener("dragover", (event) => { if (hasFiles(event)) event.preventDefault(); });
   document.addEventListener("drop", onDrop);
+  window.addEventListener("beforeprint", fillPaper);
+  window.addEventListener("afterprint", () => find("paper").replaceChildren());
 }
 
-export {
-  savePicture, saveSession, sessionText, pictureText, wholePicture, pngOf, openText, openBytes, listenToAll,
-};
+export { savePicture, saveSession, sessionText, pictureText, pngOf, openText, openBytes, listenToAll };

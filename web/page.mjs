@@ -20,7 +20,6 @@ import * as Looking from "./looking.mjs";
 import * as Menus from "./menus.mjs";
 import OnScreen from "./on_screen.mjs";
 import * as Overview from "./overview.mjs";
-import * as Paper from "./paper.mjs";
 import * as Panels from "./panels.mjs";
 import { pauses } from "./pausing.mjs";
 import * as Program from "./program.mjs";
@@ -411,7 +410,7 @@ function listenToAll() {
   }, { passive: true });
   find("canvas").addEventListener("mouseover", (event) => Canvas.addTitle(event.target));
   window.addEventListener("resize", () => { if (State.session) Canvas.draw(); });
-  for (const part of [Files, Overview, Program, Looking, Selecting, Trail, Paper, Reloading, Keeping]) part.listenToAll();
+  for (const part of [Files, Overview, Program, Looking, Selecting, Trail, Reloading, Keeping]) part.listenToAll();
   window.addEventListener("hashchange", () => Keeping.beginOther(() => { Guide.end(); return fromAddress(); }));
   setInterval(() => { if (State.busy) Panels.showBusy(); }, 100);
   Talk.listen(onChange);
@@ -465,7 +464,7 @@ const doers = {
   showTab, setOrder, showNow: Looking.showNow, showTime: () => PARTS_OF_TIME.forEach((part) => part()), timeRows: Panels.timeRows, showNote: Panels.showNote, showDetail: (chosen) => { Panels.showDetail(chosen); Trail.look(chosen); },
   draw: Canvas.draw, drawStrip: Overview.draw, goToPart: Overview.goTo,
   choose: Canvas.choose, scrollTo: Canvas.scrollTo, goTo, visit: Canvas.visit, markWay: Canvas.markWay, ring: Canvas.ring,
-  showSlice: Canvas.showSlice, showAsked: Canvas.showAsked, lanesBottom: () => Canvas.view.bottom, wholePicture: Files.wholePicture,
+  showSlice: Canvas.showSlice, showAsked: Canvas.showAsked, lanesBottom: () => Canvas.view.bottom,
   markClause: Program.markClause, markLit: Program.markLit, showPlace: Program.showPlace, lightClause, size: Fitting.size, selectRange: Selecting.selectRange,
   resultOf: Result.ofKept, tell: Answers.put, hideAnswer: Answers.hide, tellSlice: Resting.tell, openMenu: Menus.open, askFirst: Menus.askFirst,
   showRefusal: Answers.showRefusal, notesOn: Answers.notesOn,

@@ -69,7 +69,6 @@ export interface Doers {
   showSlice(numbers: Iterable<number>, others: number[]): void;
   showAsked(asked: object): void;
   lanesBottom(): number;
-  wholePicture(): string;
   markClause(clause: Lines | null): void;
   markLit(clauses: number[]): void;
   showPlace(name: string, line: number, letter: number, length: number, words?: string): void;
