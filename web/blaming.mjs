@@ -118,10 +118,10 @@ function backButton() {
 
 /** The clauses of a call's predicate, as a part of the program, where they stand one after the other; else null. */
 function clausesOf(call) {
-  const predicate = Printed.predicateOf(call), all = State.run.clauses, first = all.findIndex((clause) => clause.predicate === predicate);
-  const last = all.findLastIndex((clause) => clause.predicate === predicate);
-  const isOne = first >= 0 && all.slice(first, last + 1).every((clause) => clause.predicate === predicate);
-  return isOne ? { from: all[first].from, to: all[last].to } : null;
+  const all = State.run.clauses, name = Printed.predicateOf(call);
+  const own = all.filter(({ predicate }) => predicate === name);
+  const isOne = own.length > 0 && all.indexOf(own.at(-1)) - all.indexOf(own[0]) === own.length - 1;
+  return isOne ? { from: own[0].from, to: own.at(-1).to } : null;
 }
 
 /** What is said of the verdict: what is wrong, and how one sees it. */
@@ -175,15 +175,12 @@ const aloneParts = () => [titleRow("This is that call alone, with what it was gi
 
 /** Chooses what a new question or verdict is about, and marks its clause. */
 function point() {
-  const { told, isRolled } = asked, { ask, fault } = told, step = fault === null ? undefined : fault.step;
+  const { told: { ask, fault, given }, isRolled } = asked, step = fault?.step ?? null;
   if (isRolled) return;
-  if (step !== undefined && step !== null) {
-    Deeds.goTo({ step });
-  } else {
-    Deeds.choose(null);
-    if (ask !== null) askAbout(ask.goal);
-    else if (fault.goal !== null) Deeds.markClause(clausesOf(told.given));
-  }
+  if (step !== null) Deeds.goTo({ step });
+  else Deeds.choose(null);
+  if (ask !== null) askAbout(ask.goal);
+  else if (step === null && fault.goal !== null) Deeds.markClause(clausesOf(given));
 }
 
 /** Brings the call asked about into sight, marks the clause by which it went, and lights its part. */

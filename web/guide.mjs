@@ -1,6 +1,6 @@
 // Leads through the tour: shows its words, points at what is to be clicked, and goes on when its line was typed.
 import Deeds from "./deeds.mjs";
-import { find, make, buttons, withCode } from "./elements.mjs";
+import { find, withCode } from "./elements.mjs";
 import State from "./state.mjs";
 import * as Talk from "./talk.mjs";
 import * as Tour from "./tour.mjs";
@@ -33,24 +33,21 @@ function end() {
 /** Types the station's line for the user. */
 const doIt = () => Talk.send(station().line);
 
-/** What the guide shows: where the tour is, the words of its station, and what leads on. */
-function parts() {
-  const here = station(), place = here ? `${at + 1} of ${Tour.STATIONS.length}` : "the end";
-  const words = isAside ? ["You left the story, and that is fine. "] : withCode(here ? here.words : Tour.END);
-  const forth = here && !isAside ? make("button", { id: "tour-do", title: here.line }, "Do it for me") : null;
-  const again = isAside ? make("button", { id: "tour-again" }, "Back to the story") : null;
-  const back = at > 0 ? make("button", { id: "tour-back", title: "One station back" }, "Back") : null;
-  const chapter = make("b", null, here ? here.chapter : "Done"), dim = make("span", { class: "dim" }, place);
-  return [
-    make("div", { class: "tour-place" }, chapter, dim), make("p", null, ...words),
-    buttons(again, forth, back, make("button", { id: "tour-end" }, "End the tour")),
-  ];
+/** Shows where the tour is, the words of its station, and what leads on. */
+function showStation() {
+  const here = station(), words = here ? here.words : Tour.END;
+  find("tour-chapter").textContent = here ? here.chapter : "Done";
+  find("tour-at").textContent = here ? `${at + 1} of ${Tour.STATIONS.length}` : "the end";
+  find("tour-words").replaceChildren(...(isAside ? ["You left the story, and that is fine. "] : withCode(words)));
+  Object.assign(find("tour-do"), { hidden: !here || isAside, title: here ? here.line : "" });
+  find("tour-again").hidden = !isAside;
+  find("tour-back").hidden = at === 0;
 }
 
 function show() {
   find("guide").hidden = at === null;
   document.body.classList.toggle("on-tour", at !== null);
-  if (at !== null) find("guide").replaceChildren(...parts());
+  if (at !== null) showStation();
   pointAgain();
 }
 

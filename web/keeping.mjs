@@ -246,18 +246,9 @@ async function makeLink() {
 }
 
 async function copyLink() {
-  const field = find("link-text");
+  const field = find("link-text"), copies = async () => navigator.clipboard.writeText(field.value);
   field.select();
-  try {
-    await navigator.clipboard.writeText(field.value);
-    find("copy-link").textContent = "Copied";
-  } catch {
-    find("copy-link").textContent = "Copy it by hand";
-  }
+  find("copy-link").textContent = await copies().then(() => "Copied", () => "Copy it by hand");
 }
 
-function listenToAll() {
-  window.addEventListener("pagehide", keep);
-}
-
-export { keep, keepSoon, leaveDone, wayBack, offer, goOn, forget, beginOther, makeLink, copyLink, listenToAll };
+export { keep, keepSoon, leaveDone, wayBack, offer, goOn, forget, beginOther, makeLink, copyLink };

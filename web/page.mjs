@@ -233,17 +233,6 @@ const BUTTONS = {
   forget: () => Keeping.forget(), "make-link": () => Keeping.makeLink(), "copy-link": () => Keeping.copyLink(),
 };
 
-/** @type {[string, (told: string) => number | string][]} */
-const KINDS = [["step", Number], ["goal", String], ["taken", Number], ["variable", String]];
-
-/** What stands under a click, as what a menu can be opened of. */
-function choiceAt(element) {
-  const found = element.closest("[data-step], [data-goal], [data-taken], [data-variable]");
-  if (!found) return null;
-  const [kind, read] = KINDS.find(([name]) => name in found.dataset);
-  return { found, chosen: { [kind]: read(found.dataset[kind]) } };
-}
-
 /** Chooses a step, and brings it into sight. */
 function goToStep(step) {
   if (!State.run.graph.byNumber.has(step)) return;
@@ -316,13 +305,18 @@ function onClick(event) {
   else does(target.closest(hit));
 }
 
+/** What a menu can be opened of, each with how its name is read. */
+const KINDS = { step: Number, goal: String, taken: Number, variable: String };
+
 /** Chooses what was clicked, and opens what can be done with it. */
 function chooseAt(target) {
-  const choice = choiceAt(target);
-  if (choice) {
-    if (choice.chosen.variable === undefined) Canvas.choose(choice.chosen.taken === undefined ? choice.chosen : null);
-    Menus.open(choice.chosen, choice.found);
-  } else if (target.closest("#canvas")) Canvas.choose(null);
+  const found = target.closest("[data-step], [data-goal], [data-taken], [data-variable]");
+  if (!found && target.closest("#canvas")) Canvas.choose(null);
+  if (!found) return;
+  const kind = Object.keys(KINDS).find((name) => name in found.dataset);
+  const chosen = { [kind]: KINDS[kind](found.dataset[kind]) };
+  if (kind !== "variable") Canvas.choose(kind === "taken" ? null : chosen);
+  Menus.open(chosen, found);
 }
 
 const KEYS = {
@@ -410,7 +404,9 @@ function listenToAll() {
   }, { passive: true });
   find("canvas").addEventListener("mouseover", (event) => Canvas.addTitle(event.target));
   window.addEventListener("resize", () => { if (State.session) Canvas.draw(); });
-  for (const part of [Files, Overview, Program, Looking, Selecting, Trail, Reloading, Keeping]) part.listenToAll();
+  find("note-form").addEventListener("submit", Trail.onNote);
+  for (const part of [Files, Overview, Program, Looking, Selecting, Reloading]) part.listenToAll();
+  window.addEventListener("pagehide", Keeping.keep);
   window.addEventListener("hashchange", () => Keeping.beginOther(() => { Guide.end(); return fromAddress(); }));
   setInterval(() => { if (State.busy) Panels.showBusy(); }, 100);
   Talk.listen(onChange);
@@ -431,13 +427,7 @@ async function readLink(letters) {
 }
 
 /** The trail and the notes in the letters of an address; null where there are none, or none can be read. */
-async function readNotes(letters) {
-  try {
-    return letters === null ? null : JSON.parse(await Links.unpack(letters));
-  } catch {
-    return null;
-  }
-}
+const readNotes = (letters) => (letters === null ? null : Links.unpack(letters).then(JSON.parse).catch(() => null));
 
 /** Does what an address asks for, as `#example=primes&query=primes(30,Ps)&lines=leap&by=depth&theme=dark&step=90`; says whether it holds a session. */
 async function fromAddress() {

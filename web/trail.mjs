@@ -70,6 +70,7 @@ function setNote(step, words) {
   Deeds.keepSoon();
 }
 
+/** Keeps the note that was written for the step that is chosen. */
 function onNote(event) {
   const place = now(), field = find("note-text");
   event.preventDefault();
@@ -94,16 +95,6 @@ function takeUp(kept) {
 }
 
 /** After lines; another session has no trail yet. */
-function follow(what) {
-  if (what === "start") {
-    trail = [];
-    notes = new Map();
-  }
-  show();
-}
+const follow = (what) => (what === "start" ? takeUp(null) : show());
 
-function listenToAll() {
-  find("note-form").addEventListener("submit", onNote);
-}
-
-export { look, back, setNote, saved, takeUp, follow, listenToAll };
+export { look, back, setNote, onNote, saved, takeUp, follow };
