@@ -1,5 +1,6 @@
 // The place "Why?": what a call was given and gave, side by side, with two buttons that answer `blame`'s question; and its verdict, the wrong clause.
 import * as BlameLines from "../front/protocol/blame_lines.mjs";
+import { questionsLeft } from "../front/run/blame_words.mjs";
 import * as Terms from "../front/run/terms.mjs";
 import * as Printed from "../front/text/printed.mjs";
 import Deeds from "./deeds.mjs";
@@ -99,7 +100,7 @@ function hintFor({ ask, gave, left: goal }) {
 
 function questionParts(told) {
   const { line } = asked, { goal, of } = told.ask, taker = OnScreen.takerOf(goal);
-  const count = BlameLines.answersOn(line).length, about = count + BlameLines.questionsLeft(of);
+  const count = BlameLines.answersOn(line).length, about = count + questionsLeft(of);
   const answer = (isRight, id, key, words) => make("button", { id, "data-line": BlameLines.answered(line, goal, isRight), title: `${BlameLines.answered(line, goal, isRight)} (key ${key})` }, words);
   const by = taker === undefined ? "" : [", which step ", goTo(taker.number), ` took${taker.clause ? ` by clause ${taker.clause}` : ""}`];
   return [

@@ -88,9 +88,6 @@ function readAnswer(word) {
   return goal === undefined ? null : { goal, isRight: sign === "+" };
 }
 
-/** About how many questions are left while so many calls are in question: each leaves about half of them. */
-const questionsLeft = (of) => Math.ceil(Math.log2(of + 1));
-
 /** The answers that stand on a line. */
 const answersOn = (line) => line.trim().split(/ +/).map(readAnswer).filter((answer) => answer !== null);
 
@@ -107,4 +104,4 @@ function unanswered(line) {
 const isQuestion = (reply) => !Replies.isRefused(reply) && readAsk(reply.at(-1) ?? "") !== null;
 const isVerdict = (reply) => !Replies.isRefused(reply) && readFault(reply.at(-1) ?? "") !== null;
 
-export { read, isBlame, isQuestion, isVerdict, questionsLeft, readAnswer, answersOn, answered, unanswered };
+export { read, isBlame, isQuestion, isVerdict, readAnswer, answersOn, answered, unanswered };

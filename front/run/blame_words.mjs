@@ -65,12 +65,15 @@ function takenWords(session, goal) {
   return step?.clause ? [`step ${step.number} took ${goal} by ${clauseWords(session, step.clause)}`] : [];
 }
 
+/** About how many questions are left while so many calls are in question: each leaves about half of them. */
+const questionsLeft = (of) => Math.ceil(Math.log2(of + 1));
+
 /** What can be answered. */
 const hint = (predicate) => `y: right, n: wrong, u: one answer back, trust ${predicate}: always right`;
 
 /** A question in words. `answers` counts those that stand on the line. */
 function questionWords(session, told, answers) {
-  const { goal, of } = told.ask, count = answers + BlameLines.questionsLeft(of);
+  const { goal, of } = told.ask, count = answers + questionsLeft(of);
   const question = `question ${answers + 1} of about ${count}: ${callWords(session, told, goal)}. Is that right?`;
   return [question, ...warnings(told), ...takenWords(session, goal), ...(answers === 0 && told.given !== null ? [hint(Printed.predicateOf(told.given))] : [])];
 }
@@ -135,4 +138,4 @@ function afterPart(session, goal, reply) {
   return [callWords(session, told.gave === null && told.left === null ? { ...told, left: told.standing } : told, goal), ...warnings(told), ...made];
 }
 
-export { afterBlame, afterPart, callWords, otherClauseWords };
+export { afterBlame, afterPart, callWords, otherClauseWords, questionsLeft };
