@@ -90,8 +90,7 @@ function saveSession() {
 /** A program that was opened, on the query that its comment names, else on the one that stands here. */
 function readProgram(text) {
   if (Program.isTooLong(text)) throw new RangeError(Program.tellTooLong(text));
-  const program = text.replace(/\r\n?/g, "\n");
-  return { program, query: queryOf(program) || Deeds.typed().query, history: "", ...NO_LINES };
+  return { program: text, query: queryOf(text) || Deeds.typed().query, history: "", ...NO_LINES };
 }
 
 /** What a text begins: a saved session, a history of the program and query that stand here, else a program. */

@@ -225,7 +225,7 @@ const BUTTONS = {
   smaller: () => Fitting.size(1 / 1.4), larger: () => Fitting.size(1.4), fit: Fitting.toggle,
   reload: () => Reloading.reload(), "keep-run": () => Beside.keep(), "drop-run": () => Beside.drop(), "swap-runs": () => Beside.swap(),
   play: () => Looking.play(), "show-all-steps": () => Looking.showNow(),
-  "lanes-alone": () => Panels.showLanesAlone(), "lanes-all": () => { OnScreen.only = null; Canvas.draw(); Panels.showNote(); },
+  "lanes-alone": () => Panels.showLanes(true), "lanes-all": () => Panels.showLanes(false),
   wrap: () => Program.setWrap(!Program.isWrapped()), again: () => Talk.again(), "close-answer": () => Answers.hide(),
   "why-close": Why.close, "choices-stop": Choosing.stop, "choices-close": Choosing.close,
   "blame-light": () => Blaming.lightAgain(), "blame-close": () => Blaming.close(), "blame-alone": () => Blaming.tryAlone(), "blame-return": () => Blaming.goBack(),
@@ -486,4 +486,4 @@ startPage().catch((error) => {
   find("note").textContent = `ghcdb could not start in this browser: ${error.message}`;
 });
 
-export { begin, typed, isChanged, setTyped, showTab, setOrder };
+export { begin, isChanged };

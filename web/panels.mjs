@@ -174,9 +174,9 @@ function sentenceOf({ names }, { who, holds, waitsFor, variable }) {
   return [linkTo(who), " holds ", linkTo(holds), " and waits for ", linkTo(waitsFor)];
 }
 
-/** Shows the lanes of the goals alone that wait for each other in a circle. */
-function showLanesAlone() {
-  OnScreen.only = new Set(Outcome.circleIn(State.run).map(({ from }) => from));
+/** Shows the lanes of the goals alone that wait for each other in a circle, or all of them. */
+function showLanes(isAlone) {
+  OnScreen.only = isAlone ? new Set(Outcome.circleIn(State.run).map(({ from }) => from)) : null;
   Deeds.draw();
   showNote();
 }
@@ -280,4 +280,4 @@ function showBusy() {
   find("stop").hidden = !busy.canStop;
 }
 
-export { showTold, showGoals, showShelf, showCount, timeRows, showBusy, showNote, showLanesAlone, followText, showDetail, showLookAt, madeWith };
+export { showTold, showGoals, showShelf, showCount, timeRows, showBusy, showNote, showLanes, followText, showDetail, showLookAt, madeWith };

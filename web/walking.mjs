@@ -4,16 +4,14 @@ import Deeds from "./deeds.mjs";
 import { make, link } from "./elements.mjs";
 import * as Names from "./names.mjs";
 
-/** A step as a link that keeps the light. */
-const linkTo = (number) => link({ "data-visit": number, title: `goes to step ${number}` }, `step ${number}`);
-
 /** A row that goes along `count` steps; `numberAt` gives the number of each, and `tell` what stands behind it. */
 function along(count, numberAt, tell = (number) => []) {
   const place = make("span", { class: "dim" }), words = make("span", { role: "status" });
   let at = 0;
   const show = () => {
     place.textContent = count > 1 ? ` ${(at + 1).toLocaleString("en")} of ${count.toLocaleString("en")}: ` : "";
-    words.replaceChildren(linkTo(numberAt(at)), ...tell(numberAt(at)));
+    const number = numberAt(at), how = { "data-visit": number, title: `goes to step ${number}` };
+    words.replaceChildren(link(how, `step ${number}`), ...tell(number));
     Names.dress(words);
   };
   const go = (by) => () => {
