@@ -39,7 +39,8 @@ function ringing(button, steps) {
 }
 
 /** The button that closes a place. */
-const closeButton = (id, label, title = "Closes this") => make("button", { class: "small", id, title, "aria-label": label }, "×");
+const closeButton = (id, label) =>
+  make("button", { class: "small", id, title: "Closes this", "aria-label": label }, "×");
 
 /** A text with `such` parts as code. */
 function withCode(text) {

@@ -11,6 +11,7 @@ import * as Talk from "./talk.mjs";
 
 const NAME = "ghcdb.session", MOST = 5, MOST_OF_ONE = 3; // sessions of one's own programs that are kept; of one text
 const PAUSE = 400; // milliseconds after a letter was typed
+const NO_LINK = "This browser cannot compress a text for a link. Save writes the session as a file.";
 let name = null; // of this session in the storage, where no other one writes; null before anything of it is kept
 let source = null; // the name of the session that was kept, and that this one went on from
 let origin = null; // the name of the first session of this text, which was changed since, and started again
@@ -217,26 +218,24 @@ async function goOn(index) {
   keep();
 }
 
-/** The address of the page with all of the session in it, or in words by how much it is too long. */
+/** The address of the page with all of the session in it, or in words why there is none. */
 async function address() {
   const text = linesText(), told = (number) => number.toLocaleString("en"), { MOST, MOST_READ, MOST_LINES } = Links;
+  const none = (by) => ({ why: `This session is too long for a link (${by}). Save writes it as a file.` });
+  if (!Links.isThere()) return { why: NO_LINK };
   const isLong = text.length > MOST_READ || State.entries.length > MOST_LINES;
-  if (isLong) return { tooLong: `${told(MOST_READ)} bytes and ${told(MOST_LINES)} lines at most` };
+  if (isLong) return none(`${told(MOST_READ)} bytes and ${told(MOST_LINES)} lines at most`);
   const looked = Deeds.looked(), notes = looked === null ? "" : `&n=${await Links.pack(JSON.stringify(looked))}`;
   const letters = `${await Links.pack(text)}${notes}`;
-  if (letters.length > MOST) return { tooLong: `${told(letters.length)} letters, ${told(MOST)} at most` };
+  if (letters.length > MOST) return none(`${told(letters.length)} letters, ${told(MOST)} at most`);
   return { place: `${location.href.split("#")[0]}#s=${letters}` };
 }
 
 /** Puts the session into the address, and shows it to be copied. */
 async function makeLink() {
-  if (!Links.isThere()) {
-    Deeds.tell(true, "This browser cannot compress a text for a link. Save writes the session as a file.");
-    return;
-  }
-  const { place, tooLong } = await address();
+  const { place, why } = await address();
   if (place === undefined) {
-    Deeds.tell(true, `This session is too long for a link (${tooLong}). Save writes it as a file.`);
+    Deeds.tell(true, why);
     return;
   }
   history.replaceState(null, "", place);

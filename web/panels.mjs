@@ -127,14 +127,13 @@ function showDetail(chosen) {
     area.replaceChildren(make("span", { class: "dim" }, "Click a step in the picture."));
     return;
   }
-  const causes = run.graph.causes.get(step.number);
-  const effects = run.graph.effects.get(step.number).map((edge) => edge.to);
-  const isTold = run.texts.has(step.goal);
+  const { causes, effects } = run.graph, isTold = run.texts.has(step.goal);
   withGoalText(step, () => { if (!isTold && Shown.chosen && Shown.chosen.step === step.number) showDetail(Shown.chosen); });
   const [does, goal = "", ...others] = Picture.tellStep(run, step).split("\n");
   const rest = others.map((line) => `\n${line}`).join("");
-  const because = causes.flatMap((edge) => ["\nbecause step ", goTo(edge.from), ` ${StepWords.causeOf(edge)}`]);
-  const neededBy = joined(effects.slice(0, 20).map((number) => goTo(number)), ", ");
+  const becauseOf = (edge) => ["\nbecause step ", goTo(edge.from), ` ${StepWords.causeOf(edge)}`];
+  const because = causes.get(step.number).flatMap(becauseOf);
+  const neededBy = joined(effects.get(step.number).slice(0, 20).map(({ to }) => goTo(to)), ", ");
   if (neededBy.length > 0) because.push("\nneeded by ", ...neededBy);
   area.replaceChildren(`${does}\n${goal}`, tellReached(run, step), rest, ...because);
   Names.dress(area);
