@@ -1,23 +1,30 @@
-// Shows what was answered where one looks, above the picture: refusals and why, causes, who bound a variable; and lights the steps that it names.
+// Shows what was answered where one looks, above the picture: refusals and why, notes on a program, causes, who bound a
+// variable; and lights the steps that it names.
 import * as Replies from "../front/protocol/replies.mjs";
 import * as Terms from "../front/run/terms.mjs";
 import * as Causes from "../front/text/causes.mjs";
 import Deeds from "./deeds.mjs";
-import { find, make, closeButton, linkedLine } from "./elements.mjs";
-import * as Holes from "./holes.mjs";
+import { find, make, joined, linkedLine } from "./elements.mjs";
 import * as Names from "./names.mjs";
 import State from "./state.mjs";
 
 const MOST_SHOWN = 8; // lines
+const MOST_NOTED = 200000; // letters: of a longer program no notes are made, and no cause of a refusal is looked for
+const TOO_LONG = "The program is so long that the page does not look for the cause.";
+const HOLE = "memory was refused for a line of it (F1 no memory)";
+const AGAIN = "Undo or roll some steps, then type save again";
 
 const wordsOf = (line) => line.trim().replace(/ +/g, " ");
-const isBroken = (entry) => entry.length > 1 && Holes.isBroken(entry);
 
+/** Is the entry a history with a hole? It changes nothing where it is played again, and it is none. */
+const isBroken = (entry) => entry.line.trim().startsWith("save") && Replies.hasHole(entry.reply.join("\n"));
+
+/** Says something above the picture: `isBad` where something was refused. */
 function put(isBad, ...parts) {
-  const area = find("answer"), close = closeButton("close-answer", "Close the answer", "Closes this line");
-  area.replaceChildren(Names.dress(make("span", { class: "answer-words" }, ...parts)), close);
-  area.classList.toggle("refused", isBad);
-  area.hidden = false;
+  find("answer-words").replaceChildren(...parts);
+  Names.dress(find("answer-words"));
+  find("answer").classList.toggle("refused", isBad);
+  find("answer").hidden = false;
 }
 
 /** A cause of the module Causes, as elements: title, the text's line with a caret, hints. */
@@ -40,8 +47,27 @@ function placeIn(refusal) {
   return line === undefined ? undefined : { line: Number(line), column: Number(column), length: 1 };
 }
 
-/** Why a program was refused that is so long that no cause is looked for. */
-const partsOfLong = (refusal) => [Replies.limitIn(refusal) || "The program is so long that the page does not look for the cause."];
+/** Says why a program or a query was refused, and selects the place in the text; whether that is known. */
+function showRefusal({ program, query }, refused, ...after) {
+  const [, name, refusal] = /^(program|query): (F\d+ .*)$/.exec(refused) || [];
+  if (name === undefined) return false;
+  const given = { text: name === "program" ? program : query, which: name, isQuery: name === "query", program };
+  const isLong = program.length + query.length > MOST_NOTED;
+  const cause = isLong ? placeIn(refusal) : Causes.causeOf(refusal, given);
+  const parts = isLong ? [Replies.limitIn(refusal) || TOO_LONG] : partsOfRefusal(refusal, given, cause);
+  if (cause) Deeds.showPlace(name, cause.line, Causes.letterOf(cause, given.text), cause.length, cause.title);
+  if (parts.length + after.length > 0) put(true, ...parts, ...after);
+  return true;
+}
+
+/** What is said of a program that runs, but may not be meant so. */
+function notesOn(program) {
+  const [first, ...others] = program.length > MOST_NOTED ? [] : Causes.notesOn(program, "program");
+  if (first === undefined) return [];
+  const titles = others.map((note) => note.title.replace("note: ", "")).join("; ");
+  const told = causeParts(first, program), more = `${others.length} more: ${Terms.cut(titles, 200)}`;
+  return others.length > 0 ? [...told, make("div", { class: "dim" }, more)] : told;
+}
 
 const ASKED = /^ *(?:ask +|in +\S+ +)(.*)$/;
 
@@ -67,7 +93,7 @@ function light(entry) {
 
 function tellReply(entry) {
   const lines = entry.tail(MOST_SHOWN), more = entry.length - lines.length;
-  put(false, make("code", null, wordsOf(entry.line)), " ", ...lines.flatMap((line, index) => [index === 0 ? "" : ", ", ...linkedLine(line)]), more > 0 ? ` and ${more} more` : "");
+  put(false, make("code", null, wordsOf(entry.line)), " ", ...joined(lines.map(linkedLine), ", "), more > 0 ? ` and ${more} more` : "");
 }
 
 /** Of another line: the limit that it met. */
@@ -82,8 +108,8 @@ function tellNote({ line, note }) {
 }
 
 /** A history that is not whole. */
-const tellBroken = ({ line }) => put(true, make("code", null, wordsOf(line)),
-  ` told no whole history: ${Holes.HOLE}. ${Holes.AGAIN}.`);
+const tellBroken = ({ line }) =>
+  put(true, make("code", null, wordsOf(line)), ` told no whole history: ${HOLE}. ${AGAIN}.`);
 
 /** After lines: what was not taken, else the last refusal among them, else the answer to a question. */
 function show(what, fresh) {
@@ -93,7 +119,7 @@ function show(what, fresh) {
   const asked = refused ? partsOfAsked(refused) : [];
   if (last && last.note) tellNote(last);
   else if (refused) put(true, make("code", null, wordsOf(refused.line)), " was refused: ", ...linkedLine(refused.reply[0]), make("div", null, ...(asked.length > 0 ? asked : partsOfLimit(refused))));
-  else if (last && isBroken(last)) tellBroken(last);
+  else if (last && last.length > 1 && isBroken(last)) tellBroken(last);
   else if (last && last.slice) Deeds.tellSlice(wordsOf(last.line).split(" ")[1], last.slice);
   else if (last && /^(why|who) /.test(wordsOf(last.line)) && last.reply[0] !== "none") {
     tellReply(last);
@@ -101,4 +127,4 @@ function show(what, fresh) {
   }
 }
 
-export { show, hide, put, causeParts, partsOfRefusal, partsOfLong, placeIn };
+export { HOLE, AGAIN, isBroken, show, hide, put, showRefusal, notesOn };

@@ -1,9 +1,10 @@
 // The place "Why?": what a call was given and gave, side by side, with two buttons that answer `blame`'s question; and its verdict, the wrong clause.
 import * as BlameLines from "../front/protocol/blame_lines.mjs";
+import { questionsLeft } from "../front/run/blame_words.mjs";
 import * as Terms from "../front/run/terms.mjs";
 import * as Printed from "../front/text/printed.mjs";
 import Deeds from "./deeds.mjs";
-import { find, make, closeButton, ringing, goTo, goToGoal } from "./elements.mjs";
+import { find, make, closeButton, joined, ringing, link, goTo, goToGoal } from "./elements.mjs";
 import * as Names from "./names.mjs";
 import OnScreen from "./on_screen.mjs";
 import * as Parts from "./parts.mjs";
@@ -82,7 +83,7 @@ const standing = ({ status, waitsFor, refusal }) => (status === "failed" ? `it h
 /** What makes a question harder than its two sides tell: an order, goals that were asked for, a goal that is left. */
 function warnings({ asked: asks, inTurns, left: goal, ask, fault }) {
   const own = ask !== null ? ask.goal : fault.goal;
-  const named = asks.slice(0, MOST_ASKS).flatMap((step, at) => [at > 0 ? ", " : "", goTo(step)]);
+  const named = joined(asks.slice(0, MOST_ASKS).map((step) => goTo(step)), ", ");
   return [
     goal !== null && goal.goal !== own ? make("p", null, "Goal ", goToGoal(goal.goal), ` came of it, and ${standing(goal)}.`) : null,
     inTurns ? make("p", null, "Some of what it was given came of what it gave before: judge by the order, too.") : null,
@@ -97,15 +98,13 @@ function hintFor({ ask, gave, left: goal }) {
   return "Right: it gave what it should, for what it was given. Wrong: it gave something else.";
 }
 
-/** About how many questions are left where so many calls can be wrong: each answer leaves about half of them. */
-const questionsLeft = (of) => Math.ceil(Math.log2(of + 1));
-
 function questionParts(told) {
-  const { line } = asked, { goal, of } = told.ask, count = BlameLines.answersOn(line).length, taker = OnScreen.takerOf(goal);
+  const { line } = asked, { goal, of } = told.ask, taker = OnScreen.takerOf(goal);
+  const count = BlameLines.answersOn(line).length, about = count + questionsLeft(of);
   const answer = (isRight, id, key, words) => make("button", { id, "data-line": BlameLines.answered(line, goal, isRight), title: `${BlameLines.answered(line, goal, isRight)} (key ${key})` }, words);
   const by = taker === undefined ? "" : [", which step ", goTo(taker.number), ` took${taker.clause ? ` by clause ${taker.clause}` : ""}`];
   return [
-    titleRow(make("b", null, "Is this right?"), ` Question ${count + 1} of about ${count + questionsLeft(of)}: call `, make("button", { class: "link", id: "blame-light", title: "lights the part of this call" }, goal), ...by, ". ",
+    titleRow(make("b", null, "Is this right?"), ` Question ${count + 1} of about ${about}: call `, link({ id: "blame-light", title: "lights the part of this call" }, goal), ...by, ". ",
       make("span", { class: "dim" }, `Of ${plural(of, "call")} it is not known yet.`)),
     sides(told), ...warnings(told),
     answerRow(answer(true, "blame-right", "y", "Right"), answer(false, "blame-wrong", "n", "Wrong"), backButton(), make("span", { class: "dim" }, hintFor(told))),
@@ -120,10 +119,10 @@ function backButton() {
 
 /** The clauses of a call's predicate, as a part of the program, where they stand one after the other; else null. */
 function clausesOf(call) {
-  const predicate = Printed.predicateOf(call), all = State.run.clauses, first = all.findIndex((clause) => clause.predicate === predicate);
-  const last = all.findLastIndex((clause) => clause.predicate === predicate);
-  const isOne = first >= 0 && all.slice(first, last + 1).every((clause) => clause.predicate === predicate);
-  return isOne ? { from: all[first].from, to: all[last].to } : null;
+  const all = State.run.clauses, name = Printed.predicateOf(call);
+  const own = all.filter(({ predicate }) => predicate === name);
+  const isOne = own.length > 0 && all.indexOf(own.at(-1)) - all.indexOf(own[0]) === own.length - 1;
+  return isOne ? { from: own[0].from, to: own.at(-1).to } : null;
 }
 
 /** What is said of the verdict: what is wrong, and how one sees it. */
@@ -177,15 +176,12 @@ const aloneParts = () => [titleRow("This is that call alone, with what it was gi
 
 /** Chooses what a new question or verdict is about, and marks its clause. */
 function point() {
-  const { told, isRolled } = asked, { ask, fault } = told, step = fault === null ? undefined : fault.step;
+  const { told: { ask, fault, given }, isRolled } = asked, step = fault?.step ?? null;
   if (isRolled) return;
-  if (step !== undefined && step !== null) {
-    Deeds.goTo({ step });
-  } else {
-    Deeds.choose(null);
-    if (ask !== null) askAbout(ask.goal);
-    else if (fault.goal !== null) Deeds.markClause(clausesOf(told.given));
-  }
+  if (step !== null) Deeds.goTo({ step });
+  else Deeds.choose(null);
+  if (ask !== null) askAbout(ask.goal);
+  else if (step === null && fault.goal !== null) Deeds.markClause(clausesOf(given));
 }
 
 /** Brings the call asked about into sight, marks the clause by which it went, and lights its part. */
@@ -250,10 +246,7 @@ function goBack() {
   Deeds.begin(left.given, left.lines);
 }
 
-/** What a key does: the button of this name, where it is there. */
-function press(name) {
-  const button = /** @type {HTMLButtonElement | null} */ (find(`blame-${name}`));
-  if (button !== null && !button.disabled) button.click();
-}
+/** What a key does: a click on the button of this name, where it is there. */
+const press = (name) => find(`blame-${name}`)?.click();
 
 export { show, lightPart, lightAgain, close, tryAlone, goBack, press };

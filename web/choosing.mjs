@@ -5,7 +5,7 @@ import { MOST_STEPS, gathered } from "../front/run/other_choices.mjs";
 import { plural, some } from "../front/run/reasons.mjs";
 import { freeSteps, tryingOf } from "../front/session/trying.mjs";
 import Deeds from "./deeds.mjs";
-import { make, closeButton } from "./elements.mjs";
+import { make, closeButton, joined, link } from "./elements.mjs";
 import * as Names from "./names.mjs";
 import * as Service from "./service.mjs";
 import State from "./state.mjs";
@@ -93,16 +93,16 @@ function howFar({ count, outcomes, isAtWork }) {
 function choiceLink({ step, goal, other }) {
   const outcome = `${step} ${goal} ${other}`, words = `step ${step} by clause ${other}`;
   const title = `keeps the run beside; roll ${step}, step ${goal} ${other}, leap ${MOST_STEPS}`;
-  const how = { class: "link", type: "button", "data-outcome": outcome, title };
-  return outcome === table.chosen ? make("b", { "aria-current": "true" }, words) : make("button", how, words);
+  if (outcome === table.chosen) return make("b", { "aria-current": "true" }, words);
+  return link({ "data-outcome": outcome, title }, words);
 }
 
 /** A row: an outcome, and by which choices it comes. */
 function rowOf({ words, choices, asItIs }) {
   const links = some(choices).map((one) => (one === ".." ? one : choiceLink(one)));
   const own = asItIs === undefined ? [] : [table.chosen === "" ? asItIs : "as it was"];
-  const told = [...own, ...links].flatMap((part, at) => [at > 0 ? ", " : "", part]);
-  return make("tr", null, make("td", null, make("code", null, words)), make("td", null, ...told));
+  const choicesTold = joined([...own, ...links], ", ");
+  return make("tr", null, make("td", null, make("code", null, words)), make("td", null, ...choicesTold));
 }
 
 function tableParts() {

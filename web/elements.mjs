@@ -28,6 +28,9 @@ const lineButton = (words, line, attributes) => make("button", { "data-line": li
 /** A row of buttons, and of words beside them. */
 const buttons = (...all) => make("div", { class: "buttons" }, ...all);
 
+/** Parts, or lists of parts, with something between each two of them. */
+const joined = (parts, between) => parts.flatMap((part, at) => (at === 0 ? part : [between].concat(part)));
+
 /** A button that rings some steps while one points at it. */
 function ringing(button, steps) {
   button.addEventListener("mouseenter", () => Deeds.ring(steps));
@@ -36,18 +39,22 @@ function ringing(button, steps) {
 }
 
 /** The button that closes a place. */
-const closeButton = (id, label, title = "Closes this") => make("button", { class: "small", id, title, "aria-label": label }, "×");
+const closeButton = (id, label) =>
+  make("button", { class: "small", id, title: "Closes this", "aria-label": label }, "×");
 
 /** A text with `such` parts as code. */
 function withCode(text) {
   return text.split("`").map((part, index) => (index % 2 === 1 ? make("code", null, part) : part));
 }
 
+/** A button that looks like a link. */
+const link = (attributes, ...words) => make("button", { class: "link", type: "button", ...attributes }, ...words);
+
 /** A number of a step as a link: a click chooses that step, and brings it into sight. */
-const goTo = (number, words = String(number)) => make("button", { class: "link", type: "button", "data-goto": number, title: `goes to step ${number}` }, words);
+const goTo = (number, words = String(number)) => link({ "data-goto": number, title: `goes to step ${number}` }, words);
 
 /** The name of a goal as a link: a click chooses that goal, and opens what can be done with it. */
-const goToGoal = (name) => make("button", { class: "link", type: "button", "data-go-goal": name, title: `goes to goal ${name}` }, name);
+const goToGoal = (name) => link({ "data-go-goal": name, title: `goes to goal ${name}` }, name);
 
 /** A line of a reply, with the number of its step, or the name of its goal, as a link. */
 function linkedLine(line) {
@@ -55,9 +62,6 @@ function linkedLine(line) {
   if (named === null) return [line];
   return [named.before, "step" in named ? goTo(named.step) : goToGoal(named.goal), named.after].filter((part) => part !== "");
 }
-
-/** The lines of a reply, as one text with links. */
-const linkedLines = (lines) => lines.flatMap((line, index) => (index === 0 ? linkedLine(line) : ["\n", ...linkedLine(line)]));
 
 /** What an element is known by, when it was made anew. */
 const nameOf = (element) => ["data-line", "data-goal", "data-variable", "data-root", "data-path", "data-goto", "id"].map((name) => element.getAttribute(name) || "").join(" ") + element.textContent;
@@ -89,4 +93,7 @@ function fillRows(name, rows) {
   wanted.forEach((row, at) => { if (area.childNodes[at] !== row) area.insertBefore(row, area.childNodes[at] || null); });
 }
 
-export { keepFocus, find, make, lineButton, buttons, closeButton, ringing, withCode, goTo, goToGoal, linkedLine, linkedLines, fillRows };
+export {
+  keepFocus, find, make, lineButton, buttons, closeButton, joined, ringing, withCode, link, goTo, goToGoal, linkedLine,
+  fillRows,
+};

@@ -1,4 +1,6 @@
-// What the comment of an example says: its query, what it is, and what to look at; and a larger query for a picture. Pure.
+// What the comment of an example says: its query, and what to look at; and a larger query for a picture. Pure.
+import { queryOf } from "../front/text/query_comment.mjs";
+
 const LARGER = {
   append: "append([1,2,3,4],[5,6],R)", bill: "bill(12,30,T)", buffer: "produce(1,6,[A,B|E]), consume([A,B|E],E,Out)",
   counter: "instream(S), counter(S,0)", deadlock: "after(A,B), after(B,C), after(C,A), A = done",
@@ -7,31 +9,14 @@ const LARGER = {
   tree: "empty([insert(5),insert(2),insert(8),has(3,A),has(8,B),has(2,C)])",
 };
 
-/** The lines of the comment that stands at the beginning of a program, without their marks. */
-function commentOf(program) {
-  const lines = [];
-  for (const line of program.split("\n")) {
-    if (!line.startsWith("%")) break;
-    lines.push(line.slice(1));
-  }
-  return lines;
+/** What to look at: the words after that mark, and those in the lines that go on from it. */
+function lookAtIn(program) {
+  const [, words = ""] = /^% *Look at:(.*(?:\n% {4,}.*)*)/m.exec(program) ?? [];
+  return words.split("\n%").map((line) => line.trim()).join(" ");
 }
 
-/** The words after a mark such as `Look at:` and in the lines that go on from it. */
-function wordsBehind(lines, mark) {
-  const start = lines.findIndex((line) => line.trim().startsWith(mark));
-  if (start < 0) return "";
-  const words = [lines[start].trim().slice(mark.length).trim()];
-  for (let at = start + 1; at < lines.length && /^ {4,}/.test(lines[at]); at++) words.push(lines[at].trim());
-  return words.join(" ");
-}
-
-/** The query, the words above it, and what to look at. */
-function read(example) {
-  const lines = commentOf(example.program);
-  const query = lines.find((line) => line.trim().startsWith("Query:")) || "";
-  const above = lines.slice(0, Math.max(0, lines.indexOf(query))).map((line) => line.trim()).join(" ").trim();
-  return { query: query.replace("Query:", "").trim(), about: above, lookAt: wordsBehind(lines, "Look at:"), larger: LARGER[example.name] || "" };
-}
+/** The query, what to look at, and a larger query. */
+const read = ({ name, program }) =>
+  ({ query: queryOf(program) ?? "", lookAt: lookAtIn(program), larger: LARGER[name] ?? "" });
 
 export { read };

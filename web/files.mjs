@@ -1,13 +1,13 @@
-// Saves and opens: a session as a text, the picture as an SVG, a history, a program.
+// Saves and opens: a session as a text, the picture as an SVG, a history, a program; and what is printed.
 import * as Replies from "../front/protocol/replies.mjs";
 import * as SessionText from "../front/protocol/session_text.mjs";
 import * as Graph from "../front/run/graph.mjs";
 import * as Lanes from "../front/run/lanes.mjs";
 import * as Terms from "../front/run/terms.mjs";
+import { queryOf } from "../front/text/query_comment.mjs";
+import { HOLE, AGAIN, isBroken } from "./answers.mjs";
 import Deeds from "./deeds.mjs";
 import { find, make } from "./elements.mjs";
-import * as ExampleNotes from "./example_notes.mjs";
-import { HOLE, AGAIN, isBroken } from "./holes.mjs";
 import * as Names from "./names.mjs";
 import OnScreen from "./on_screen.mjs";
 import * as Picture from "./picture.mjs";
@@ -18,6 +18,7 @@ import * as Talk from "./talk.mjs";
 
 const MOST_PIXELS = 60e6; // of a PNG
 const ROOM_ON_PAPER = 1100; // points
+const NO_LINES = { lines: [], replies: [] };
 
 function saveBlob(name, blob) {
   const link = make("a", { href: URL.createObjectURL(blob), download: name });
@@ -80,59 +81,40 @@ const sessionText = () => SessionText.write({ ...State.given, entries: savedEntr
 
 /** Saves the session; a history with a hole is told, and not written. */
 function saveSession() {
-  if (Replies.hasHole(State.given.history)) {
-    Deeds.tell(true, `Nothing was saved: the session began with a history that is not whole: ${HOLE}.`);
-    return;
-  }
-  save("session.txt", "text/plain", sessionText());
-  if (!State.entries.some(isBroken)) return;
-  Deeds.tell(true, `The session is saved without its history: ${HOLE}. ${AGAIN}.`);
+  const isWhole = !Replies.hasHole(State.given.history), tellBad = (why) => Deeds.tell(true, why);
+  if (isWhole) save("session.txt", "text/plain", sessionText());
+  if (!isWhole) tellBad(`Nothing was saved: the session began with a history that is not whole: ${HOLE}.`);
+  else if (State.entries.some(isBroken)) tellBad(`The session is saved without its history: ${HOLE}. ${AGAIN}.`);
 }
 
-/** Begins a session of a program that was opened: on the query that its comment names, else on the one that stands there. */
-function openProgram(text) {
-  if (Program.isTooLong(text)) {
-    Deeds.tell(true, `This text was not opened: ${Program.tellTooLong(text)}`);
-    return;
-  }
-  const program = text.replace(/\r\n?/g, "\n"), query = ExampleNotes.read({ program }).query || Deeds.typed().query;
-  Deeds.beginOther(() => Deeds.begin({ program, query }));
+/** A program that was opened, on the query that its comment names, else on the one that stands here. */
+function readProgram(text) {
+  if (Program.isTooLong(text)) throw new RangeError(Program.tellTooLong(text));
+  return { program: text, query: queryOf(text) || Deeds.typed().query, history: "", ...NO_LINES };
 }
 
-/** Whether a history is whole; where it is not, that is told. */
-function isWhole(history) {
-  const isBad = Replies.hasHole(history);
-  if (isBad) Deeds.tell(true, `This text was not opened: its history is not whole: ${HOLE}.`);
-  return !isBad;
+/** What a text begins: a saved session, a history of the program and query that stand here, else a program. */
+function read(text) {
+  if (text.startsWith("ghc-history ")) return { ...Deeds.typed(), history: text, ...NO_LINES };
+  const exampleOf = (name) => EXAMPLES.find((example) => `${example.name}.ghc` === name)?.program;
+  return SessionText.read(text, exampleOf) ?? readProgram(text);
 }
 
-/** Opens a text: a saved session is played again; a history starts a session of the program and query that are there; else it is a program. */
+/** Opens a text, and plays its lines; where that cannot be done, tells why. */
 function openText(text) {
-  if (text.startsWith("ghc-history ")) {
-    if (isWhole(text)) Deeds.beginOther(() => Deeds.begin({ ...Deeds.typed(), history: text }));
-    return;
-  }
-  let session = null;
   try {
-    session = SessionText.read(text, (name) => (EXAMPLES.find((example) => `${example.name}.ghc` === name) || {}).program);
+    const { lines, replies, ...texts } = read(text);
+    if (Replies.hasHole(texts.history)) throw new Error(`its history is not whole: ${HOLE}`);
+    Deeds.beginOther(() => { Deeds.begin(texts, lines).then(() => compare(lines, replies)); });
   } catch (error) {
     Deeds.tell(true, `This text was not opened: ${error.message}.`);
-    return;
   }
-  if (!session) {
-    openProgram(text);
-    return;
-  }
-  if (!isWhole(session.history)) return;
-  Deeds.beginOther(() => {
-    Deeds.begin(session, session.lines).then(() => compare(session));
-  });
 }
 
 /** Tells the first reply that is another than the one in the text that was opened. */
-function compare(session) {
+function compare(lines, replies) {
   if (State.refusal) return;
-  const other = SessionText.firstOther(session.lines, session.replies, State.entries.map((entry) => entry.reply));
+  const other = SessionText.firstOther(lines, replies, State.entries.map((entry) => entry.reply));
   if (other === null) return;
   const cut = (lines) => make("code", null, Terms.cut(lines.join(" ⏎ ") || "(no reply)", 160));
   Deeds.tell(true, `Line ${other.at + 1}, `, make("code", null, other.line), ", is answered otherwise than in the text: there ", cut(other.saved), ", here ", cut(other.now), ".");
@@ -177,12 +159,36 @@ function onDrop(event) {
   if (event.dataTransfer.files.length > 0) open(event.dataTransfer.files[0]);
 }
 
+/** Which steps the picture shows. */
+function stepsTold() {
+  const { count } = State.run.graph, most = OnScreen.MOST_SIZE, told = (number) => number.toLocaleString("en");
+  if (count > most) return `The first ${told(most)} of ${told(count)} steps`;
+  return count === 1 ? "1 step" : `All ${told(count)} steps`;
+}
+
+/** The rows of the values, as texts. */
+const values = () => [...find("store").querySelectorAll(".row")].map((row) => make("div", null, row.textContent));
+
+/** Fills what is printed alone: program, query, result, values, and the picture of the whole run. */
+function fillPaper() {
+  const { program, query } = State.given, isThere = State.session && !State.refusal, picture = make("div");
+  if (isThere) picture.innerHTML = wholePicture();
+  const parts = [
+    ["Program", make("pre", null, program)], ["Query", make("pre", null, query)],
+    ["Result", make("p", null, find("result").textContent)],
+    ["Values", make("div", { class: "paper-values" }, ...values())],
+    [isThere ? stepsTold() : "No run", picture],
+  ];
+  const all = parts.flatMap(([name, part]) => [make("h2", null, name), part]);
+  find("paper").replaceChildren(make("h1", null, "ghcdb"), ...all);
+}
+
 function listenToAll() {
   find("file").addEventListener("change", onChosen);
   document.addEventListener("dragover", (event) => { if (hasFiles(event)) event.preventDefault(); });
   document.addEventListener("drop", onDrop);
+  window.addEventListener("beforeprint", fillPaper);
+  window.addEventListener("afterprint", () => find("paper").replaceChildren());
 }
 
-export {
-  savePicture, saveSession, sessionText, pictureText, wholePicture, pngOf, openText, openBytes, listenToAll,
-};
+export { savePicture, saveSession, sessionText, pictureText, pngOf, openText, openBytes, listenToAll };

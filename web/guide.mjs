@@ -1,6 +1,6 @@
 // Leads through the tour: shows its words, points at what is to be clicked, and goes on when its line was typed.
 import Deeds from "./deeds.mjs";
-import { find, make, buttons, withCode } from "./elements.mjs";
+import { find, withCode } from "./elements.mjs";
 import State from "./state.mjs";
 import * as Talk from "./talk.mjs";
 import * as Tour from "./tour.mjs";
@@ -10,15 +10,11 @@ let isAside = false; // whether other lines were typed than the story's
 
 const station = () => (at !== null && at < Tour.STATIONS.length ? Tour.STATIONS[at] : null);
 
-function billProgram() {
-  return EXAMPLES.find((example) => example.name === "bill").program;
-}
-
 /** Begins the session of a station anew, and plays it up to there. */
 function putThere() {
-  const { session } = station(), { program } = Tour.SESSIONS[session];
+  const { program } = Tour.SESSIONS[station().session], bill = EXAMPLES.find(({ name }) => name === "bill");
   isAside = false;
-  Deeds.begin({ program: program(billProgram()), query: Tour.QUERY }, Tour.linesBefore(at));
+  Deeds.begin({ program: program(bill.program), query: Tour.QUERY }, Tour.linesBefore(at));
   show();
 }
 
@@ -37,22 +33,21 @@ function end() {
 /** Types the station's line for the user. */
 const doIt = () => Talk.send(station().line);
 
+/** Shows where the tour is, the words of its station, and what leads on. */
+function showStation() {
+  const here = station(), words = here ? here.words : Tour.END;
+  find("tour-chapter").textContent = here ? here.chapter : "Done";
+  find("tour-at").textContent = here ? `${at + 1} of ${Tour.STATIONS.length}` : "the end";
+  find("tour-words").replaceChildren(...(isAside ? ["You left the story, and that is fine. "] : withCode(words)));
+  Object.assign(find("tour-do"), { hidden: !here || isAside, title: here ? here.line : "" });
+  find("tour-again").hidden = !isAside;
+  find("tour-back").hidden = at === 0;
+}
+
 function show() {
-  const area = find("guide"), here = station();
-  area.hidden = at === null;
+  find("guide").hidden = at === null;
   document.body.classList.toggle("on-tour", at !== null);
-  if (at === null) {
-    pointAgain();
-    return;
-  }
-  const place = here ? `${at + 1} of ${Tour.STATIONS.length}` : "the end";
-  const words = isAside ? "You left the story, and that is fine. " : "";
-  const forth = here && !isAside ? make("button", { id: "tour-do", title: here.line }, "Do it for me") : null;
-  const again = isAside ? make("button", { id: "tour-again" }, "Back to the story") : null;
-  const back = at > 0 ? make("button", { id: "tour-back", title: "One station back" }, "Back") : null;
-  area.replaceChildren(make("div", { class: "tour-place" }, make("b", null, here ? here.chapter : "Done"), make("span", { class: "dim" }, place)),
-    make("p", null, words, ...(isAside ? [] : withCode(here ? here.words : Tour.END))),
-    buttons(again, forth, back, make("button", { id: "tour-end" }, "End the tour")));
+  if (at !== null) showStation();
   pointAgain();
 }
 

@@ -2,28 +2,28 @@
 import * as Replies from "../front/protocol/replies.mjs";
 import * as SessionText from "../front/protocol/session_text.mjs";
 import * as Terms from "../front/run/terms.mjs";
+import { plural } from "../front/text/plural.mjs";
 import Deeds from "./deeds.mjs";
-import { find, make } from "./elements.mjs";
+import { find, make, joined, link } from "./elements.mjs";
 import * as Links from "./links.mjs";
 import State from "./state.mjs";
 import * as Talk from "./talk.mjs";
 
 const NAME = "ghcdb.session", MOST = 5, MOST_OF_ONE = 3; // sessions of one's own programs that are kept; of one text
 const PAUSE = 400; // milliseconds after a letter was typed
+const NO_LINK = "This browser cannot compress a text for a link. Save writes the session as a file.";
 let name = null; // of this session in the storage, where no other one writes; null before anything of it is kept
 let source = null; // the name of the session that was kept, and that this one went on from
 let origin = null; // the name of the first session of this text, which was changed since, and started again
 let left = null; // what was given to the session that was left, until another one has begun
 let before = [], timer = null, isKept = true;
-let asked = null; // what is to begin once one has said that what stands here may go
 
 const warn = (event) => event.preventDefault();
 
 /** Whether the browser keeps the lines; where it does not, it asks before the page is left. */
 function setKept(isSo) {
   isKept = isSo;
-  if (isKept) window.removeEventListener("beforeunload", warn);
-  else window.addEventListener("beforeunload", warn);
+  window[isKept ? "removeEventListener" : "addEventListener"]("beforeunload", warn);
 }
 
 /** The text of the session, with all lines and no replies. */
@@ -32,10 +32,13 @@ const linesText = () => SessionText.write({ ...State.given, entries: Talk.typedL
 const isExample = (program) => EXAMPLES.some((example) => example.program === program);
 const isOwn = () => !Deeds.isOnTour() && !(isExample(Deeds.typed().program) && isExample(State.given.program));
 
+/** Was anything done since Start? */
+const isBegun = () => State.entries.length > 0 || State.given.history !== "";
+
 /** What there is to be kept: the session, and what was typed since its Start; null where all of it stands in an example. */
 function now() {
   const typed = Deeds.typed(), draft = Deeds.isChanged() ? { program: typed.program, query: typed.query } : null;
-  if (State.entries.length > 0 || State.given.history !== "") return { text: linesText(), draft, looked: Deeds.looked() };
+  if (isBegun()) return { text: linesText(), draft, looked: Deeds.looked() };
   return typed.program.trim() === "" || isExample(typed.program) ? null : { text: SessionText.write({ ...State.given, ...typed, entries: [] }), draft: null };
 }
 
@@ -63,17 +66,14 @@ function all() {
 
 const isOfGiven = (session) => ["program", "query", "history"].every((part) => session[part] === State.given[part]);
 
+const areFirst = (lines, all) => lines.every((line, at) => line === all[at]);
+
 /** Whether a session that is kept has all of this one. */
-function isWithin(session) {
-  if (Deeds.isChanged() || session.draft !== null || !isOfGiven(session)) return false;
-  return Talk.typedLines().every((line, at) => line === session.lines[at]);
-}
+const isWithin = (session) =>
+  !Deeds.isChanged() && session.draft === null && isOfGiven(session) && areFirst(Talk.typedLines(), session.lines);
 
 /** Whether this session has all lines of one that is kept. */
-function holdsAll(session) {
-  const typed = Talk.typedLines();
-  return isOfGiven(session) && session.lines.every((line, at) => line === typed[at]);
-}
+const holdsAll = (session) => isOfGiven(session) && areFirst(session.lines, Talk.typedLines());
 
 /** Is a session one too many of its text? The newest ones come first. */
 const isOneTooMany = ({ of }, at, own) => own.slice(0, at).filter((other) => other.of === of).length >= MOST_OF_ONE;
@@ -133,25 +133,19 @@ function keepSoon() {
   timer = setTimeout(keep, PAUSE);
 }
 
-/** Another session begins: this one stays as it is kept. Gives the name under which it is. */
-function leave() {
+/** Another session begins; `first` names the first one of its text. Gives the name under which this one stays kept. */
+function leave(first = null) {
   keep();
   const key = name || source;
   left = State.given;
   name = null;
   source = null;
-  origin = null;
+  origin = first;
   return key;
 }
 
 /** The same where its text starts again, and something was done; a program that was only typed keeps its name. */
-function leaveDone() {
-  const first = origin;
-  if (State.given === left || (State.entries.length === 0 && State.given.history === "")) return null;
-  const key = leave();
-  origin = first;
-  return key;
-}
+const leaveDone = () => (State.given !== left && isBegun() ? leave(origin) : null);
 
 /** A button that brings back what was left under a name; none where the browser does not keep it. */
 function wayBack(key, words) {
@@ -166,15 +160,9 @@ async function beginOther(begins) {
     await beginNow(begins);
     return;
   }
-  asked = begins;
   const goes = make("button", { class: "small danger", id: "go-without" }, "Go on without it");
+  goes.addEventListener("click", () => { Deeds.hideAnswer(); beginNow(begins); });
   Deeds.tell(true, "What stands here is not kept in this browser; Save writes it as a file. ", goes);
-}
-
-/** Begins what was asked for, though what stands here is not kept. */
-function goWithout() {
-  Deeds.hideAnswer();
-  return beginNow(asked);
 }
 
 /** Begins another session, and offers to bring this one back where its program is the user's own. */
@@ -187,8 +175,9 @@ async function beginNow(begins) {
 }
 
 function wordsOf({ lines, history, query }) {
-  const done = `${lines.length} line${lines.length === 1 ? "" : "s"} on `, begun = history === "" ? "A program for " : "A run on ";
-  return [lines.length === 0 ? begun : done, make("code", null, Terms.cut(query.trim() || "no query", 60))];
+  const begun = history === "" ? "A program for " : "A run on ";
+  const done = lines.length === 0 ? begun : `${plural(lines.length, "line")} on `;
+  return [done, make("code", null, Terms.cut(query.trim() || "no query", 60))];
 }
 
 /** Of an address that holds a session, only one that has gone on from there is offered. */
@@ -200,7 +189,8 @@ function offer(isOfLink = false) {
   const [last, ...others] = before;
   if (last === undefined || (location.hash.length > 1 && !isOfLink)) return;
   const isOne = last.lines.length < 2, them = isOne ? "it" : "them";
-  const also = others.flatMap((session, index) => [index === 0 ? " Also kept: " : ", ", make("button", { class: "link", "data-go-on": index + 1 }, ...wordsOf(session))]);
+  const links = others.map((session, index) => link({ "data-go-on": index + 1 }, ...wordsOf(session)));
+  const also = links.length > 0 ? [" Also kept: ", ...joined(links, ", ")] : [];
   Deeds.tell(false, ...wordsOf(last), isOne ? " is" : " are", " kept from the last time. ", make("button", { class: "small main-button", id: "go-on", "data-go-on": 0 }, `Go on with ${them}`), " ",
     make("button", { class: "small", id: "forget" }, `Forget ${them}`), ...also);
 }
@@ -228,47 +218,36 @@ async function goOn(index) {
   keep();
 }
 
-/** The address of the page with all of the session in it, or in words by how much it is too long. */
+/** The address of the page with all of the session in it, or in words why there is none. */
 async function address() {
   const text = linesText(), told = (number) => number.toLocaleString("en"), { MOST, MOST_READ, MOST_LINES } = Links;
+  const none = (by) => ({ why: `This session is too long for a link (${by}). Save writes it as a file.` });
+  if (!Links.isThere()) return { why: NO_LINK };
   const isLong = text.length > MOST_READ || State.entries.length > MOST_LINES;
-  if (isLong) return { tooLong: `${told(MOST_READ)} bytes and ${told(MOST_LINES)} lines at most` };
+  if (isLong) return none(`${told(MOST_READ)} bytes and ${told(MOST_LINES)} lines at most`);
   const looked = Deeds.looked(), notes = looked === null ? "" : `&n=${await Links.pack(JSON.stringify(looked))}`;
   const letters = `${await Links.pack(text)}${notes}`;
-  if (letters.length > MOST) return { tooLong: `${told(letters.length)} letters, ${told(MOST)} at most` };
-  return { link: `${location.href.split("#")[0]}#s=${letters}` };
+  if (letters.length > MOST) return none(`${told(letters.length)} letters, ${told(MOST)} at most`);
+  return { place: `${location.href.split("#")[0]}#s=${letters}` };
 }
 
 /** Puts the session into the address, and shows it to be copied. */
 async function makeLink() {
-  if (!Links.isThere()) {
-    Deeds.tell(true, "This browser cannot compress a text for a link. Save writes the session as a file.");
+  const { place, why } = await address();
+  if (place === undefined) {
+    Deeds.tell(true, why);
     return;
   }
-  const { link, tooLong } = await address();
-  if (link === undefined) {
-    Deeds.tell(true, `This session is too long for a link (${tooLong}). Save writes it as a file.`);
-    return;
-  }
-  history.replaceState(null, "", link);
-  const field = make("input", { readonly: true, value: link, id: "link-text", "aria-label": "The link" });
+  history.replaceState(null, "", place);
+  const field = make("input", { readonly: true, value: place, id: "link-text", "aria-label": "The link" });
   Deeds.tell(false, "The address holds program, query and lines now: ", field, " ", make("button", { class: "small", id: "copy-link" }, "Copy"), Deeds.isChanged() ? " What you typed since Start is not in it." : "");
   field.select();
 }
 
 async function copyLink() {
-  const field = find("link-text");
+  const field = find("link-text"), copies = async () => navigator.clipboard.writeText(field.value);
   field.select();
-  try {
-    await navigator.clipboard.writeText(field.value);
-    find("copy-link").textContent = "Copied";
-  } catch {
-    find("copy-link").textContent = "Copy it by hand";
-  }
+  find("copy-link").textContent = await copies().then(() => "Copied", () => "Copy it by hand");
 }
 
-function listenToAll() {
-  window.addEventListener("pagehide", keep);
-}
-
-export { keep, keepSoon, leaveDone, wayBack, offer, goOn, forget, beginOther, goWithout, makeLink, copyLink, listenToAll };
+export { keep, keepSoon, leaveDone, wayBack, offer, goOn, forget, beginOther, makeLink, copyLink };

@@ -231,31 +231,30 @@ function place(anchor) {
   menu.style.top = `${best.y}px`;
 }
 
+const FORMS = ["SVG", "SVG, dark", "PNG", "PNG, dark"];
+
 /** The menu in which one saves a picture: of what is shown, or from one step to another. */
 function ofPicture() {
-  const field = (name, words, value) => make("input", { id: name, inputmode: "numeric", size: "6", "aria-label": words, placeholder: words, value });
+  const how = { inputmode: "numeric", size: "6" };
+  const field = (id, words) => make("input", { ...how, id, "aria-label": words, placeholder: words });
   const first = field("picture-from", "from step"), last = field("picture-to", "to step");
-  const number = (one) => (/^\d+$/.test(one.value.trim()) ? Number(one.value) : undefined);
-  const saves = (words, form, theme) => {
-    const button = make("button", null, words);
-    button.addEventListener("click", () => { Deeds.savePicture({ form, theme, from: number(first), to: number(last) }); close(); });
+  const number = ({ value }) => (/^\d+$/.test(value.trim()) ? Number(value) : undefined);
+  const saves = FORMS.map((words) => {
+    const [form, theme = "light"] = words.toLowerCase().split(", ");
+    const button = make("button", { "data-close": true }, words);
+    button.addEventListener("click", () => Deeds.savePicture({ form, theme, from: number(first), to: number(last) }));
     return button;
-  };
-  return [title("Save the picture", "as it is shown"), buttons(saves("SVG", "svg", "light"), saves("SVG, dark", "svg", "dark"), saves("PNG", "png", "light"), saves("PNG, dark", "png", "dark")),
-    make("p", { class: "dim" }, "Or of a part alone:"), buttons(first, last)];
+  });
+  const part = make("p", { class: "dim" }, "Or of a part alone:");
+  return [title("Save the picture", "as it is shown"), buttons(...saves), part, buttons(first, last)];
 }
 
-function partsFor(chosen) {
-  if (chosen.picture) return ofPicture();
-  if (chosen.step !== undefined) return ofStep(chosen.step);
-  if (chosen.goal !== undefined) return ofGoal(chosen.goal);
-  if (chosen.variable !== undefined) return ofVariable(chosen.variable);
-  return chosen.taken !== undefined ? ofTaken(chosen.taken) : ofAsk();
-}
+const MENUS = { picture: ofPicture, step: ofStep, goal: ofGoal, variable: ofVariable, taken: ofTaken, ask: ofAsk };
 
 /** Opens the menu of `{ step }`, `{ goal }`, `{ variable }` or `{ taken }`, or of `{ ask: true }`, beside an element. */
 function open(chosen, anchor) {
-  openWith(partsFor(chosen).filter(Boolean), anchor, chosen.picture ? "button" : FIRST);
+  const [[kind, name]] = Object.entries(chosen);
+  openWith(MENUS[kind](name).filter(Boolean), anchor, chosen.picture ? "button" : FIRST);
 }
 
 /** Opens a menu of these parts beside an element; what a selector finds first has the focus. */

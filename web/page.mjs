@@ -9,7 +9,7 @@ import * as Blaming from "./blaming.mjs";
 import Canvas from "./canvas.mjs";
 import * as Choosing from "./choosing.mjs";
 import Deeds from "./deeds.mjs";
-import { find, make, withCode } from "./elements.mjs";
+import { find, make } from "./elements.mjs";
 import * as ExampleNotes from "./example_notes.mjs";
 import * as Files from "./files.mjs";
 import * as Fitting from "./fitting.mjs";
@@ -20,11 +20,9 @@ import * as Looking from "./looking.mjs";
 import * as Menus from "./menus.mjs";
 import OnScreen from "./on_screen.mjs";
 import * as Overview from "./overview.mjs";
-import * as Paper from "./paper.mjs";
 import * as Panels from "./panels.mjs";
 import { pauses } from "./pausing.mjs";
 import * as Program from "./program.mjs";
-import * as Refusing from "./refusing.mjs";
 import * as Reloading from "./reloading.mjs";
 import * as Resting from "./resting.mjs";
 import * as Result from "./result.mjs";
@@ -35,24 +33,11 @@ import State from "./state.mjs";
 import * as Talk from "./talk.mjs";
 import * as Trail from "./trail.mjs";
 import * as Walking from "./walking.mjs";
-import * as Welcome from "./welcome.mjs";
 import * as Why from "./why.mjs";
 
 const FIRST_EXAMPLE = "quicksort", FIRST_QUERY = "quicksort([3,1,2],R)";
 const typedBefore = [];
 let recall = 0;
-
-const HELP = [
-  ["Picture", "A line is a process, and time goes right. `●` reduces a goal by a clause, `◆` binds a variable, `■` computes, a flag is an input. A grey line leads from a step to a goal that it made, a blue arrow to a step that read what it bound; an orange dashed one says that this woke a goal that waited. A green ring is a goal that is ready, a dashed one waits, and its dotted arc points at a goal that has its variable. A hexagon is an ask, which no goal was there for; a line of dashes and dots leads to it from a step that made a variable that it names."],
-  ["Click", "a step, a goal, a variable, or something that was taken back, and choose. Each click types a line at the console, below, where you see what it is called. A click on a clause of the program lights its steps. `Add goals` adds some while the program runs: write them as a query has them."],
-  ["Names", "A variable has the program's name, with the number of its step below the line: `Rel₆` is Rel of step 6. Point at it to see its number, and click it to type that at the console."],
-  ["Keys", "`s` steps the first goal that is ready, `r` runs, `u` takes back the last step, `a` asks for more goals, `t` sorts the steps by process, `d` changes between recorded order and chains of causes, `f` finds steps, `y` and `n` answer a question, `b` takes the last answer back, `p` goes back to what you looked at before, `/` goes to the console, `Escape` closes, and `Ctrl` `Enter` in the program starts it. In the picture `←` `→` go from step to step, `↑` `↓` to a cause or an effect, `Enter` opens what can be done."],
-  ["Move and size", "Drag the picture, or turn the wheel over it, to move it; with `Ctrl` the wheel sizes it. Drag with `Shift`, in the picture or in the strip above it, to select an area: its steps are lit and counted by predicate. `Shift` `←` `→` do so from the chosen step on."],
-  ["Mend", "Change the program while a run stands: `Reload`, beside `Run`, says how many steps stay under the new text, and goes on with them. Those that go are ringed while you point at it."],
-  ["Why?", "Click a value that is wrong, or a goal that has failed or waits, then `Find the wrong clause`. You are asked about a few calls: was what each gave right, for what it was given? Then the clause that is wrong is marked, and its step can be taken back. `Why?` tells who waits for whom, and which step let a variable go: a red cross stands there. `Other choices` tells what a value would be, had a step gone by another clause."],
-  ["Kept", "This browser keeps the last five sessions of your own programs, and what you typed since Start: after a reload the page offers them. `Link` puts program, query and lines into the address. Nothing leaves this browser by itself."],
-  ["Texts", "`Save` keeps program, query and all lines in a text; `Open` plays it again. It opens histories (as `save` writes them) and programs, too. All that is described in docs/LANGUAGE.md and docs/FORMATS.md."],
-];
 
 const typed = () => ({ program: find("program").value, query: find("query").value, history: "" });
 
@@ -152,8 +137,8 @@ function lightClause(number) {
 
 /** Where program or query was refused, it says why; else what is noted on the program. */
 function tellCause(what) {
-  if (what !== "start" || Refusing.show(State.given, State.refusal)) return;
-  const notes = State.refusal ? [] : Refusing.notes(State.given.program);
+  if (what !== "start" || Answers.showRefusal(State.given, State.refusal)) return;
+  const notes = State.refusal ? [] : Answers.notesOn(State.given.program);
   if (notes.length > 0) Answers.put(false, ...notes);
 }
 
@@ -161,7 +146,7 @@ const showDetail = () => Panels.showDetail(Shown.chosen);
 
 /** What shows a change, in its order: each is told what it is, and the fresh entries of the console. */
 const parts = () => [
-  nameExample, Welcome.hide, OnScreen.follow, Beside.follow, Result.show, redraw, showNewSteps, Looking.follow, Panels.showTold, Panels.showGoals, Store.show,
+  nameExample, hideWelcome, OnScreen.follow, Beside.follow, Result.show, redraw, showNewSteps, Looking.follow, Panels.showTold, Panels.showGoals, Store.show,
   Panels.showShelf, Panels.showCount, showDetail, Answers.show, Trail.follow, Why.show, Blaming.show, Choosing.follow, Guide.onChange,
   tellCause, Reloading.follow, Fitting.showLit, Keeping.keep,
 ];
@@ -197,8 +182,7 @@ function showTab(name) {
 
 function setOrder(by) {
   Shown.by = by;
-  find("by-record").setAttribute("aria-pressed", String(by === "record"));
-  find("by-depth").setAttribute("aria-pressed", String(by === "depth"));
+  for (const order of ["record", "depth"]) find(`by-${order}`).setAttribute("aria-pressed", String(order === by));
   Canvas.draw();
 }
 
@@ -216,17 +200,12 @@ function tidy() {
   Talk.send(`arrange ${Graph.tidyOrder(State.run.graph, laneOf).join(" ")}`).then(() => setOrder("record"));
 }
 
-function showHelp() {
-  const words = HELP.map(([name, text]) => make("p", null, make("b", null, `${name}: `), ...withCode(text)));
-  const close = make("button", { class: "main-button" }, "Close");
-  close.addEventListener("click", () => find("help").close());
-  find("help").replaceChildren(make("h2", null, "ghcdb in a page"), ...words, Welcome.language(), make("p", { class: "dim" }, `${Panels.madeWith()}.`), close);
-  find("help").showModal();
-}
+const showHelp = () => find("help").showModal();
+const hideWelcome = () => { find("welcome").hidden = true; };
 
 /** Empties program and query, to be written. */
 function writeOwn() {
-  Welcome.hide();
+  hideWelcome();
   setTyped({ program: "", query: "" });
   showTab("program");
   find("program").focus();
@@ -234,7 +213,8 @@ function writeOwn() {
 
 const BUTTONS = {
   "begin-tour": () => Keeping.beginOther(Guide.begin), "welcome-tour": () => Keeping.beginOther(Guide.begin),
-  "welcome-run": () => { Welcome.hide(); find("leap").click(); }, "welcome-own": writeOwn, "close-welcome": Welcome.hide, "open-help": showHelp, "open-file": () => find("file").click(),
+  "welcome-run": () => { hideWelcome(); find("leap").click(); }, "welcome-own": writeOwn, "close-welcome": hideWelcome,
+  "open-help": showHelp, "close-help": () => find("help").close(), "open-file": () => find("file").click(),
   "larger-query": () => begin({ ...typed(), query: find("larger-query").value }), "start-anew": startTyped,
   "save-session": () => Files.saveSession(), "save-picture": () => Menus.open({ picture: true }, find("save-picture")),
   "ask-more": () => Menus.open({ ask: true }, find("ask-more")),
@@ -245,30 +225,17 @@ const BUTTONS = {
   smaller: () => Fitting.size(1 / 1.4), larger: () => Fitting.size(1.4), fit: Fitting.toggle,
   reload: () => Reloading.reload(), "keep-run": () => Beside.keep(), "drop-run": () => Beside.drop(), "swap-runs": () => Beside.swap(),
   play: () => Looking.play(), "show-all-steps": () => Looking.showNow(),
-  "lanes-alone": () => Panels.showLanesAlone(), "lanes-all": () => { OnScreen.only = null; Canvas.draw(); Panels.showNote(); },
+  "lanes-alone": () => Panels.showLanes(true), "lanes-all": () => Panels.showLanes(false),
   wrap: () => Program.setWrap(!Program.isWrapped()), again: () => Talk.again(), "close-answer": () => Answers.hide(),
-  "go-without": () => Keeping.goWithout(),
   "why-close": Why.close, "choices-stop": Choosing.stop, "choices-close": Choosing.close,
   "blame-light": () => Blaming.lightAgain(), "blame-close": () => Blaming.close(), "blame-alone": () => Blaming.tryAlone(), "blame-return": () => Blaming.goBack(),
   "tour-do": () => Guide.doIt(), "tour-back": () => Guide.back(), "tour-again": () => Guide.putThere(), "tour-end": () => Guide.end(),
   forget: () => Keeping.forget(), "make-link": () => Keeping.makeLink(), "copy-link": () => Keeping.copyLink(),
 };
 
-/** @type {[string, (told: string) => number | string][]} */
-const KINDS = [["step", Number], ["goal", String], ["taken", Number], ["variable", String]];
-
-/** What stands under a click, as what a menu can be opened of. */
-function choiceAt(element) {
-  const found = element.closest("[data-step], [data-goal], [data-taken], [data-variable]");
-  if (!found) return null;
-  const [kind, read] = KINDS.find(([name]) => name in found.dataset);
-  return { found, chosen: { [kind]: read(found.dataset[kind]) } };
-}
-
 /** Chooses a step, and brings it into sight. */
 function goToStep(step) {
   if (!State.run.graph.byNumber.has(step)) return;
-  Menus.close();
   if (document.body.dataset.tab === "console") showTab("run");
   goTo({ step });
 }
@@ -282,7 +249,6 @@ function goTo(chosen) {
 /** Chooses a goal that is there, and opens what can be done with it; of one that is gone the step that took it. */
 function goToGoal(goal) {
   const chosen = { goal }, taker = OnScreen.takerOf(goal);
-  Menus.close();
   if (taker !== undefined) {
     goToStep(taker.number);
     return;
@@ -304,52 +270,53 @@ function typeNumber(element) {
   line.focus();
 }
 
-const closing = (does) => (element) => { Menus.close(); does(element); };
-
 /**
- * What a click does, by what it hits: the first of these that fits.
+ * What a click does, by what it hits: the first of these that fits. An open menu is closed before.
  * @type {[string, (element: any) => unknown][]}
  */
 const CLICKS = [
-  ["[data-line]:not(:disabled)", closing(({ dataset }) => Talk.send(dataset.line))],
-  ["[data-types]", closing(typeNumber)],
-  ["[data-root]", closing(explainPart)],
+  ["[data-line]:not(:disabled)", ({ dataset }) => Talk.send(dataset.line)],
+  ["[data-types]", typeNumber],
+  ["[data-root]", explainPart],
   ["[data-keep]", ({ dataset }) => Resting.askKeep(dataset.keep)],
   ["[data-go-goal]", ({ dataset }) => goToGoal(dataset.goGoal)],
-  ["[data-try]", closing(({ dataset }) => Beside.tryClause(...dataset.try.split(" ").map(Number)))],
-  ["[data-kept]", closing(({ dataset }) => Beside.onClick(Number(dataset.kept)))],
-  ["[data-outcome]", closing(({ dataset }) => Choosing.goThere(...dataset.outcome.split(" ")))],
-  ["[data-choices]", closing(({ dataset }) => Choosing.begin(dataset.choices))],
-  ["[data-fold]", closing(({ dataset }) => Looking.fold(dataset.fold, true))],
-  ["[data-unfold]", closing(({ dataset }) => Looking.fold(dataset.unfold, false))],
+  ["[data-try]", ({ dataset }) => Beside.tryClause(...dataset.try.split(" ").map(Number))],
+  ["[data-kept]", ({ dataset }) => Beside.onClick(Number(dataset.kept))],
+  ["[data-outcome]", ({ dataset }) => Choosing.goThere(...dataset.outcome.split(" "))],
+  ["[data-choices]", ({ dataset }) => Choosing.begin(dataset.choices)],
+  ["[data-fold]", ({ dataset }) => Looking.fold(dataset.fold, true)],
+  ["[data-unfold]", ({ dataset }) => Looking.fold(dataset.unfold, false)],
   ["[data-note-away]", ({ dataset }) => Trail.setNote(Number(dataset.noteAway), "")],
   ["[data-go-on]", ({ dataset }) => Keeping.goOn(Number(dataset.goOn))],
-  ["[data-clause]", closing(({ dataset }) => lightClause(Number(dataset.clause)))],
-  ["[data-visit]", closing(({ dataset }) => Canvas.visit(Number(dataset.visit)))],
+  ["[data-clause]", ({ dataset }) => lightClause(Number(dataset.clause))],
+  ["[data-visit]", ({ dataset }) => Canvas.visit(Number(dataset.visit))],
   ["[data-goto]", ({ dataset }) => goToStep(Number(dataset.goto))],
-  ["button[data-tab]", closing(({ dataset }) => showTab(dataset.tab))],
-  [Object.keys(BUTTONS).map((id) => `button#${id}`).join(","), closing(({ id }) => BUTTONS[id]())],
+  ["button[data-tab]", ({ dataset }) => showTab(dataset.tab)],
+  [Object.keys(BUTTONS).map((id) => `button#${id}`).join(","), ({ id }) => BUTTONS[id]()],
 ];
 
 function onClick(event) {
   const { target } = event;
   if (!target.isConnected) return; // the button has put something else in its own place
-  for (const [hit, does] of CLICKS) {
-    const found = target.closest(hit);
-    if (found) return does(found);
-  }
-  if (target.closest("#menu") && !target.closest("[data-close]")) return undefined;
-  return chooseAt(target);
+  const [hit, does] = CLICKS.find(([selector]) => target.closest(selector)) ?? [];
+  if (does === undefined && target.closest("#menu") && !target.closest("[data-close]")) return;
+  Menus.close();
+  if (does === undefined) chooseAt(target);
+  else does(target.closest(hit));
 }
+
+/** What a menu can be opened of, each with how its name is read. */
+const KINDS = { step: Number, goal: String, taken: Number, variable: String };
 
 /** Chooses what was clicked, and opens what can be done with it. */
 function chooseAt(target) {
-  const choice = choiceAt(target);
-  Menus.close();
-  if (choice) {
-    if (choice.chosen.variable === undefined) Canvas.choose(choice.chosen.taken === undefined ? choice.chosen : null);
-    Menus.open(choice.chosen, choice.found);
-  } else if (target.closest("#canvas")) Canvas.choose(null);
+  const found = target.closest("[data-step], [data-goal], [data-taken], [data-variable]");
+  if (!found && target.closest("#canvas")) Canvas.choose(null);
+  if (!found) return;
+  const kind = Object.keys(KINDS).find((name) => name in found.dataset);
+  const chosen = { [kind]: KINDS[kind](found.dataset[kind]) };
+  if (kind !== "variable") Canvas.choose(kind === "taken" ? null : chosen);
+  Menus.open(chosen, found);
 }
 
 const KEYS = {
@@ -359,29 +326,29 @@ const KEYS = {
   a: () => { showTab("run"); find("ask-more").click(); }, d: () => setOrder(Shown.by === "record" ? "depth" : "record"), "/": () => { showTab("console"); find("line").focus(); }, "?": showHelp,
 };
 
-function onKey(event) {
-  if (event.key === "Enter" && (event.ctrlKey || event.metaKey) && event.target === find("program")) find("start").requestSubmit();
-  if (event.ctrlKey || event.metaKey || event.altKey || find("help").open) return;
-  if (event.key === "Escape" && !find("busy").hidden && State.busy && State.busy.canStop) {
+/** Stops the line that is at work, else closes what is open, else chooses nothing. */
+function onEscape(target) {
+  if (!find("busy").hidden && State.busy?.canStop) {
     Talk.stop();
     return;
   }
-  if (event.key === "Escape" && event.target === find("line")) find("line").blur();
-  if (event.key === "Escape") {
-    const wasOpen = !find("menu").hidden;
-    Menus.close();
-    if (wasOpen) find("canvas").focus();
-    else Canvas.choose(null);
-    return;
-  }
-  if (event.key === "Tab" && event.target.closest("#menu")) Menus.onTab(event);
-  if (event.target.closest("input, textarea, select")) return;
-  const does = KEYS[event.key], isInCanvas = event.target === find("canvas");
-  if (isInCanvas && event.shiftKey && Selecting.onKey(event.key)) {
-    event.preventDefault();
-    return;
-  }
-  if ((isInCanvas && Canvas.onKey(event.key)) || does) event.preventDefault();
+  const wasOpen = !find("menu").hidden;
+  if (target === find("line")) find("line").blur();
+  Menus.close();
+  if (wasOpen) find("canvas").focus();
+  else Canvas.choose(null);
+}
+
+function onKey(event) {
+  const { key, target } = event, isWithOther = event.ctrlKey || event.metaKey;
+  if (key === "Enter" && isWithOther && target === find("program")) find("start").requestSubmit();
+  if (isWithOther || event.altKey || find("help").open) return;
+  if (key === "Escape") onEscape(target);
+  if (key === "Tab" && target.closest("#menu")) Menus.onTab(event);
+  if (target.closest("input, textarea, select")) return;
+  const does = KEYS[key], isInCanvas = target === find("canvas");
+  const isMoved = isInCanvas && ((event.shiftKey && Selecting.onKey(key)) || Canvas.onKey(key));
+  if (isMoved || does) event.preventDefault();
   if (does) does();
 }
 
@@ -437,7 +404,9 @@ function listenToAll() {
   }, { passive: true });
   find("canvas").addEventListener("mouseover", (event) => Canvas.addTitle(event.target));
   window.addEventListener("resize", () => { if (State.session) Canvas.draw(); });
-  for (const part of [Files, Overview, Program, Looking, Selecting, Trail, Paper, Reloading, Keeping]) part.listenToAll();
+  find("note-form").addEventListener("submit", Trail.onNote);
+  for (const part of [Files, Overview, Program, Looking, Selecting, Reloading]) part.listenToAll();
+  window.addEventListener("pagehide", Keeping.keep);
   window.addEventListener("hashchange", () => Keeping.beginOther(() => { Guide.end(); return fromAddress(); }));
   setInterval(() => { if (State.busy) Panels.showBusy(); }, 100);
   Talk.listen(onChange);
@@ -445,26 +414,20 @@ function listenToAll() {
 
 /** The session in the letters of an address; null, and in words why, where none is read. */
 async function readLink(letters) {
-  const none = { session: null, why: "The address holds no session that can be read." };
   const tooLong = ({ message }) => `The session in the address is not read: ${message}. Open takes one from a file.`;
   try {
     const session = SessionText.read(await Links.unpack(letters), () => undefined);
-    if (session === null || Replies.hasHole(session.history)) return none;
+    if (session === null || Replies.hasHole(session.history)) throw new Error("no whole session");
     Links.testLines(session);
     return { session };
   } catch (error) {
-    return error instanceof RangeError ? { session: null, why: tooLong(error) } : none;
+    const why = error instanceof RangeError ? tooLong(error) : "The address holds no session that can be read.";
+    return { session: null, why };
   }
 }
 
 /** The trail and the notes in the letters of an address; null where there are none, or none can be read. */
-async function readNotes(letters) {
-  try {
-    return letters === null ? null : JSON.parse(await Links.unpack(letters));
-  } catch {
-    return null;
-  }
-}
+const readNotes = (letters) => (letters === null ? null : Links.unpack(letters).then(JSON.parse).catch(() => null));
 
 /** Does what an address asks for, as `#example=primes&query=primes(30,Ps)&lines=leap&by=depth&theme=dark&step=90`; says whether it holds a session. */
 async function fromAddress() {
@@ -491,22 +454,30 @@ const doers = {
   showTab, setOrder, showNow: Looking.showNow, showTime: () => PARTS_OF_TIME.forEach((part) => part()), timeRows: Panels.timeRows, showNote: Panels.showNote, showDetail: (chosen) => { Panels.showDetail(chosen); Trail.look(chosen); },
   draw: Canvas.draw, drawStrip: Overview.draw, goToPart: Overview.goTo,
   choose: Canvas.choose, scrollTo: Canvas.scrollTo, goTo, visit: Canvas.visit, markWay: Canvas.markWay, ring: Canvas.ring,
-  showSlice: Canvas.showSlice, showAsked: Canvas.showAsked, lanesBottom: () => Canvas.view.bottom, wholePicture: Files.wholePicture,
+  showSlice: Canvas.showSlice, showAsked: Canvas.showAsked, lanesBottom: () => Canvas.view.bottom,
   markClause: Program.markClause, markLit: Program.markLit, showPlace: Program.showPlace, lightClause, size: Fitting.size, selectRange: Selecting.selectRange,
-  resultOf: Result.ofKept, tell: Answers.put, hideAnswer: Answers.hide, tellSlice: Resting.tell, openMenu: Menus.open, askFirst: Menus.askFirst, closeMenu: Menus.close,
-  showRefusal: Refusing.show, notesOn: Refusing.notes, whyInShort: Why.inShort, besideParts: Beside.noteParts, canKeepRun: Beside.isComparable, keepRun: Beside.keep,
+  resultOf: Result.ofKept, tell: Answers.put, hideAnswer: Answers.hide, tellSlice: Resting.tell, openMenu: Menus.open, askFirst: Menus.askFirst,
+  showRefusal: Answers.showRefusal, notesOn: Answers.notesOn,
+  whyInShort: Why.inShort, besideParts: Beside.noteParts, canKeepRun: Beside.isComparable, keepRun: Beside.keep,
   looked: Trail.saved, takeUpLooked: Trail.takeUp, isOnTour: Guide.isOn, endTour: Guide.end, pointAgain: Guide.pointAgain, savePicture: Files.savePicture,
 };
 Object.assign(Deeds, doers);
 
+/** Fills what page.html leaves open: the examples, the half page on the language, and with what the page was made. */
+function fillTexts() {
+  find("examples").append(...EXAMPLES.map(({ name }) => make("option", { value: name }, name)));
+  for (const place of document.querySelectorAll(".language")) place.append(find("language").content.cloneNode(true));
+  find("made-with").textContent = `${Panels.madeWith()}.`;
+}
+
 async function startPage() {
   if (typeof WebAssembly === "undefined") throw new Error("it has no WebAssembly, in which the program comes; some browsers switch it off in a strict mode");
-  for (const example of EXAMPLES) find("examples").append(make("option", { value: example.name }, example.name));
+  fillTexts();
   listenToAll();
   setTheme(window.matchMedia("(prefers-color-scheme: dark)").matches ? "dark" : "light");
   showTab("run");
   Keeping.offer(await fromAddress());
-  if (location.hash.length < 2 && find("answer").hidden) Welcome.show();
+  if (location.hash.length < 2 && find("answer").hidden) find("welcome").hidden = false;
   document.body.classList.add("started");
 }
 
@@ -515,4 +486,4 @@ startPage().catch((error) => {
   find("note").textContent = `ghcdb could not start in this browser: ${error.message}`;
 });
 
-export { begin, typed, isChanged, setTyped, showTab, setOrder };
+export { begin, isChanged };

@@ -4,7 +4,7 @@ import * as Explain from "../front/run/explain.mjs";
 import * as Terms from "../front/run/terms.mjs";
 import { plural } from "../front/text/plural.mjs";
 import Deeds from "./deeds.mjs";
-import { find, make, lineButton, withCode, goTo, linkedLines, fillRows, keepFocus } from "./elements.mjs";
+import { find, make, lineButton, joined, withCode, link, goTo, linkedLine, fillRows, keepFocus } from "./elements.mjs";
 import { withGoalText } from "./goal_texts.mjs";
 import * as Names from "./names.mjs";
 import * as Outcome from "./outcome.mjs";
@@ -25,6 +25,9 @@ const MOST_LINKED = 60; // lines of a reply in which numbers are links
 const isRefusal = (line) => Replies.isRefusal(line) || /^(program|query|history|session): /.test(line);
 let wasChanged = false;
 
+const cutLine = (line) =>
+  (line.length > LONGEST_LINE ? `${line.slice(0, LONGEST_LINE)}… (${line.length} letters, which Save writes)` : line);
+
 function addTold(entry) {
   const told = find("told");
   told.append(make("div", { class: "typed" }, `> ${entry.line}`));
@@ -32,8 +35,9 @@ function addTold(entry) {
   if (entry.length === 0) return;
   const lines = entry.tail(MOST_LINES), isRefused = entry.length === 1 && isRefusal(lines[0]), more = entry.length - lines.length;
   if (more > 0) told.append(make("div", { class: "dim" }, `(${plural(more, "line")} before these, which Save writes)`));
-  const isMany = lines.length > MOST_LINKED, cut = (line) => (line.length > LONGEST_LINE ? `${line.slice(0, LONGEST_LINE)}… (${line.length} letters, which Save writes)` : line);
-  told.append(make("div", { class: isRefused ? "refused" : null, "aria-hidden": isMany ? "true" : null }, ...(isMany ? [lines.map(cut).join("\n")] : linkedLines(lines.map(cut)))));
+  const isMany = lines.length > MOST_LINKED, shown = lines.map(cutLine);
+  const parts = isMany ? [shown.join("\n")] : joined(shown.map(linkedLine), "\n");
+  told.append(make("div", { class: isRefused ? "refused" : null, "aria-hidden": isMany ? "true" : null }, ...parts));
   if (isMany) told.append(make("div", { class: "for-readers" }, `${plural(entry.length, "line")}, the last of them: ${lines[lines.length - 1]}`));
 }
 
@@ -123,15 +127,15 @@ function showDetail(chosen) {
     area.replaceChildren(make("span", { class: "dim" }, "Click a step in the picture."));
     return;
   }
-  const causes = run.graph.causes.get(step.number);
-  const effects = run.graph.effects.get(step.number).map((edge) => edge.to);
-  const isTold = run.texts.has(step.goal);
+  const { causes, effects } = run.graph, isTold = run.texts.has(step.goal);
   withGoalText(step, () => { if (!isTold && Shown.chosen && Shown.chosen.step === step.number) showDetail(Shown.chosen); });
   const [does, goal = "", ...others] = Picture.tellStep(run, step).split("\n");
   const rest = others.map((line) => `\n${line}`).join("");
-  const because = causes.flatMap((edge) => ["\nbecause step ", goTo(edge.from), ` ${StepWords.causeOf(edge)}`]);
-  area.replaceChildren(`${does}\n${goal}`, tellReached(run, step), rest, ...because,
-    ...effects.slice(0, 20).flatMap((number, index) => [index === 0 ? "\nneeded by " : ", ", goTo(number, String(number))]));
+  const becauseOf = (edge) => ["\nbecause step ", goTo(edge.from), ` ${StepWords.causeOf(edge)}`];
+  const because = causes.get(step.number).flatMap(becauseOf);
+  const neededBy = joined(effects.get(step.number).slice(0, 20).map(({ to }) => goTo(to)), ", ");
+  if (neededBy.length > 0) because.push("\nneeded by ", ...neededBy);
+  area.replaceChildren(`${does}\n${goal}`, tellReached(run, step), rest, ...because);
   Names.dress(area);
 }
 
@@ -156,7 +160,7 @@ function tellWhy({ goals, why: [first] }) {
 /** The circle in which a run is stuck, as sentences of the names of its processes, and their lanes alone. */
 function tellCircle(circle) {
   const told = Outcome.tellCircle(State.run, circle);
-  const words = told.sentences.flatMap((one, at) => [at > 0 ? "; " : "", ...sentenceOf(told, one)]);
+  const words = joined(told.sentences.map((one) => sentenceOf(told, one)), "; ");
   const isAlone = OnScreen.only !== null, id = isAlone ? "lanes-all" : "lanes-alone";
   const lanes = make("button", { class: "small", id }, isAlone ? "Show all lanes" : "Show these lanes alone");
   return ["A deadlock: ", ...words, ". ", lanes, " ", ...Deeds.whyInShort(State.run.why[0])];
@@ -164,15 +168,14 @@ function tellCircle(circle) {
 
 /** What a process of a circle holds and waits for, with links to the goals. */
 function sentenceOf({ names }, { who, holds, waitsFor, variable }) {
-  const how = (goal) => ({ class: "link", type: "button", "data-go-goal": goal, title: `goal ${goal}` });
-  const link = (goal) => make("button", how(goal), names.get(goal));
-  if (holds === null) return [link(who), " waits for ", link(waitsFor), ` to bind ${variable}`];
-  return [link(who), " holds ", link(holds), " and waits for ", link(waitsFor)];
+  const linkTo = (goal) => link({ "data-go-goal": goal, title: `goal ${goal}` }, names.get(goal));
+  if (holds === null) return [linkTo(who), " waits for ", linkTo(waitsFor), ` to bind ${variable}`];
+  return [linkTo(who), " holds ", linkTo(holds), " and waits for ", linkTo(waitsFor)];
 }
 
-/** Shows the lanes of the goals alone that wait for each other in a circle. */
-function showLanesAlone() {
-  OnScreen.only = new Set(Outcome.circleIn(State.run).map(({ from }) => from));
+/** Shows the lanes of the goals alone that wait for each other in a circle, or all of them. */
+function showLanes(isAlone) {
+  OnScreen.only = isAlone ? new Set(Outcome.circleIn(State.run).map(({ from }) => from)) : null;
   Deeds.draw();
   showNote();
 }
@@ -276,4 +279,4 @@ function showBusy() {
   find("stop").hidden = !busy.canStop;
 }
 
-export { showTold, showGoals, showShelf, showCount, timeRows, showBusy, showNote, showLanesAlone, followText, showDetail, showLookAt, madeWith };
+export { showTold, showGoals, showShelf, showCount, timeRows, showBusy, showNote, showLanes, followText, showDetail, showLookAt, madeWith };

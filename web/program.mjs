@@ -195,14 +195,14 @@ function setWidth(wide) {
 const width = () => find("source").getBoundingClientRect().width;
 
 const isTooLong = (given) => given.length > MOST_BYTES;
-const tellTooLong = (given) => `it has ${given.length.toLocaleString("en")} letters, and ghcdb takes a program of ${MOST_BYTES.toLocaleString("en")} bytes at most.`;
+const tellTooLong = (given) => `it has ${given.length.toLocaleString("en")} letters, and ghcdb takes a program of ${MOST_BYTES.toLocaleString("en")} bytes at most`;
 
 /** A text that no program can be is not taken: a browser stands still for seconds to show it. */
 function onPaste(event) {
   const given = event.clipboardData ? event.clipboardData.getData("text/plain") : "";
   if (!isTooLong(given)) return;
   event.preventDefault();
-  Deeds.tell(true, `The text was not pasted: ${tellTooLong(given)}`);
+  Deeds.tell(true, `The text was not pasted: ${tellTooLong(given)}.`);
 }
 
 function listenToAll() {

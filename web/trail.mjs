@@ -1,7 +1,7 @@
 // What was looked at: a trail of steps and goals on which one goes back, and notes on steps. Both are kept with the
 // session, and stand in its link.
 import Deeds from "./deeds.mjs";
-import { find, make, goTo, goToGoal } from "./elements.mjs";
+import { find, make, joined, goTo, goToGoal } from "./elements.mjs";
 import Shown from "./shown.mjs";
 import State from "./state.mjs";
 
@@ -54,7 +54,7 @@ function show() {
   const before = trail.filter(isThere).slice(-MOST_SHOWN), place = now();
   const shown = [...notes].filter(([step]) => isThere({ step }));
   find("trail").hidden = before.length < 2;
-  find("trail").replaceChildren("Looked at: ", ...before.flatMap((one, at) => [at > 0 ? " → " : "", linkTo(one)]));
+  find("trail").replaceChildren("Looked at: ", ...joined(before.map(linkTo), " → "));
   find("trail-back").disabled = before.length < (place === null ? 1 : 2);
   find("note-form").hidden = place === null || place.step === undefined;
   find("notes").hidden = shown.length === 0;
@@ -70,6 +70,7 @@ function setNote(step, words) {
   Deeds.keepSoon();
 }
 
+/** Keeps the note that was written for the step that is chosen. */
 function onNote(event) {
   const place = now(), field = find("note-text");
   event.preventDefault();
@@ -94,16 +95,6 @@ function takeUp(kept) {
 }
 
 /** After lines; another session has no trail yet. */
-function follow(what) {
-  if (what === "start") {
-    trail = [];
-    notes = new Map();
-  }
-  show();
-}
+const follow = (what) => (what === "start" ? takeUp(null) : show());
 
-function listenToAll() {
-  find("note-form").addEventListener("submit", onNote);
-}
-
-export { look, back, setNote, saved, takeUp, follow, listenToAll };
+export { look, back, setNote, onNote, saved, takeUp, follow };

@@ -15,6 +15,7 @@ export interface Places {
   "link-text": HTMLInputElement;
   overview: HTMLCanvasElement;
   help: HTMLDialogElement;
+  language: HTMLTemplateElement;
   start: HTMLFormElement;
   play: HTMLButtonElement;
   step: HTMLButtonElement;
@@ -68,7 +69,6 @@ export interface Doers {
   showSlice(numbers: Iterable<number>, others: number[]): void;
   showAsked(asked: object): void;
   lanesBottom(): number;
-  wholePicture(): string;
   markClause(clause: Lines | null): void;
   markLit(clauses: number[]): void;
   showPlace(name: string, line: number, letter: number, length: number, words?: string): void;
@@ -81,7 +81,6 @@ export interface Doers {
   tellSlice(name: string, slice: object): void;
   openMenu(chosen: object, anchor: Element): void;
   askFirst(name: string, words: string, line: string, gone: { size: number; has(number: number): boolean }, anchor: Element): void;
-  closeMenu(): void;
   showRefusal(given: Texts, refused: string, ...after: Part[]): boolean;
   notesOn(program: string): Part[];
   whyInShort(why: object): Part[];

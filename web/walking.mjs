@@ -1,22 +1,17 @@
 // Goes from one step to the next of some that are lit, and keeps the light: two buttons, the step, and what is said of
 // it.
 import Deeds from "./deeds.mjs";
-import { make } from "./elements.mjs";
+import { make, link } from "./elements.mjs";
 import * as Names from "./names.mjs";
 
-/** The step as a link that keeps the light, and what is said of it. */
-function stepParts(number, tell) {
-  const how = { class: "link", type: "button", "data-visit": number, title: `goes to step ${number}` };
-  return [make("button", how, `step ${number}`), ...tell(number)];
-}
-
 /** A row that goes along `count` steps; `numberAt` gives the number of each, and `tell` what stands behind it. */
-function along(count, numberAt, tell = () => []) {
+function along(count, numberAt, tell = (number) => []) {
   const place = make("span", { class: "dim" }), words = make("span", { role: "status" });
   let at = 0;
   const show = () => {
     place.textContent = count > 1 ? ` ${(at + 1).toLocaleString("en")} of ${count.toLocaleString("en")}: ` : "";
-    words.replaceChildren(...stepParts(numberAt(at), tell));
+    const number = numberAt(at), how = { "data-visit": number, title: `goes to step ${number}` };
+    words.replaceChildren(link(how, `step ${number}`), ...tell(number));
     Names.dress(words);
   };
   const go = (by) => () => {
