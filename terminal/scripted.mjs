@@ -1,9 +1,8 @@
 // A session whose lines come from standard input, for scripts: replies are handed on as they come, and a status tells
 // how it went.
 import { Ended } from "../front/session/program.mjs";
-import { whyRefused } from "../front/session/refused.mjs";
 import { ScriptSession, asked } from "../front/session/script_session.mjs";
-import { everyRefusal } from "../front/session/every_refusal.mjs";
+import { everyRefusal, linesAfterFirst } from "../front/session/every_refusal.mjs";
 import { withQuery } from "../front/session/words_with_query.mjs";
 import { isLetGo } from "../front/run/let_go.mjs";
 import { isWhole } from "../front/session/way_back.mjs";
@@ -134,23 +133,11 @@ async function statusOf(session, input, teller) {
 
 /** All that a program and a query are refused for, or a history, where ghcdb has ended before the session began; else none. */
 async function refusalsOf({ errors }, session) {
-  const { kept, texts, native } = session, said = errors.trim();
-  if (kept !== undefined) return [];
-  return texts.text === undefined ? [{ said, ...whyRefused(said, texts) }] : everyRefusal(texts, native, said);
+  return session.kept === undefined ? everyRefusal(session.texts, session.native, errors.trim()) : [];
 }
 
 /** Tells lines that are added to what the console says. */
 const addLines = (errors, lines) => lines.forEach((line) => errors(`${MARK}${plain(line)}\n`));
-
-/**
- * Tells why texts are refused. What ghcdb says first stands there already.
- * @param {Refusal[]} refusals
- * @param {(text: string) => void} errors
- */
-function tellWhy(refusals, errors) {
-  const [first, ...others] = refusals;
-  addLines(errors, [...first?.lines ?? [], ...others.flatMap(({ said, lines }) => [said, ...lines])]);
-}
 
 /**
  * Begins a session for the words of a command line, and gives the exit status that comes of `plays(session)`. Where the
@@ -177,7 +164,7 @@ async function withSession(words, { plays, errors, ended }) {
     if (!(error instanceof Ended)) throw error;
     const refusals = await refusalsOf(error, session);
     errors(error.errors);
-    tellWhy(refusals, errors);
+    addLines(errors, linesAfterFirst(refusals));
     await ended?.(error, refusals);
     return error.status;
   } finally {

@@ -161,4 +161,7 @@ async function everyRefusal(given, native, first) {
   return told === undefined ? [] : [told, ...more.sort(byPlace)];
 }
 
-export { everyRefusal };
+/** What is told of refusals after the words of the first, which ghcdb said itself: what helps with it, and the others. */
+const linesAfterFirst = (refusals) => refusals.flatMap(({ said, lines }, at) => (at === 0 ? lines : [said, ...lines]));
+
+export { everyRefusal, linesAfterFirst };

@@ -1,4 +1,4 @@
-// Files: written whole or not at all, and read no further than is asked for.
+// Files: written whole or not at all, and read no further than is asked for; and why one is not written.
 import fs from "node:fs";
 import path from "node:path";
 
@@ -146,4 +146,22 @@ const NO_VERSION = "is no version: save tells the whole session, save 1 the kept
 /** Why a word names no file to save into: a number is taken for a version. Undefined where it names one. */
 const whyNoName = (word) => (/^\d+$/.test(word) ? `${word} ${NO_VERSION} ./${word}` : undefined);
 
-export { beginningOf, isEndless, isFile, isNoFile, lineOf, tried, whyNoName, writeWhole };
+const HEADING = "ghc-history ";
+
+/** Why nothing is saved into a file that is there: it is no history. Undefined where it may be; of a folder writing tells. */
+function whyOtherFile(file) {
+  const head = isFile(file) ? tried(() => beginningOf(file, HEADING.length).toString("latin1"), "") : "";
+  const isOther = isEndless(file) || (head !== "" && head !== HEADING);
+  return isOther ? `${file} is there and is no history: name another file` : undefined;
+}
+
+const FULL = "the disk is full", NOT_ALLOWED = "writing it is not allowed", NO_FOLDER = "its folder is not there";
+const NOT_WRITTEN = {
+  ENOENT: NO_FOLDER, ENOTDIR: NO_FOLDER, EACCES: NOT_ALLOWED, EPERM: NOT_ALLOWED, EROFS: NOT_ALLOWED,
+  EISDIR: "it is a folder", ENOTFILE: "it is no file", ENOSPC: FULL, EDQUOT: FULL, EFBIG: "no file may be so large",
+};
+
+/** Why a file was not written, by the error that was thrown. */
+const whyNotWritten = (file, error) => `${file}: ${NOT_WRITTEN[error.code] ?? error.message}; nothing was saved`;
+
+export { beginningOf, isEndless, isFile, isNoFile, lineOf, tried, whyNoName, whyNotWritten, whyOtherFile, writeWhole };
