@@ -1,6 +1,5 @@
 // What web/console does; how it is called stands there.
 import fs from "node:fs";
-import Heap from "../front/session/heap.mjs";
 import Host from "../front/session/host.mjs";
 import { moduleOfPage } from "../front/session/engine_of_page.mjs";
 
@@ -68,14 +67,10 @@ class SystemHost extends Host {
 
 // Runs the program on words, and gives its exit status.
 function run(words) {
-  const compiled = new WebAssembly.Module(moduleOfPage());
   const host = new SystemHost([Buffer.from("ghcdb"), ...words], process.env.GHCDB_CLOSED ?? "");
-  const asked = WebAssembly.Module.imports(compiled).map(({ name }) => name);
-  const instance = new WebAssembly.Instance(compiled, { host: host.imports(asked) });
-  const exports = /** @type {import("../front/types").EngineCalls} */ (instance.exports);
-  host.join(exports.memory, new Heap(exports.memory, Number(exports.__heap_base.value)));
+  const { main } = host.instanceOf(new WebAssembly.Module(moduleOfPage()));
   try {
-    return exports.main();
+    return main();
   } catch (error) {
     if (error instanceof Host.Ended) return error.status;
     throw error;

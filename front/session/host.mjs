@@ -2,7 +2,8 @@
 //
 // The words of the command line and the files are given; standard input is fed piece by piece; what is written to standard
 // output and standard error is gathered. There are no folders, no environment and no threads.
-import { joined } from "../text/bytes.mjs";
+import { decode, joined } from "../text/bytes.mjs";
+import Heap from "./heap.mjs";
 
 const INPUT = 0, OUTPUT = 1, ERRORS = 2, FIRST_FILE = 3;
 // Errors by their numbers on Linux.
@@ -31,14 +32,18 @@ class Host {
     this.error = 0;
   }
 
-  // Joins the host to an instance of the module. `reading.before` is called before anything is read, and `reading.wait` where
-  // the program reads input that is not there yet.
-  join(memory, heap, reading) {
-    this.memory = memory;
-    this.heap = heap;
+  // Makes an instance of the module, which asks this host alone, and gives what it exports. `reading.before` is called before
+  // anything is read, and `reading.wait` where the program reads input that is not there yet.
+  instanceOf(compiled, reading) {
+    const asked = WebAssembly.Module.imports(compiled).map(({ name }) => name);
+    const { exports } = new WebAssembly.Instance(compiled, { host: this.imports(asked) });
+    const calls = /** @type {import("../types").EngineCalls} */ (exports);
+    this.memory = calls.memory;
+    this.heap = new Heap(this.memory, Number(calls.__heap_base.value));
     this.reading = reading;
-    this.features = heap.take(FEATURES);
+    this.features = this.heap.take(FEATURES);
     this.bytes(this.features, FEATURES).fill(255);
+    return calls;
   }
 
   // Adds bytes to the input that is not read yet.
@@ -67,7 +72,7 @@ class Host {
   // The bytes from a place up to a byte 0.
   textAt(place) {
     const all = new Uint8Array(this.memory.buffer);
-    return new TextDecoder().decode(all.slice(place, all.indexOf(0, place)));
+    return decode(all.slice(place, all.indexOf(0, place)));
   }
 
   // Answers that a call has failed, and keeps why for those who ask.

@@ -7,6 +7,7 @@ import Engine from "./engine.mjs";
 import Host from "./host.mjs";
 import * as Reloads from "../run/reloads.mjs";
 import * as Replies from "../protocol/replies.mjs";
+import { decode, linesOf } from "../text/bytes.mjs";
 import * as Reader from "../text/reader.mjs";
 
 const MOST_WITH_TEXTS = 3000; // steps; the goals of a longer run are not asked for
@@ -14,8 +15,6 @@ const MOST_LINES_READ = 300000; // bytes; a longer reply is handed on as it is
 const EVERY = 8192, LEAST_PAUSE = 150; // requests for memory, milliseconds: how often it says that a line is still at work
 const NOTHING = new Uint8Array(0), FIRST_OF_REFUSAL = 70; // the letter F
 
-const decode = (bytes) => new TextDecoder().decode(bytes);
-const linesOf = (bytes) => decode(bytes).split("\n").slice(0, -1);
 /** What shortens the lines of a reply: a history stays as it is. */
 const shortening = (line) => (Effects.wordOf(line) === "save" ? (told) => told : (told) => Short.line(told));
 const refusalIn = (reply) => (reply[0] === FIRST_OF_REFUSAL ? decode(reply).trim() : "");
