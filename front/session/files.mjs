@@ -3,7 +3,6 @@ import fs from "node:fs";
 import path from "node:path";
 
 const PIECE = 65_536; // bytes that are read at once
-const LINE_FEED = 10;
 
 /** What a call gives; `otherwise` where the system refuses it. */
 function tried(call, otherwise) {
@@ -48,29 +47,16 @@ function beginningOf(file, most) {
   return Buffer.concat(pieces).subarray(0, most);
 }
 
-/** The place in a piece of text where the line begins that is `left` lines further on, and how many are still left. */
-function skipLines(piece, left) {
-  let at = 0;
-  for (; left > 0; left -= 1) {
-    const end = piece.indexOf(LINE_FEED, at);
-    if (end < 0) return { at: piece.length, left };
-    at = end + 1;
-  }
-  return { at, left };
-}
-
 /** The first `most` letters of a line of a file; undefined where the file ends before it. */
 function lineOf(file, number, most) {
-  let line = "", left = number - 1;
+  let begun = "", left = number - 1; // how the line begins that no piece has ended yet, and how many lines come before
   for (const piece of piecesOf(file)) {
-    const found = skipLines(piece, left);
-    left = found.left;
-    if (found.at === piece.length) continue;
-    const end = piece.indexOf(LINE_FEED, found.at);
-    line += piece.toString("latin1", found.at, end < 0 ? piece.length : end);
-    if (end >= 0 || line.length >= most) return line.slice(0, most);
+    const lines = (begun + piece.toString("latin1")).split("\n"), line = lines[left];
+    if (left < lines.length - 1 || line?.length >= most) return line.slice(0, most);
+    left -= lines.length - 1;
+    begun = lines.at(-1).slice(0, most);
   }
-  return line === "" ? undefined : line;
+  return left === 0 && begun !== "" ? begun : undefined;
 }
 
 /** Does a process of that number run, other than this one? */
