@@ -142,13 +142,13 @@ class Engine {
   }
 
   /**
-   * A session on a program and a query, which goes on from a history where one is given.
+   * A session on a program and a query, which goes on from a history where one is given that is not empty.
    * @param {import("../types").Opening} given
    */
   open({ program, query, history }) {
     const words = [PROGRAM, "--query", query];
     const files = new Map([[PROGRAM, encode(program)]]);
-    if (history !== undefined) {
+    if (history) {
       words.push("--load", HISTORY);
       files.set(HISTORY, encode(history));
     }

@@ -78,11 +78,9 @@ function signalOf(status, signal) {
 
 // What both kinds of sessions do: one line at a time is asked, and what comes of it can be held back for a while.
 class Talk {
-  constructor() {
-    this.before = Promise.resolve(); // what was asked before
-    /** @type {Ended | undefined} */
-    this.ended = undefined;
-  }
+  before = Promise.resolve(); // what was asked before
+  /** @type {Ended | undefined} */
+  ended = undefined;
 
   /** Hands a line to the program: each kind of session does so in its own way. */
   send(line) {

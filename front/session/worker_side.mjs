@@ -33,16 +33,12 @@ class WorkerSide {
 
   /** Begins a session, from nothing or from a history. */
   open({ given }) {
-    return this.begin(given, this.opened(given));
-  }
-
-  opened({ program, query, history }) {
-    return this.engine.open({ program, query, history: history || undefined });
+    return this.begin(given, this.engine.open(given));
   }
 
   /** Begins a session at which nobody looks: it is asked alone. */
   trial({ given }) {
-    this.session = this.opened(given);
+    this.session = this.engine.open(given);
     if (this.session.refused) throw new Error(this.session.start.trim());
     return {};
   }
