@@ -23,10 +23,8 @@ const MOST_BYTES = 1_048_576; // of a line
 // A line of the input, whose pieces come one by one. Of one that is too long a byte more than allowed is kept: it is
 // refused alike.
 class Line {
-  constructor() {
-    this.pieces = [];
-    this.length = 0;
-  }
+  pieces = [];
+  length = 0;
 
   add(piece) {
     if (!this.isTooLong) this.pieces.push(piece);
@@ -78,10 +76,8 @@ const wordsOf = (line) => (line.length > MOST_BYTES ? [line] : line.toString("la
 
 // How the lines went so far.
 class Course {
-  constructor() {
-    this.wasRefused = false; // a line
-    this.hasHole = false; // a reply, which has a refusal in place of a line
-  }
+  wasRefused = false; // a line
+  hasHole = false; // a reply, which has a refusal in place of a line
 
   /** Learns lines of a reply: the first ones, or others. */
   learn(lines, isFirst) {
@@ -94,17 +90,6 @@ class Course {
 async function playLine(session, line, teller, course) {
   teller.begin(line, session);
   await teller.end(await asked(session, sent(line), (...told) => course.learn(...told), (lines) => teller.hear(lines)));
-}
-
-/** Gives the lines of the input to a session. How they went. */
-async function playLines(session, input, teller) {
-  const course = new Course();
-  for await (const line of linesOf(input)) {
-    const given = wordsOf(line);
-    if (given.length === 1 && given[0] === "quit") break;
-    if (given.length > 0) await playLine(session, line, teller, course);
-  }
-  return course;
 }
 
 /**
@@ -126,14 +111,14 @@ async function statusOfGoals(session) {
 
 /** Plays the lines of the input to their end: the exit status. */
 async function statusOf(session, input, teller) {
-  const { wasRefused, hasHole } = await playLines(session, input, teller);
-  if (wasRefused || hasHole) return wasRefused ? STATUS.refusedLine : STATUS.untold;
-  return statusOfGoals(session);
-}
-
-/** All that a program and a query are refused for, or a history, where ghcdb has ended before the session began; else none. */
-async function refusalsOf({ errors }, session) {
-  return session.kept === undefined ? everyRefusal(session.texts, session.native, errors.trim()) : [];
+  const course = new Course();
+  for await (const line of linesOf(input)) {
+    const given = wordsOf(line);
+    if (given.length === 1 && given[0] === "quit") break;
+    if (given.length > 0) await playLine(session, line, teller, course);
+  }
+  if (course.wasRefused) return STATUS.refusedLine;
+  return course.hasHole ? STATUS.untold : statusOfGoals(session);
 }
 
 /** Tells lines that are added to what the console says. */
@@ -162,7 +147,8 @@ async function withSession(words, { plays, errors, ended }) {
     return status;
   } catch (error) {
     if (!(error instanceof Ended)) throw error;
-    const refusals = await refusalsOf(error, session);
+    const { kept, texts, native } = session; // nothing is kept where the program, the query or a history was refused
+    const refusals = kept === undefined ? await everyRefusal(texts, native, error.errors.trim()) : [];
     errors(error.errors);
     addLines(errors, linesAfterFirst(refusals));
     await ended?.(error, refusals);
