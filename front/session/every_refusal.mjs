@@ -11,25 +11,21 @@ const MOST_ASKED = 60; // times that ghcdb is asked
 const NO_QUERY = "true";
 const SAID = /^(program|query): (F[2-5]) (.*)$/;
 
-/** What the native program says when it is given a program and a query; undefined where it accepts both. */
-async function refusalOfNative(text, query, native) {
+/**
+ * What ghcdb says of a program and a query; undefined where it accepts both. Without a native program the page's engine
+ * tells at once, for it only reads.
+ */
+async function refusalOf({ program: text, query }, native) {
+  if (native === undefined) {
+    const { refused, start } = new Engine(ofPage()).open({ program: text, query });
+    return refused ? start.trim() : undefined;
+  }
   const program = open([HANDED.program, "--query", query], native, new Map([[HANDED.program, Buffer.from(text)]]));
   try {
     return await unlessEnded(program.ask("goals").then(() => undefined), ({ errors }) => errors.trim());
   } finally {
     await program.kill();
   }
-}
-
-/** What the page's engine says of them: at once, for it only reads. */
-function refusalOfEngine(program, query) {
-  const session = new Engine(ofPage()).open({ program, query });
-  return session.refused ? session.start.trim() : undefined;
-}
-
-/** What ghcdb says of a program and a query; undefined where it accepts both. */
-async function refusalOf({ program, query }, native) {
-  return native === undefined ? refusalOfEngine(program, query) : refusalOfNative(program, query, native);
 }
 
 /** By the places in the texts, the query's last. */
@@ -157,8 +153,7 @@ async function everyRefusal(given, native, first) {
     if (refusals.length === MOST || !judged.takeOut(said, told[0]?.cause)) break;
     said = await refusalOf(judged, native);
   }
-  const [told, ...more] = refusals;
-  return told === undefined ? [] : [told, ...more.sort(byPlace)];
+  return [...refusals.slice(0, 1), ...refusals.slice(1).sort(byPlace)];
 }
 
 /** What is told of refusals after the words of the first, which ghcdb said itself: what helps with it, and the others. */

@@ -92,7 +92,9 @@ class WorkerSide {
   reload({ program }) {
     const { program: text, query } = this.given, fresh = this.engine.open({ program, query });
     if (fresh.refused) return { refusal: fresh.start.trim() };
-    const plan = Reloads.planOf({ before: Reader.readProgram(text), after: Reader.readProgram(program), ...this.whole() });
+    const [before, after] = [text, program].map(Reader.readProgram), records = linesOf(this.told.bytes);
+    const [saved, shelf] = ["save", "shelf"].map((line) => this.session.line(line));
+    const plan = Reloads.planOf({ before, after, records, saved, shelf });
     if (plan === undefined) return { refusal: Replies.NO_MEMORY };
     let given, session;
     for (const history of plan.histories) {
@@ -101,12 +103,6 @@ class WorkerSide {
       if (!session.refused) return { ...this.begin(given, session), given, ...Reloads.inShort(plan) };
     }
     return { refusal: session.start.trim() };
-  }
-
-  /** The lines by which the session can go on elsewhere. */
-  whole() {
-    const [saved, shelf] = ["save", "shelf"].map((line) => this.session.line(line));
-    return { records: linesOf(this.told.bytes), saved, shelf };
   }
 
   /** A session of the first steps alone. */
