@@ -208,8 +208,8 @@ class Front {
   }
 
   /** Sends lines one after another, until ^C. */
-  async sendAll(meanings) {
-    for (const meaning of meanings) if (!this.isInterrupted) await this.send(meaning);
+  async sendAll(meanings, typed = "") {
+    for (const meaning of meanings) if (!this.isInterrupted) await this.send(meaning, typed);
   }
 
   async run(meaning) {
@@ -267,10 +267,8 @@ class Front {
   async on_step({ words }) {
     if (words.length > 0) return false;
     const goals = await this.session.goalsTold(), ready = goals?.find(({ status }) => status === "ready");
-    if (goals === undefined) await this.send(meant("leap", "1"));
-    else if (ready !== undefined) await this.send(meant("step", ready.name));
-    else await this.tellNoneReady(goals);
-    return true;
+    if (goals === undefined) return this.send(meant("leap", "1"));
+    return ready === undefined ? this.tellNoneReady(goals) : this.send(meant("step", ready.name));
   }
 
   async tellNoneReady(goals) {
@@ -292,14 +290,12 @@ class Front {
   async on_back({ words: [word = "1"] }) {
     if (!/^\d{1,9}$/.test(word)) return this.note(usageOf("back"));
     for (let left = Number(word); left > 0 && !this.isInterrupted; left -= 1) if (!await this.takeBack()) break;
-    return undefined;
   }
 
   async on_show({ words, isWhole }) {
     if (words.length > 0) return false;
     if (this.session.variables.length === 0) this.note("the query has no variables");
-    await this.sendAll(this.session.variables.map((name) => ({ ...meant("show", name), isWhole })));
-    return true;
+    return this.sendAll(this.session.variables.map((name) => ({ ...meant("show", name), isWhole })));
   }
 
   async on_stuck({ name }) {

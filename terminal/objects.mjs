@@ -85,9 +85,9 @@ const madeGoal = ({ goal: name, how, text }) => ({ goal: name, [how === "written
 function judged(reply) {
   const { left, made, standing: stands, ask, fault, ...call } = BlameLines.read(reply);
   return given({
-    given: call.given, asked: call.asked, inTurns: call.inTurns, gave: call.gave, left: left && standing(left.goal, left),
-    made: made.map(madeGoal), taken: call.taken, stands: stands && standing(stands.goal, stands),
-    ask: ask?.goal, of: ask?.of, fault: fault && given(fault),
+    given: call.given, asked: call.asked, inTurns: call.inTurns, gave: call.gave,
+    left: left && standing(left.goal, left), made: made.map(madeGoal), taken: call.taken,
+    stands: stands && standing(stands.goal, stands), ask: ask?.goal, of: ask?.of, fault: fault && given(fault),
   });
 }
 

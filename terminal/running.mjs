@@ -31,8 +31,7 @@ const Running = part({
     if (taken === most || this.isInterrupted) return true;
     const line = taken === 0 || meaning.words.length === 0 ? meaning.line : `leap ${most - taken}`;
     this.echo(line, typed);
-    await this.tellRun(await this.runOn(most - taken), { ...meaning, line });
-    return true;
+    return this.tellRun(await this.runOn(most - taken), { ...meaning, line });
   },
 
   /**

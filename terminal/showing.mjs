@@ -54,7 +54,6 @@ const Showing = part({
     else await this.showAll(lines);
     const isCut = lines.some((line, place) => line !== reply[place]);
     if (isCut) this.note(`… stands for what is left out; ${all} shows it`);
-    return undefined;
   },
 
   /** Shows lines; of many the first and the last, and `tail` lines more that tell of all. */
@@ -72,7 +71,6 @@ const Showing = part({
       if (at > 0 && this.isInterrupted) return this.note(`.. ${plural(lines.length - at, "line")} more ..`);
       lines.slice(at, at + AT_ONCE).forEach((line) => this.out(line));
     }
-    return undefined;
   },
 
   noteAll(lines) {
@@ -89,7 +87,6 @@ const Showing = part({
     if (word === undefined) return this.tellDisplayed();
     const name = Own.signOf(this.session, word), reply = await this.send(meant("show", name));
     if (!Replies.isRefused(reply) && !this.displayed.includes(name)) this.displayed.push(name);
-    return undefined;
   },
 
   on_undisplay({ words: [word] }) {

@@ -1,8 +1,10 @@
 // Files: written whole or not at all, and read no further than is asked for; and why one is not written.
 import fs from "node:fs";
+import os from "node:os";
 import path from "node:path";
 
 const PIECE = 65_536; // bytes that are read at once
+const NOWHERE = "/dev/null"; // no file stands below it: nothing is read, and nothing can be written
 
 /** What a call gives; `otherwise` where the system refuses it. */
 function tried(call, otherwise) {
@@ -20,6 +22,9 @@ const isNoFile = (file) => tried(() => !fs.statSync(file).isFile(), false);
 
 /** Is it a device or a pipe, which might be read without end? */
 const isEndless = (file) => isNoFile(file) && !fs.statSync(file).isDirectory();
+
+/** The place of a file in the home folder. Where HOME is empty it is nowhere, and not in the folder where one stands. */
+const inHome = (name) => path.join(os.homedir() || NOWHERE, name);
 
 /** The bytes of a file, piece by piece. */
 function* piecesOf(file) {
@@ -150,4 +155,6 @@ const NOT_WRITTEN = {
 /** Why a file was not written, by the error that was thrown. */
 const whyNotWritten = (file, error) => `${file}: ${NOT_WRITTEN[error.code] ?? error.message}; nothing was saved`;
 
-export { beginningOf, isEndless, isFile, isNoFile, lineOf, tried, whyNoName, whyNotWritten, whyOtherFile, writeWhole };
+export {
+  beginningOf, inHome, isEndless, isFile, isNoFile, lineOf, tried, whyNoName, whyNotWritten, whyOtherFile, writeWhole,
+};
