@@ -35,10 +35,8 @@ class SystemHost extends Host {
     }
   }
 
-  openAt(place) {
-    const all = new Uint8Array(this.memory.buffer);
-    const name = Buffer.from(all.slice(place, all.indexOf(0, place)));
-    return this.asked(undefined, () => fs.openSync(name, "r"));
+  openFile(name) {
+    return this.asked(undefined, () => fs.openSync(Buffer.from(name), "r"));
   }
 
   read(descriptor, to, most) {
@@ -58,10 +56,6 @@ class SystemHost extends Host {
 
   close(descriptor) {
     return this.asked(descriptor, () => (fs.closeSync(descriptor), 0));
-  }
-
-  calls() {
-    return { ...super.calls(), open: (name) => this.openAt(Number(name)) };
   }
 }
 

@@ -70,9 +70,9 @@ class Host {
   }
 
   // The bytes from a place up to a byte 0.
-  textAt(place) {
+  bytesAt(place) {
     const all = new Uint8Array(this.memory.buffer);
-    return decode(all.slice(place, all.indexOf(0, place)));
+    return all.slice(place, all.indexOf(0, place));
   }
 
   // Answers that a call has failed, and keeps why for those who ask.
@@ -99,9 +99,9 @@ class Host {
     return word.length <= room ? word.length : -2;
   }
 
-  // A descriptor of a file, from whose beginning it is read.
+  // A descriptor of a file, from whose beginning it is read. Its name comes as bytes.
   openFile(name) {
-    const bytes = this.files.get(name);
+    const bytes = this.files.get(decode(name));
     if (bytes === undefined) return this.fail(NO_SUCH_FILE);
     this.lastFile += 1;
     this.open.set(this.lastFile, { bytes, at: 0 });
@@ -159,7 +159,7 @@ class Host {
       rattle_arg: (index, to, room) => wide(this.word(Number(index), Number(to), Number(room))),
       rattle_errno: () => this.error,
       rattle_set_errno: (error) => { this.error = error; },
-      open: (name) => this.openFile(this.textAt(Number(name))),
+      open: (name) => this.openFile(this.bytesAt(Number(name))),
       read: (descriptor, to, most) => wide(this.read(descriptor, Number(to), Number(most))),
       write: (descriptor, from, length) => wide(this.write(descriptor, Number(from), Number(length))),
       lseek: (descriptor, offset, from) => wide(this.seek(descriptor, Number(offset), from)),
