@@ -7,7 +7,6 @@ import { Ended, unlessEnded } from "../front/session/program.mjs";
 import { NotTold, Session } from "../front/session/session.mjs";
 import { helpLines, meaningOf, meant, suggestionFor, usageOf, whyNoCommand } from "../front/protocol/commands.mjs";
 import Beginning from "./beginning.mjs";
-import Choosing from "./choosing.mjs";
 import Judging from "./judging.mjs";
 import * as Own from "../front/run/own.mjs";
 import { Patterns } from "../front/run/patterns.mjs";
@@ -195,7 +194,8 @@ class Front {
   /** Sends a line of the console, and tells its reply with what is to be added. Gives the reply. */
   async send(meaning, typed = "") {
     this.echo(meaning.line, typed);
-    const reply = await this.run(meaning);
+    this.isRunning = meaning.name === "skip";
+    const reply = await this.session.ask(meaning.line).finally(() => { this.isRunning = false; });
     if (reply[0] === "F25 command") {
       this.out(reply[0]);
       this.note(...whyNoCommand(meaning));
@@ -210,15 +210,6 @@ class Front {
   /** Sends lines one after another, until ^C. */
   async sendAll(meanings, typed = "") {
     for (const meaning of meanings) if (!this.isInterrupted) await this.send(meaning, typed);
-  }
-
-  async run(meaning) {
-    this.isRunning = meaning.name === "skip";
-    try {
-      return await this.session.ask(meaning.line);
-    } finally {
-      this.isRunning = false;
-    }
   }
 
   /**
@@ -352,6 +343,6 @@ class Front {
   }
 }
 
-Object.assign(Front.prototype, Beginning, Choosing, Judging, Running, Showing, Spying);
+Object.assign(Front.prototype, Beginning, Judging, Running, Showing, Spying);
 
 export { Front };
