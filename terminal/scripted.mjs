@@ -86,12 +86,6 @@ class Course {
   }
 }
 
-/** Gives a line to a session; `teller` hears of its reply as it comes. */
-async function playLine(session, line, teller, course) {
-  teller.begin(line, session);
-  await teller.end(await asked(session, sent(line), (...told) => course.learn(...told), (lines) => teller.hear(lines)));
-}
-
 /**
  * The status of what is left at the end: goals, or else a variable of the query that a step let go. Goals that are too
  * long to be told are left, whatever they are.
@@ -109,13 +103,15 @@ async function statusOfGoals(session) {
   return await isLetGo(session) ? STATUS.letGo : STATUS.done;
 }
 
-/** Plays the lines of the input to their end: the exit status. */
+/** Plays the lines of the input to their end; `teller` hears of each reply as it comes. The exit status. */
 async function statusOf(session, input, teller) {
-  const course = new Course();
+  const course = new Course(), learn = (...told) => course.learn(...told), hear = (lines) => teller.hear(lines);
   for await (const line of linesOf(input)) {
     const given = wordsOf(line);
     if (given.length === 1 && given[0] === "quit") break;
-    if (given.length > 0) await playLine(session, line, teller, course);
+    if (given.length === 0) continue;
+    teller.begin(line, session);
+    await teller.end(await asked(session, sent(line), learn, hear));
   }
   if (course.wasRefused) return STATUS.refusedLine;
   return course.hasHole ? STATUS.untold : statusOfGoals(session);

@@ -287,12 +287,10 @@ class EngineSession extends Talk {
   }
 }
 
-const isProgram = (file) => tried(() => fs.accessSync(file, fs.constants.X_OK) ?? true, false);
-
 /** The native program to use: the one that is named, else the proved one where it was built; undefined for the page's engine. */
 function nativeProgram(named = process.env.GHCDB) {
   if (named === "page") return undefined;
-  return named || (isProgram(NATIVE) ? NATIVE : undefined);
+  return named || tried(() => fs.accessSync(NATIVE, fs.constants.X_OK) ?? NATIVE);
 }
 
 /**

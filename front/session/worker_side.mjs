@@ -19,12 +19,6 @@ const NOTHING = new Uint8Array(0), FIRST_OF_REFUSAL = 70; // the letter F
 const shortening = (line) => (Effects.wordOf(line) === "save" ? (told) => told : (told) => Short.line(told));
 const refusalIn = (reply) => (reply[0] === FIRST_OF_REFUSAL ? decode(reply).trim() : "");
 
-/** The numbers of the steps that a reply tells to be taken back. */
-function goneIn(reply) {
-  const lines = Array.isArray(reply) ? reply : linesOf(reply);
-  return lines.flatMap((line) => Replies.readUndone(line) ?? []);
-}
-
 class WorkerSide {
   constructor(engine) {
     this.engine = engine;
@@ -69,8 +63,10 @@ class WorkerSide {
     return come === null ? this.look() : this.changed({ kept, come });
   }
 
-  /** The same, where steps have gone: they are told by their numbers. */
-  takenLook(gone) {
+  /** The same, where steps have gone: a reply, a list of lines or bytes, tells their numbers. */
+  takenLook(reply) {
+    const lines = Array.isArray(reply) ? reply : linesOf(reply);
+    const gone = lines.flatMap((line) => Replies.readUndone(line) ?? []);
     this.told.take(new Set(gone));
     return this.changed({ gone: Float64Array.from(gone), come: NOTHING });
   }
@@ -107,8 +103,7 @@ class WorkerSide {
 
   /** A session of the first steps alone. */
   after(count) {
-    this.second = this.second ?? this.aside();
-    const { second } = this, { session, numbers } = second;
+    const second = this.second ??= this.aside(), { session, numbers } = second;
     for (; second.count > count; second.count--) session.line(`undo ${numbers[second.count - 1]}`);
     for (; second.count < count; second.count++) session.line(`redo ${numbers[second.count]}`);
     return session;
@@ -141,7 +136,7 @@ class WorkerSide {
   lookAfter(lines, reply) {
     const effects = lines.map(Effects.effectOf);
     if (effects.every((effect) => effect === "looks")) return null;
-    if (effects.length === 1 && effects[0] === "takes") return this.takenLook(goneIn(reply));
+    if (effects.length === 1 && effects[0] === "takes") return this.takenLook(reply);
     return effects.every((effect) => ["adds", "looks"].includes(effect)) ? this.addedLook() : this.look();
   }
 
