@@ -10,8 +10,6 @@ import { readWords, isSession } from "../front/protocol/words.mjs";
 import * as Replies from "../front/protocol/replies.mjs";
 import { MARK, plain } from "./plain.mjs";
 
-/** @typedef {import("../front/types").Refusal} Refusal */
-
 const STATUS = {
   done: 0, commandLine: 2, device: 3, refusedLine: 4, failed: 5, waits: 6, unfinished: 7, otherValue: 8, untold: 9,
   letGo: 10,
@@ -127,7 +125,7 @@ const addLines = (errors, lines) => lines.forEach((line) => errors(`${MARK}${pla
  * @param {string[]} words
  * @param {{
  *   plays: (session: ScriptSession) => Promise<number>, errors: (text: string) => void,
- *   ended?: (error: Ended, refusals: Refusal[]) => unknown,
+ *   ended?: (error: Ended, refusals: import("../front/types").Refusal[]) => unknown,
  * }} takers
  */
 async function withSession(words, { plays, errors, ended }) {

@@ -66,7 +66,7 @@ class Run {
 
   // Ends the input.
   end() {
-    this.host.endInput();
+    this.host.inputEnded = true;
     if (this.waits) this.goOn();
   }
 

@@ -80,9 +80,7 @@ const isBefore = (place, other) => place.line < other.line || (place.line === ot
 // The texts as they are judged, after what was refused is out.
 class Judged {
   constructor({ text, query, file = "program", load }) {
-    this.file = file;
-    this.load = load;
-    this.originals = { text, query };
+    this.given = { text, query, file, load };
     this.readable = text; // without what is no syntax
     this.text = text; // without all that was refused
     this.query = query;
@@ -113,16 +111,15 @@ class Judged {
 
   /** The refusal with its cause, in a list, told of the text as it was; none where it may be due to what is out. */
   told(said) {
-    const { who, number, rest, clause } = this.read(said), { file, query, load, originals } = this;
+    const { who, number, rest, clause } = this.read(said), { query, given } = this;
     if (number === "F5" && (this.isOpen || this.names.has(/^undefined (\w+)\//.exec(rest)[1]))) return [];
     const mends = number === "F3" || number === "F4" ? this.mends.get(clause) ?? [] : [];
     const text = mends.reduce((before, mend) => mend(before) ?? before, this.readable);
-    const { lines, cause } = whyRefused(said, { text, query, file, load });
+    const { lines, cause } = whyRefused(said, { ...given, text, query });
     if (cause === undefined) return [{ said, lines, cause }];
     const key = `${who} ${cause.line}:${cause.column}`, isTold = number !== "F5" && this.places.has(key);
     this.places.add(key);
-    const original = who === "query" ? originals.query : originals.text;
-    return isTold ? [] : [{ said, lines: Causes.linesOf(cause, original), cause }];
+    return isTold ? [] : [{ said, lines: Causes.linesOf(cause, who === "query" ? given.query : given.text), cause }];
   }
 
   /** Takes out what was refused, of which `cause` was told; false where that cannot be. */
@@ -143,8 +140,8 @@ class Judged {
 
   /** Takes a goal out that is no syntax; its clause where that does not help, and where no goal is wrong. */
   takeOutOfProgram(read) {
-    const isSame = this.isSame(read), now = { before: this.text, place: read.place };
-    const { before, place } = isSame ? this.taken : now;
+    const isSame = this.isSame(read);
+    const { before, place } = isSame ? this.taken : { before: this.text, place: read.place };
     const without = TakingOut.withoutPlace(before, place, isSame);
     if (without === undefined || without.text === before) return false;
     this.taken = without.end && { who: read.who, before, place, ...without };

@@ -106,11 +106,6 @@ function syncFolder(folder) {
   fs.closeSync(to);
 }
 
-/** The error of a place that is there and is no file. */
-function notAFile(found) {
-  return Object.assign(new Error("it is no file"), { code: found.isDirectory() ? "EISDIR" : "ENOTFILE" });
-}
-
 /**
  * Writes a text into a file, whole or not at all: into another file beside it, which then takes its place. So the old
  * file stands until the new one is on the disk. A symbolic link is followed. `mode` is for a file that is not there
@@ -118,7 +113,9 @@ function notAFile(found) {
  */
 function writeWhole(file, text, mode = 0o666) {
   const place = tried(() => fs.realpathSync(file), file), old = fs.statSync(place, { throwIfNoEntry: false });
-  if (old !== undefined && !old.isFile()) throw notAFile(old);
+  if (old !== undefined && !old.isFile()) {
+    throw Object.assign(new Error("it is no file"), { code: old.isDirectory() ? "EISDIR" : "ENOTFILE" });
+  }
   if (old !== undefined) fs.accessSync(place, fs.constants.W_OK);
   takeAwayLeftovers(place);
   const made = `${place}.${process.pid}.new`;

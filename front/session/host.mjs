@@ -27,7 +27,7 @@ class Host {
     this.full = full;
     this.open = new Map([[INPUT, { bytes: new Uint8Array(0), at: 0 }]]); // by their descriptors bytes, and where they are read next
     this.lastFile = FIRST_FILE - 1;
-    this.inputEnded = false;
+    this.inputEnded = false; // does the input end after what was fed?
     this.written = new Map([[OUTPUT, []], [ERRORS, []]]);
     this.error = 0;
   }
@@ -50,11 +50,6 @@ class Host {
   feed(bytes) {
     const { bytes: before, at } = this.open.get(INPUT);
     this.open.set(INPUT, { bytes: joined([before.subarray(at), bytes]), at: 0 });
-  }
-
-  // Behind what was fed, the input ends.
-  endInput() {
-    this.inputEnded = true;
   }
 
   // What was written to a stream since it was taken last.
