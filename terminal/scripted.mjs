@@ -10,6 +10,8 @@ import { readWords, isSession } from "../front/protocol/words.mjs";
 import * as Replies from "../front/protocol/replies.mjs";
 import { MARK, plain } from "./plain.mjs";
 
+/** @typedef {import("../front/types").Refusal} Refusal */
+
 const STATUS = {
   done: 0, commandLine: 2, device: 3, refusedLine: 4, failed: 5, waits: 6, unfinished: 7, otherValue: 8, untold: 9,
   letGo: 10,
@@ -72,29 +74,18 @@ const sent = (line) => (line.at(-1) === RETURN ? Buffer.concat([line, Buffer.fro
 /** The words of a line; of one that is too long, which has a reply whatever it holds, itself. */
 const wordsOf = (line) => (line.length > MOST_BYTES ? [line] : line.toString("latin1").split(" ").filter(Boolean));
 
-// How the lines went so far.
-class Course {
-  wasRefused = false; // a line
-  hasHole = false; // a reply, which has a refusal in place of a line
-
-  /** Learns lines of a reply: the first ones, or others. */
-  learn(lines, isFirst) {
-    if (isFirst && Replies.isRefused(lines)) this.wasRefused = true;
-    else if (!isWhole(lines)) this.hasHole = true;
-  }
-}
-
 /**
  * The status of what is left at the end: goals, or else a variable of the query that a step let go. Goals that are too
  * long to be told are left, whatever they are.
  */
 async function statusOfGoals(session) {
-  const course = new Course(), statuses = new Set();
+  const statuses = new Set();
+  let hasHole = false;
   const last = await asked(session, "goals", (lines) => {
-    course.learn(lines, false);
+    hasHole ||= !isWhole(lines);
     Replies.readGoals(lines).forEach(({ status }) => statuses.add(status));
   }, async () => {});
-  if (course.hasHole) return STATUS.untold;
+  if (hasHole) return STATUS.untold;
   if (statuses.has("failed")) return STATUS.failed;
   if (statuses.has("ready") || statuses.has("stream") || Replies.isRefused(last)) return STATUS.unfinished;
   if (statuses.size > 0) return STATUS.waits;
@@ -103,7 +94,12 @@ async function statusOfGoals(session) {
 
 /** Plays the lines of the input to their end; `teller` hears of each reply as it comes. The exit status. */
 async function statusOf(session, input, teller) {
-  const course = new Course(), learn = (...told) => course.learn(...told), hear = (lines) => teller.hear(lines);
+  const hear = (lines) => teller.hear(lines);
+  let wasRefused = false, hasHole = false; // a line; a reply, which has a refusal in place of a line
+  const learn = (lines, isFirst) => {
+    if (isFirst && Replies.isRefused(lines)) wasRefused = true;
+    else if (!isWhole(lines)) hasHole = true;
+  };
   for await (const line of linesOf(input)) {
     const given = wordsOf(line);
     if (given.length === 1 && given[0] === "quit") break;
@@ -111,8 +107,8 @@ async function statusOf(session, input, teller) {
     teller.begin(line, session);
     await teller.end(await asked(session, sent(line), learn, hear));
   }
-  if (course.wasRefused) return STATUS.refusedLine;
-  return course.hasHole ? STATUS.untold : statusOfGoals(session);
+  if (wasRefused) return STATUS.refusedLine;
+  return hasHole ? STATUS.untold : statusOfGoals(session);
 }
 
 /** Tells lines that are added to what the console says. */
@@ -120,15 +116,15 @@ const addLines = (errors, lines) => lines.forEach((line) => errors(`${MARK}${pla
 
 /**
  * Begins a session for the words of a command line, and gives the exit status that comes of `plays(session)`. Where the
- * program ends by itself, `errors` takes texts that say why, and `ended(error, refusals)` hears of it, with all that it
- * refuses of its texts.
+ * program ends by itself, `errors` takes texts that say why, and `ended(error, refusals)` of the teller hears of it,
+ * with all that it refuses of its texts.
  * @param {string[]} words
  * @param {{
  *   plays: (session: ScriptSession) => Promise<number>, errors: (text: string) => void,
- *   ended?: (error: Ended, refusals: import("../front/types").Refusal[]) => unknown,
+ *   teller?: { ended: (error: Ended, refusals: Refusal[]) => unknown },
  * }} takers
  */
-async function withSession(words, { plays, errors, ended }) {
+async function withSession(words, { plays, errors, teller }) {
   if (!isSession(readWords(words))) {
     errors("PROGRAM --query QUERY and the options of a session are wanted\n");
     return STATUS.commandLine;
@@ -145,7 +141,7 @@ async function withSession(words, { plays, errors, ended }) {
     const refusals = kept === undefined ? await everyRefusal(texts, native, error.errors.trim()) : [];
     errors(error.errors);
     addLines(errors, linesAfterFirst(refusals));
-    await ended?.(error, refusals);
+    await teller?.ended(error, refusals);
     return error.status;
   } finally {
     await session.program?.kill(); // whatever it is at
@@ -158,8 +154,7 @@ async function withSession(words, { plays, errors, ended }) {
  * program has ended by itself, with all that it refuses of its texts. The exit status.
  */
 function play(words, input, teller, errors) {
-  const ended = (error, refusals) => teller.ended(error, refusals);
-  return withSession(words, { plays: (session) => statusOf(session, input, teller), errors, ended });
+  return withSession(words, { plays: (session) => statusOf(session, input, teller), errors, teller });
 }
 
 /** Writes a text to standard output; it is done when the text was taken. */
