@@ -1,5 +1,5 @@
-// Plays a lesson, a text in Markdown whose blocks ```ghcdb hold programs, queries and typed lines: what is typed gets its
-// replies, and a run its picture. The text that comes is Markdown.
+// Plays a lesson, a text in Markdown whose blocks ```ghcdb hold programs, queries and typed lines: what is typed gets
+// its replies, and a run its picture. The text that comes is Markdown.
 import fs from "node:fs";
 import os from "node:os";
 import path from "node:path";

@@ -1,6 +1,6 @@
 // What the terminal does for runs: in slices, so that ^C keeps what was done; past the spied goal at which one stopped,
-// past goals that fit no pattern, and until a goal or a step is there, or a variable is bound. What is sent are lines of
-// the console: `leap K` and `step G`.
+// past goals that fit no pattern, and until a goal or a step is there, or a variable is bound. What is sent are lines
+// of the console: `leap K` and `step G`.
 import { meant, usageOf } from "../front/protocol/commands.mjs";
 import * as Replies from "../front/protocol/replies.mjs";
 import { plural, some } from "../front/run/reasons.mjs";

@@ -193,7 +193,7 @@ async function everyRefusal(given, native, first) {
   return [...refusals.slice(0, 1), ...refusals.slice(1).sort(byPlace)];
 }
 
-/** What is told of refusals after the words of the first, which ghcdb said itself: what helps with it, and the others. */
+/** What is told after the words of the first refusal, which ghcdb said itself: what helps with it, and the others. */
 const linesAfterFirst = (refusals) => refusals.flatMap(({ said, lines }, at) => (at === 0 ? lines : [said, ...lines]));
 
 export { everyRefusal, linesAfterFirst, whyNotRead };

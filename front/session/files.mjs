@@ -23,7 +23,7 @@ const isNoFile = (file) => tried(() => !fs.statSync(file).isFile(), false);
 /** Is it a device or a pipe, which might be read without end? */
 const isEndless = (file) => isNoFile(file) && !fs.statSync(file).isDirectory();
 
-/** The place of a file in the home folder. Where HOME is empty it is nowhere, and not in the folder where one stands. */
+/** The place of a file in the home folder. Where HOME is empty it is nowhere, and not in the folder one stands in. */
 const inHome = (name) => path.join(os.homedir() || NOWHERE, name);
 
 /** The bytes of a file, piece by piece. */
@@ -136,7 +136,7 @@ const whyNoName = (word) => (/^\d+$/.test(word) ? `${word} ${NO_VERSION} ./${wor
 
 const HEADING = "ghc-history ";
 
-/** Why nothing is saved into a file that is there: it is no history. Undefined where it may be; of a folder writing tells. */
+/** Why nothing is saved into a file that is no history. Undefined where it may be saved; of a folder writing tells. */
 function whyOtherFile(file) {
   const head = isFile(file) ? tried(() => beginningOf(file, HEADING.length).toString("latin1"), "") : "";
   const isOther = isEndless(file) || (head !== "" && head !== HEADING);

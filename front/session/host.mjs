@@ -32,8 +32,8 @@ class Host {
     this.error = 0;
   }
 
-  // Makes an instance of the module, which asks this host alone, and gives what it exports. `reading.before` is called before
-  // anything is read, and `reading.wait` where the program reads input that is not there yet.
+  // Makes an instance of the module, which asks this host alone, and gives what it exports. `reading.before` is called
+  // before anything is read, and `reading.wait` where the program reads input that is not there yet.
   instanceOf(compiled, reading) {
     const asked = WebAssembly.Module.imports(compiled).map(({ name }) => name);
     const { exports } = new WebAssembly.Instance(compiled, { host: this.imports(asked) });
