@@ -1,12 +1,15 @@
 // What the terminal does where a session begins in place of another one: with the program as its file has it now, or
-// with another query. Where what is asked for is refused, the session before stands.
+// with another query; or where the steps go on under the program as it is now, as far as its clauses are still there.
+// Where what is asked for is refused, the session before stands.
 import { Blaming } from "../front/run/blaming.mjs";
 import { Patterns } from "../front/run/patterns.mjs";
 import { plural } from "../front/run/reasons.mjs";
+import * as ReloadPlan from "../front/run/reload_plan.mjs";
 import { usageOf } from "../front/protocol/commands.mjs";
 import { wordsOfQuery } from "../front/protocol/words.mjs";
 import { isNoFile } from "../front/session/files.mjs";
 import { unlessEnded } from "../front/session/program.mjs";
+import { NO_MEMORY, changesOf, keptOf, probeOf, reloadOf, reloadedLines } from "../front/session/reloading.mjs";
 import { Session } from "../front/session/session.mjs";
 import { part } from "./part.mjs";
 
@@ -26,8 +29,7 @@ const Beginning = part({
   /** Is another session accepted, which begins? Where it is refused, tells why. */
   isAccepted(next, beginning) {
     return unlessEnded(beginning.then(() => true), async (ended) => {
-      this.tellRefusal(ended, next, this.out);
-      await this.tellOthers(ended, next, this.out);
+      await this.tellRefusals(ended, next, this.out);
       this.note("the session before stands");
       return false;
     });
@@ -43,14 +45,19 @@ const Beginning = part({
     return true;
   },
 
+  /** Can the program's file be read again? Where it cannot, tells so. */
+  canReadAgain() {
+    const { file } = this.session.given, isGone = isNoFile(file);
+    if (isGone) this.note(`${file} is no file that can be read again; the session stands`);
+    return !isGone;
+  },
+
   async on_restart() {
-    if (this.warnsOfLoss("restart")) return;
-    const { words, native, given: { file } } = this.session;
-    if (isNoFile(file)) this.note(`${file} is no file that can be read again; the session stands`);
-    else if (await this.goOnWith(new Session(words, native))) {
-      this.patterns = new Patterns(); // a session that begins anew spies nothing
-      this.greet();
-    }
+    const { words, native } = this.session;
+    if (this.warnsOfLoss("restart") || !this.canReadAgain()) return;
+    if (!await this.goOnWith(new Session(words, native))) return;
+    this.patterns = new Patterns(); // a session that begins anew spies nothing
+    this.greet();
   },
 
   /** The program is the one that the session has, whatever its file holds now. */
@@ -61,6 +68,35 @@ const Beginning = part({
     if (!await this.goOnWith(new Session(wordsOfQuery(words, rest), native, { program: bytes }))) return undefined;
     Object.assign(this, { patterns: new Patterns(), displayed: [] });
     return this.note(`begun anew with the query ${rest}`);
+  },
+
+  async on_reload() {
+    const { session } = this, probe = probeOf(session);
+    if (!this.canReadAgain() || !await this.isAccepted(probe, probe.tryOut())) return undefined;
+    if (probe.bytes.equals(session.bytes)) return this.note("the program's file is as it was; the session stands");
+    const reload = await reloadOf(session, probe);
+    return reload === undefined ? this.note(NO_MEMORY) : this.proposeReload(reload);
+  },
+
+  /** Shows what has changed, and which steps go; where some do, asks before they do. */
+  async proposeReload(reload) {
+    const { plan, unshelved } = reload, act = () => this.reloadBy(reload);
+    await this.noteAll(changesOf(reload));
+    if (plan.going.length + unshelved.length === 0) return act();
+    this.question = act;
+    return this.note(`y reloads and keeps ${keptOf(plan)}; any other line leaves the session as it is`);
+  },
+
+  /** Another session takes the place of this one: on the new program, with the steps that stay. */
+  async reloadBy(reload) {
+    const { plan, unspied, handed } = reload, { words, native } = this.session;
+    const next = new Session(words, native, handed);
+    if (!await this.goOnWith(next)) return;
+    next.savedAt = undefined; // it stands in no file yet
+    unspied.forEach((predicate) => this.patterns.forget(predicate));
+    this.displayed = this.displayed.map((name) => ReloadPlan.nameAfter(plan, name)).filter(Boolean);
+    this.tellNotes();
+    this.note(...reloadedLines(reload));
   },
 });
 

@@ -7,24 +7,18 @@ import { Ended, unlessEnded } from "../front/session/program.mjs";
 import { NotTold, Session } from "../front/session/session.mjs";
 import { helpLines, meaningOf, meant, suggestionFor, usageOf, whyNoCommand } from "../front/protocol/commands.mjs";
 import Beginning from "./beginning.mjs";
-import Choosing from "./choosing.mjs";
-import Displaying from "./displaying.mjs";
 import Judging from "./judging.mjs";
 import * as Own from "../front/run/own.mjs";
 import { Patterns } from "../front/run/patterns.mjs";
 import { MARK, plain } from "./plain.mjs";
-import { whyRefused } from "../front/session/refused.mjs";
-import { everyRefusal } from "../front/session/every_refusal.mjs";
-import { whyNoName } from "../front/session/files.mjs";
-import Reloading from "./reloading.mjs";
+import { everyRefusal, linesAfterFirst } from "../front/session/every_refusal.mjs";
+import { whyNoName, whyNotWritten, whyOtherFile } from "../front/session/files.mjs";
 import Running from "./running.mjs";
 import { Showing, withoutAll } from "./showing.mjs";
-import * as Saving from "./saving.mjs";
 import Spying from "./spying.mjs";
 import { plural } from "../front/run/reasons.mjs";
 import { notesAfter } from "../front/run/telling.mjs";
 import * as Unsaved from "./unsaved.mjs";
-import Watching from "./watching.mjs";
 
 const MOST_NOTES = 6; // on a program that are shown
 const HEARD_LATE = 300; // milliseconds after ^C in which a line that is no long run may still answer
@@ -34,6 +28,10 @@ const LEFT_LATE = 60_000; // milliseconds in which the last line is ended when t
 const RUN_ENDED = "the run was ended; the session stands as before it";
 const LINE_ENDED = "the line was ended; the session stands as before it";
 const ASKING_ENDED = "the line was ended; the session stands";
+
+// What a refusal to tell the history means.
+const NO_ROOM = "memory was refused for it, so nothing was saved: undo or roll some steps, or save again";
+const NOT_ALONE = "save alone writes a history with what was asked for";
 
 const PROMPTS = /^(> )+/;
 const isYes = (typed) => /^y(es)?$/.test(typed.trim()), isNo = (typed) => /^no?$/.test(typed.trim());
@@ -66,10 +64,7 @@ class Front {
 
   /** Starts the program; where it is refused, says why. Afterwards it has ended, or has greeted. */
   async begin() {
-    await unlessEnded(this.start(this.session), (ended) => {
-      this.finish(ended);
-      return this.tellOthers(ended, this.session, this.errors);
-    });
+    await unlessEnded(this.start(this.session), (ended) => this.finish(ended));
     if (this.hasEnded) return;
     this.greet();
     for (const { place, file, query } of Unsaved.left(this.session.given.load)) {
@@ -99,7 +94,7 @@ class Front {
   finish(ended) {
     this.hasEnded = true;
     this.status = ended.status;
-    this.tellRefusal(ended, this.session, this.errors);
+    return this.tellRefusals(ended, this.session, this.errors);
   }
 
   /** Nobody asked for the program's end: another one begins where the session stood before the line. */
@@ -107,25 +102,19 @@ class Front {
     try {
       await this.session.endRun();
     } catch (error) {
-      this.finish(ended);
+      await this.finish(ended);
       this.note(error.message);
       return this.leave();
     }
-    this.tellRefusal(ended, this.session, this.errors);
+    await this.tellRefusals(ended, this.session, this.errors);
     return this.note("the program was started again; the session stands as before the last line");
   }
 
-  tellRefusal({ errors }, session, tell) {
-    for (const line of errors.trimEnd().split("\n")) {
-      tell(line);
-      whyRefused(line, session.texts).lines.forEach((told) => tell(MARK + told));
-    }
-  }
-
-  /** What else a program and a query are refused for. */
-  async tellOthers({ errors }, { texts, native }, tell) {
-    const [, ...others] = await everyRefusal(texts, native, errors.trim());
-    for (const { said, lines } of others) [said, ...lines].forEach((line) => tell(MARK + line));
+  /** Tells what a program said that has ended, what helps, and what else a program and a query are refused for. */
+  async tellRefusals({ errors }, { texts, native }, tell) {
+    errors.trimEnd().split("\n").forEach((line) => tell(line));
+    const refusals = await everyRefusal(texts, native, errors.trim());
+    linesAfterFirst(refusals).forEach((line) => tell(MARK + line));
   }
 
   /** Where steps are kept and not saved, they are left for the next start. */
@@ -205,7 +194,8 @@ class Front {
   /** Sends a line of the console, and tells its reply with what is to be added. Gives the reply. */
   async send(meaning, typed = "") {
     this.echo(meaning.line, typed);
-    const reply = await this.run(meaning);
+    this.isRunning = meaning.name === "skip";
+    const reply = await this.session.ask(meaning.line).finally(() => { this.isRunning = false; });
     if (reply[0] === "F25 command") {
       this.out(reply[0]);
       this.note(...whyNoCommand(meaning));
@@ -218,17 +208,8 @@ class Front {
   }
 
   /** Sends lines one after another, until ^C. */
-  async sendAll(meanings) {
-    for (const meaning of meanings) if (!this.isInterrupted) await this.send(meaning);
-  }
-
-  async run(meaning) {
-    this.isRunning = meaning.name === "skip";
-    try {
-      return await this.session.ask(meaning.line);
-    } finally {
-      this.isRunning = false;
-    }
+  async sendAll(meanings, typed = "") {
+    for (const meaning of meanings) if (!this.isInterrupted) await this.send(meaning, typed);
   }
 
   /**
@@ -277,10 +258,8 @@ class Front {
   async on_step({ words }) {
     if (words.length > 0) return false;
     const goals = await this.session.goalsTold(), ready = goals?.find(({ status }) => status === "ready");
-    if (goals === undefined) await this.send(meant("leap", "1"));
-    else if (ready !== undefined) await this.send(meant("step", ready.name));
-    else await this.tellNoneReady(goals);
-    return true;
+    if (goals === undefined) return this.send(meant("leap", "1"));
+    return ready === undefined ? this.tellNoneReady(goals) : this.send(meant("step", ready.name));
   }
 
   async tellNoneReady(goals) {
@@ -302,37 +281,30 @@ class Front {
   async on_back({ words: [word = "1"] }) {
     if (!/^\d{1,9}$/.test(word)) return this.note(usageOf("back"));
     for (let left = Number(word); left > 0 && !this.isInterrupted; left -= 1) if (!await this.takeBack()) break;
-    return undefined;
   }
 
   async on_show({ words, isWhole }) {
     if (words.length > 0) return false;
     if (this.session.variables.length === 0) this.note("the query has no variables");
-    await this.sendAll(this.session.variables.map((name) => ({ ...meant("show", name), isWhole })));
-    return true;
+    return this.sendAll(this.session.variables.map((name) => ({ ...meant("show", name), isWhole })));
   }
 
-  on_list(meaning) {
-    return this.noteListing(Own.list(this.session, meaning.words), meaning);
+  async on_stuck({ name }) {
+    this.note(...await Own[name](this.session));
   }
 
-  async on_stuck() {
-    this.note(...await Own.stuck(this.session));
+  on_stat = this.on_stuck;
+
+  async on_list(meaning) {
+    await this.noteListing(await Own[meaning.name](this.session, meaning.words), meaning);
   }
 
-  async on_holders(meaning) {
-    if (meaning.words.length !== 1) return this.note(usageOf("holders"));
-    return this.noteListing(await Own.holders(this.session, meaning.words), meaning);
+  on_holders(meaning) {
+    return meaning.words.length === 1 ? this.on_list(meaning) : this.note(usageOf("holders"));
   }
 
-  async on_stat() {
-    this.note(...await Own.stat(this.session));
-  }
-
-  async on_records(meaning) {
-    if (meaning.words.length !== 1) return false;
-    await this.noteListing(await Own.records(this.session, meaning.words), meaning);
-    return true;
+  on_records(meaning) {
+    return meaning.words.length === 1 && this.on_list(meaning);
   }
 
   async on_explain(meaning, typed) {
@@ -346,21 +318,21 @@ class Front {
   async on_save({ words }) {
     const version = words[0] === "1" ? "1" : "", file = words.slice(version === "" ? 0 : 1).join(" ");
     if (file === "") return false;
-    if (whyNoName(file) !== undefined) return this.note(whyNoName(file));
-    if (Saving.isOtherFile(file)) return this.note(`${file} is there and is no history: name another file`);
+    const why = whyNoName(file) ?? whyOtherFile(file);
+    if (why !== undefined) return this.note(why);
     let refusal;
     try {
       refusal = await this.session.save(file, version);
     } catch (error) {
       if (error instanceof Ended) throw error;
-      return this.note(Saving.whyNotWritten(file, error));
+      return this.note(whyNotWritten(file, error));
     }
     if (refusal === undefined) {
       if (version === "") this.forgetLeft();
       return this.note(`saved in ${file}; --load ${file} goes on from it`);
     }
     this.out(refusal);
-    return this.note(Saving.whyRefused(refusal));
+    return this.note(refusal.startsWith("F1 ") ? NO_ROOM : NOT_ALONE);
   }
 
   async on_quit() {
@@ -371,6 +343,6 @@ class Front {
   }
 }
 
-Object.assign(Front.prototype, Beginning, Choosing, Displaying, Judging, Reloading, Running, Showing, Spying, Watching);
+Object.assign(Front.prototype, Beginning, Judging, Running, Showing, Spying);
 
 export { Front };

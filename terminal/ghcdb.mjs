@@ -85,12 +85,10 @@ async function main() {
   if (words !== typed) front.note(`the query is that of the program's comment: ${readWords(words).query}`);
   const keyboard = keyboardOf(front);
   leaveWhenEnded(front, keyboard);
-  try {
-    await talk(front, keyboard);
-  } catch (error) {
+  await talk(front, keyboard).catch(async (error) => {
     await front.leave();
     throw error;
-  }
+  });
 }
 
 if (areTerminals && isSession(readWords(words))) main();

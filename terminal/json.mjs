@@ -5,13 +5,11 @@ import { playStandardInput, write } from "./scripted.mjs";
 
 const LOOKS = /^ *(records|since|effects|explain)( |$)/; // lines of whose objects the run is a part
 
-/** The text of a goal; empty where it is not known, or so long that it cannot be made. */
-const textOf = (session, goal) => tried(() => session.run.textOf(goal), "");
-
 class Teller {
   begin(bytes, session) {
     this.session = session;
-    this.object = new ObjectText(bytes.toString("utf8"), (goal) => textOf(session, goal));
+    const textOf = (goal) => tried(() => session.run.textOf(goal), ""); // one may be too long to be made
+    this.object = new ObjectText(bytes.toString("utf8"), textOf);
   }
 
   hear(lines) {

@@ -1,9 +1,17 @@
-// What the terminal does for `blame`: it asks, hears the answers, and gives those of predicates that are trusted.
+// What the terminal does where a value is doubted. For `blame` it asks, hears the answers, and gives those of
+// predicates that are trusted. `choices X` tells what X would be, had a step gone by another clause; after a run it is
+// told whether one could.
 import { meant, usageOf } from "../front/protocol/commands.mjs";
-import { afterBlame } from "../front/run/blame_words.mjs";
 import * as Replies from "../front/protocol/replies.mjs";
+import { afterBlame } from "../front/run/blame_words.mjs";
+import { linesOf } from "../front/run/other_choices.mjs";
+import * as Own from "../front/run/own.mjs";
+import { plural } from "../front/run/reasons.mjs";
 import { notesAfter } from "../front/run/telling.mjs";
+import { freeSteps, tryingOf } from "../front/session/trying.mjs";
 import { part } from "./part.mjs";
+
+const NO_MEMORY = "memory was refused for the history, so that no other choice can be tried";
 
 const Judging = part({
   /** Alone it asks the open question again. */
@@ -30,6 +38,46 @@ const Judging = part({
   async on_trust({ words: [word] }) {
     this.note(...this.blaming.trustLines(word));
     return this.blaming.isTrusted ? this.blame(this.blaming.line, "") : undefined;
+  },
+
+  async on_choices({ words: [word, ...more] }) {
+    if (word === undefined || more.length > 0 || /^\d/.test(word)) return this.note(usageOf("choices"));
+    const { session } = this, name = Own.signOf(session, word), meaning = meant("explain", name);
+    const explained = await session.ask(meaning.line);
+    if (Replies.isRefused(explained)) {
+      this.out(explained[0]);
+      return this.noteAll(await notesAfter(session, meaning, explained));
+    }
+    const trying = await tryingOf(session);
+    return trying === undefined ? this.note(NO_MEMORY) : this.tryChoices(trying, name, explained);
+  },
+
+  async tryChoices(trying, name, explained) {
+    this.trying = trying;
+    try {
+      const choices = await trying.choices(name, explained), outcomes = [];
+      for await (const outcome of trying.outcomes(name, choices)) outcomes.push(outcome);
+      if (!this.session.variables.includes(name)) this.note((await this.session.look()).labelOf(name));
+      await this.noteAll(linesOf(outcomes));
+      this.tellUntried(choices.length, outcomes.filter(({ choice }) => choice !== undefined).length);
+    } finally {
+      this.trying = undefined;
+    }
+  },
+
+  /** Tells how many choices there were, where that is not plain, and why some were not tried. */
+  tellUntried(count, tried) {
+    const left = plural(count - tried, "choice");
+    if (this.isInterrupted) this.note(`ended by ^C: ${tried} of ${plural(count, "choice")} tried; the session stands`);
+    else if (count === 0) this.note("no step on which it rests could have gone by another clause");
+    else if (count > tried) this.note(`.. ${left} more not tried ..`);
+  },
+
+  /** After a run that has come to its end: how many steps could have gone by another clause. */
+  async tellFree(stop) {
+    if (!/^stopped (quiet|clash)/.test(stop) || this.isInterrupted) return;
+    const { count, first } = await freeSteps(this.session);
+    if (count > 0) this.note(`${plural(count, "step")} could have gone by another clause: choices ${first} tells`);
   },
 });
 

@@ -3,8 +3,7 @@ import fs from "node:fs";
 import readline from "node:readline";
 import tty from "node:tty";
 import { EventEmitter } from "node:events";
-import { isFile, tried, writeWhole } from "../front/session/files.mjs";
-import { inHome } from "./home.mjs";
+import { inHome, isFile, tried, writeWhole } from "../front/session/files.mjs";
 import { plain } from "./plain.mjs";
 
 const HISTORY = inHome(".ghcdb_history");

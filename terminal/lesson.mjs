@@ -44,7 +44,6 @@ async function main() {
   } catch (error) {
     fail(`${file}: ${error.message}`, WRONG);
   }
-  return undefined;
 }
 
 main();

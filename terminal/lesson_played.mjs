@@ -1,16 +1,58 @@
-// Plays a lesson: what is typed in its blocks gets its replies, and a run its picture. The text that comes is Markdown.
+// Plays a lesson, a text in Markdown whose blocks ```ghcdb hold programs, queries and typed lines: what is typed gets
+// its replies, and a run its picture. The text that comes is Markdown.
 import fs from "node:fs";
 import os from "node:os";
 import path from "node:path";
 import { queryOf } from "../front/text/query_comment.mjs";
-import { FENCE, WrongLesson, readLesson } from "./lesson_text.mjs";
 import { Front } from "./front.mjs";
 import { MARK } from "./plain.mjs";
 
+const FENCE = "```", OPENS = `${FENCE}ghcdb`;
+const FIRST = /^(program|query|file|picture) +(\S.*)$/, MORE = /^ {9}(.*)$/, TYPED = /^> ?(.*)$/;
+const BESIDE = "picture NAME.svg names a file beside the lesson";
+const NO_ITEM = "a block has lines \"program ..\", \"file ..\", \"query ..\", \"> ..\" and \"picture ..\"; this is none";
+const PICTURE = /^[\w-]+\.svg$/;
 const GREETING = `${MARK}Flat GHC. help`; // how the line begins that a session begins with
 const PROGRAM = "program.ghc"; // what a program of the lesson's own is called in replies
 const NO_QUERY = "no query is given, and no comment % Query: .. names one";
 const INDENT = " ".repeat(9);
+
+/** What is thrown where a lesson is wrong: why, and in which line. */
+const wrongAt = (line, why) => new Error(`line ${line}: ${why}`);
+
+/** What a line of a block says: `{ kind, text }`. */
+function itemOf(line, number) {
+  const [, kind, text] = FIRST.exec(line) ?? [], [, typed] = TYPED.exec(line) ?? [];
+  if (kind === "picture" && !PICTURE.test(text)) throw wrongAt(number, BESIDE);
+  if (kind !== undefined) return { kind, text, number };
+  if (typed !== undefined) return { kind: "typed", text: typed, number };
+  if (line.trim() === "" || line === "continued") return { kind: "blank", number };
+  throw wrongAt(number, NO_ITEM);
+}
+
+/** The items of a block's lines: further lines of a program are indented by nine blanks. */
+function itemsOf(lines, first) {
+  const items = [];
+  lines.forEach((line, place) => {
+    const last = items.at(-1), [, more] = (last?.kind === "program" && MORE.exec(line)) || [];
+    if (more === undefined) items.push(itemOf(line, first + place));
+    else last.text += `\n${more}`;
+  });
+  return items;
+}
+
+/** The parts of a lesson in their order: `{ lines }` that stay as they are, and blocks, `{ items }`. */
+function readLesson(text) {
+  const parts = [], lines = text.split("\n");
+  let from = 0;
+  for (let at = lines.indexOf(OPENS); at >= 0; at = lines.indexOf(OPENS, from)) {
+    const end = lines.indexOf(FENCE, at);
+    if (end < 0) throw wrongAt(at + 1, `the block is not closed by ${FENCE}`);
+    parts.push({ lines: lines.slice(from, at) }, { items: itemsOf(lines.slice(at + 1, end), at + 2) });
+    from = end + 1;
+  }
+  return [...parts, { lines: lines.slice(from) }];
+}
 
 class Lesson {
   /** `folder` is the lesson's, `draw(history, program, query)` gives a picture's text, `native` plays sessions. */
@@ -67,14 +109,14 @@ class Lesson {
 
   play_file({ text, number }) {
     this.file = path.resolve(this.folder, text);
-    if (!fs.existsSync(this.file)) throw new WrongLesson(number, `there is no file ${text}`);
+    if (!fs.existsSync(this.file)) throw wrongAt(number, `there is no file ${text}`);
     this.take({ name: text, query: undefined });
     const lines = fs.readFileSync(this.file, "utf8").split("\n").filter((line) => line !== "" && !line.startsWith("%"));
     this.out.push(...lines);
   }
 
   play_query({ text, number }) {
-    if (this.file === undefined) throw new WrongLesson(number, "a program stands before its query");
+    if (this.file === undefined) throw wrongAt(number, "a program stands before its query");
     this.take({ name: this.name, query: text });
     this.out.push(`query    ${text}`, "");
   }
@@ -109,18 +151,18 @@ class Lesson {
 
   async play_typed({ text, number }) {
     await this.begin();
-    if (this.front === undefined) throw new WrongLesson(number, "a program and a query stand before what is typed");
-    if (this.front.hasEnded) throw new WrongLesson(number, "the session has ended, so nothing can be typed");
+    if (this.front === undefined) throw wrongAt(number, "a program and a query stand before what is typed");
+    if (this.front.hasEnded) throw wrongAt(number, "the session has ended, so nothing can be typed");
     this.out.push(`> ${text}`);
     await this.front.answer(text);
   }
 
   async play_picture({ text, number }) {
     await this.begin();
-    if (this.front === undefined || this.front.hasEnded) throw new WrongLesson(number, "there is no run to be drawn");
+    if (this.front === undefined || this.front.hasEnded) throw wrongAt(number, "there is no run to be drawn");
     const history = path.join(this.own, "run.history"), to = path.join(this.folder, text);
     const isOther = fs.existsSync(to) && !fs.readFileSync(to, "latin1").startsWith("<svg");
-    if (isOther) throw new WrongLesson(number, `${text} is there, and is no picture`);
+    if (isOther) throw wrongAt(number, `${text} is there, and is no picture`);
     await this.front.session.save(history);
     fs.writeFileSync(to, this.draw(history, this.file, this.query));
     this.out.push(FENCE, `![the run of ${this.query}](${text})`, FENCE);

@@ -4,6 +4,9 @@ import * as Effects from "../front/protocol/effects.mjs";
 import * as Replies from "../front/protocol/replies.mjs";
 import * as WhyNotLines from "../front/protocol/why_not_lines.mjs";
 
+/** The fields that say something: not what is not told, nor an empty list. */
+const given = (fields) => Object.fromEntries(Object.entries(fields).filter(([, value]) => value && value.length !== 0));
+
 /** Does a line change the record? */
 const isChange = (line) => ["adds", "takes", "orders"].includes(Effects.effectOf(line));
 
@@ -34,22 +37,23 @@ function step({ number, goal, act, clause, reads, binds, makes }, textOf) {
 }
 
 /** A goal and how it stands. */
-const standing = ({ goal: name, status, waitsFor, refusal }) => ({ goal: name, status, ...(waitsFor.length > 0 && { waitsFor }), ...(refusal && { refusal }) });
+const standing = (name, { status, waitsFor, refusal }) => ({ goal: name, status, ...given({ waitsFor, refusal }) });
 
-const goal = ({ name, status, waitsFor, refusal, text }) => ({ ...standing({ goal: name, status, waitsFor, refusal }), text });
+const goal = (it) => ({ ...standing(it.name, it), text: it.text });
 
-const cause = ({ number, kind, variable, woke }) => ({ step: number, kind, ...(variable && { variable }), ...(woke && { woke }) });
+const cause = ({ number, kind, variable, woke }) => ({ step: number, kind, ...given({ variable, woke }) });
 
 const told = (reply) => (reply[0] === "none" ? [] : reply);
 
-/** A step of an explanation, with the other clauses that could have been taken in its place. */
-const explainedStep = (record, textOf) => ({ ...step(record, textOf), ...(record.others.length > 0 && { others: record.others }) });
+/** What a reply is about, by its first line: a goal, or a variable and its value. */
+const subjectOf = ([line]) => Replies.readGoals([line]).map((it) => ({ goal: goal(it) }))[0] ?? Replies.readValue(line);
 
-/** What an explanation tells: of a variable its value, of a goal its line; who could bind what is unbound; the steps, and of how many. */
+/** What an explanation tells: what it is about; who could bind what is unbound; the steps, and of how many. */
 function explanation(reply, textOf) {
-  const [first] = reply, of = Replies.readExtent(reply.at(-1)), [subject] = Replies.readGoals([first]);
-  const steps = reply.map(Replies.readExplained).filter(Boolean).map((record) => explainedStep(record, textOf));
-  return { ...(subject ? { goal: goal(subject) } : Replies.readValue(first)), holders: reply.map(Replies.readHolder).filter(Boolean), steps, ...(of !== undefined && { of }) };
+  const holders = reply.map(Replies.readHolder).filter(Boolean), of = Replies.readExtent(reply.at(-1));
+  const records = reply.map(Replies.readExplained).filter(Boolean);
+  const steps = records.map((record) => ({ ...step(record, textOf), ...given({ others: record.others }) }));
+  return { ...subjectOf(reply), holders, steps, ...(of !== undefined && { of }) };
 }
 
 /** A direct dependence: the step, and what `why` tells of it. */
@@ -62,31 +66,29 @@ function dependence(line) {
  * The goal that a step took, as it was written then, and the line of the program at which its clause begins.
  * @param {{ number: number, goal: string | null, act: string, text: string | null, line?: number }} step
  */
-const taken = ({ number, goal: name, act, text, line }) => ({ step: number, goal: name, act, text, ...(line !== undefined && { line }) });
+const taken = ({ number, goal: name, act, text, line }) =>
+  ({ step: number, goal: name, act, text, ...given({ line }) });
 
 /** Why a variable is not bound: its value, or the goal; who reaches what is asked about, which steps let it go. */
 function whyNot(reply) {
-  const [first] = reply, [subject] = Replies.readGoals([first]), { lost, ...told } = WhyNotLines.read(reply);
-  const steps = lost.map((step) => ({ variable: step.variable, ...taken(step) }));
-  return { ...(subject ? { goal: goal(subject) } : Replies.readValue(first)), ...told, lost: steps };
+  const { lost, ...told } = WhyNotLines.read(reply);
+  return { ...subjectOf(reply), ...told, lost: lost.map((step) => ({ variable: step.variable, ...taken(step) })) };
 }
 
 /** What a clause says to a goal, and the line of the program at which it begins. */
-const choice = ({ number, says, waitsFor, line }) => ({ clause: number, says, ...(waitsFor.length > 0 && { waitsFor }), ...(line !== undefined && { line }) });
+const choice = ({ number, says, waitsFor, line }) => ({ clause: number, says, ...given({ waitsFor, line }) });
 
 /** A goal that a call's step made: what is told of it stands under the word that tells it, of an equation or a sum under `text`. */
 const madeGoal = ({ goal: name, how, text }) => ({ goal: name, [how === "written" ? "text" : how]: text });
 
-const without = (fields) => Object.fromEntries(Object.entries(fields).filter(([, value]) => value !== null));
-
 /** What `part` and `blame` tell of a call, and the question or the verdict. What is not told is not there. */
 function judged(reply) {
-  const { given, asked, inTurns, gave, left, made, taken, standing: stands, ask, fault } = BlameLines.read(reply);
-  return {
-    ...without({ given }), ...(asked.length > 0 && { asked }), ...(inTurns && { inTurns }), ...without({ gave }), ...(left && { left: standing(left) }),
-    ...(made.length > 0 && { made: made.map(madeGoal) }), ...(taken && { taken }), ...(stands && { stands: standing(stands) }),
-    ...(ask && { ask: ask.goal, of: ask.of }), ...(fault && { fault: without(fault) }),
-  };
+  const { left, made, standing: stands, ask, fault, ...call } = BlameLines.read(reply);
+  return given({
+    given: call.given, asked: call.asked, inTurns: call.inTurns, gave: call.gave,
+    left: left && standing(left.goal, left), made: made.map(madeGoal), taken: call.taken,
+    stands: stands && standing(stands.goal, stands), ask: ask?.goal, of: ask?.of, fault: fault && given(fault),
+  });
 }
 
 /** Kept steps, as record lines tell them. */
@@ -111,10 +113,7 @@ const REPLIES = {
 };
 
 /** How many lines of a listing are not there, for memory was refused for them. */
-function holesIn(reply) {
-  const { length } = reply.filter((line) => line === Replies.NO_MEMORY);
-  return length > 0 && { holes: length };
-}
+const holesIn = (reply) => given({ holes: reply.filter((line) => line === Replies.NO_MEMORY).length });
 
 /** The object of a line and its reply. `textOf` gives the text of a goal by its name. */
 function objectOf(line, reply, textOf) {
@@ -175,7 +174,7 @@ class ObjectText {
 
   /** The rest of it where the program has ended: what it said last, its status, and all that it refuses of its texts. */
   ended(text, status, refusals = []) {
-    Object.assign(this.told, { ended: text, status, ...(refusals.length > 0 && { refusals: refusals.map(refusal) }) });
+    Object.assign(this.told, { ended: text, status, ...given({ refusals: refusals.map(refusal) }) });
     return this.isOpen ? this.close() : `${JSON.stringify({ command: this.line, ok: false, ...this.told })}\n`;
   }
 }

@@ -48,17 +48,12 @@ async function notesOnEnd(session, stop) {
   return goals.length > streams ? [...await Own.stuck(session), ...open] : open;
 }
 
-/** All that is to be said of how it went. */
+/** All that is to be said of how it went; of a session that tells no more, why. */
 async function notesOnAll(session, stop, answers, status) {
-  const notes = hasEnded(status) ? [] : await notesOnEnd(session, stop);
-  for (const [name, line] of answers) notes.push(...await notesOn(session, name, line, hasEnded(status)));
-  return notes;
-}
-
-/** The notes; of a session that tells no more, why. */
-async function notesOrWhyNot(...given) {
   try {
-    return await notesOnAll(...given);
+    const notes = hasEnded(status) ? [] : await notesOnEnd(session, stop);
+    for (const [name, line] of answers) notes.push(...await notesOn(session, name, line, hasEnded(status)));
+    return notes;
   } catch (error) {
     if (error instanceof NotTold || error instanceof RangeError) return [error.message];
     throw error;
@@ -71,7 +66,7 @@ async function runToEnd(session, expected, errors) {
   const answers = await answersOf(session), lines = [...answers.values()].filter((line) => !Replies.isRefusal(line));
   await write(lines.map((line) => `${line}\n`).join(""), "latin1");
   const others = expected.map((one) => whyOther(one, answers.get(one.name))).filter((why) => why !== undefined);
-  addLines(errors, [...await notesOrWhyNot(session, stop, answers, ofGoals), ...others]);
+  addLines(errors, [...await notesOnAll(session, stop, answers, ofGoals), ...others]);
   return statusOfAnswers(answers) || ofGoals || (others.length > 0 ? STATUS.otherValue : STATUS.done);
 }
 

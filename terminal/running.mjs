@@ -1,6 +1,6 @@
 // What the terminal does for runs: in slices, so that ^C keeps what was done; past the spied goal at which one stopped,
-// past goals that fit no pattern, and until a goal or a step is there. What is sent are lines of the console: `leap K`
-// and `step G`.
+// past goals that fit no pattern, and until a goal or a step is there, or a variable is bound. What is sent are lines
+// of the console: `leap K` and `step G`.
 import { meant, usageOf } from "../front/protocol/commands.mjs";
 import * as Replies from "../front/protocol/replies.mjs";
 import { plural, some } from "../front/run/reasons.mjs";
@@ -9,7 +9,7 @@ import { Ended } from "../front/session/program.mjs";
 import { part } from "./part.mjs";
 
 const SLICE = 1000; // steps between which ^C is heard
-const MOST = 1_000_000; // steps of a run, where no number is said
+const MOST = 1_000_000; // steps of a run, where no number is said, or a variable is watched
 const GOAL = /^\d+\.\d+$/, NUMBER = /^\d{1,10}$/;
 
 /** The goal before which a run stopped that is spied; undefined where it stopped for another reason. */
@@ -31,8 +31,7 @@ const Running = part({
     if (taken === most || this.isInterrupted) return true;
     const line = taken === 0 || meaning.words.length === 0 ? meaning.line : `leap ${most - taken}`;
     this.echo(line, typed);
-    await this.tellRun(await this.runOn(most - taken), { ...meaning, line });
-    return true;
+    return this.tellRun(await this.runOn(most - taken), { ...meaning, line });
   },
 
   /**
@@ -158,6 +157,24 @@ const Running = part({
     if (sent.length > 0) this.note(`sent: ${sent.join(", ")}`);
     if (sent.length > 0) await this.tellRun(run, meant("leap"));
     if (last > number) this.note(noMore(number));
+  },
+
+  /** Runs step by step until a variable is bound. */
+  async on_watch({ words: [name] }) {
+    if (name === undefined) return this.note(usageOf("watch"));
+    const meaning = meant("show", name), { line } = meaning, was = await this.session.ask(line);
+    if (was[0] === "F25 command") return this.note(usageOf("watch"));
+    if (Replies.isRefused(was)) return this.send(meaning, line);
+    let now = was, last = "", taken = 0;
+    for (; taken < MOST && !this.isInterrupted && Replies.isUnbound(now[0]); taken += 1) {
+      last = (await this.session.ask("leap 1")).at(-1);
+      if (last !== "stopped limit") break;
+      now = await this.session.ask(line);
+    }
+    now = await this.session.ask(line);
+    await this.show(now, meaning);
+    if (Replies.isUnbound(now[0])) return this.note(this.isInterrupted ? "ended: it is not bound" : `it is not bound: ${last}`);
+    return this.note(Replies.isUnbound(was[0]) ? `bound by step ${this.session.kept.last}; sent: leap 1, ${plural(taken, "time")}` : "it is bound already");
   },
 });
 

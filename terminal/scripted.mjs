@@ -1,9 +1,8 @@
 // A session whose lines come from standard input, for scripts: replies are handed on as they come, and a status tells
 // how it went.
 import { Ended } from "../front/session/program.mjs";
-import { whyRefused } from "../front/session/refused.mjs";
 import { ScriptSession, asked } from "../front/session/script_session.mjs";
-import { everyRefusal } from "../front/session/every_refusal.mjs";
+import { everyRefusal, linesAfterFirst } from "../front/session/every_refusal.mjs";
 import { withQuery } from "../front/session/words_with_query.mjs";
 import { isLetGo } from "../front/run/waits.mjs";
 import { isWhole } from "../front/session/way_back.mjs";
@@ -24,10 +23,8 @@ const MOST_BYTES = 1_048_576; // of a line
 // A line of the input, whose pieces come one by one. Of one that is too long a byte more than allowed is kept: it is
 // refused alike.
 class Line {
-  constructor() {
-    this.pieces = [];
-    this.length = 0;
-  }
+  pieces = [];
+  length = 0;
 
   add(piece) {
     if (!this.isTooLong) this.pieces.push(piece);
@@ -77,92 +74,57 @@ const sent = (line) => (line.at(-1) === RETURN ? Buffer.concat([line, Buffer.fro
 /** The words of a line; of one that is too long, which has a reply whatever it holds, itself. */
 const wordsOf = (line) => (line.length > MOST_BYTES ? [line] : line.toString("latin1").split(" ").filter(Boolean));
 
-// How the lines went so far.
-class Course {
-  constructor() {
-    this.wasRefused = false; // a line
-    this.hasHole = false; // a reply, which has a refusal in place of a line
-  }
-
-  /** Learns lines of a reply: the first ones, or others. */
-  learn(lines, isFirst) {
-    if (isFirst && Replies.isRefused(lines)) this.wasRefused = true;
-    else if (!isWhole(lines)) this.hasHole = true;
-  }
-}
-
-/** Gives a line to a session; `teller` hears of its reply as it comes. */
-async function playLine(session, line, teller, course) {
-  teller.begin(line, session);
-  await teller.end(await asked(session, sent(line), (...told) => course.learn(...told), (lines) => teller.hear(lines)));
-}
-
-/** Gives the lines of the input to a session. How they went. */
-async function playLines(session, input, teller) {
-  const course = new Course();
-  for await (const line of linesOf(input)) {
-    const given = wordsOf(line);
-    if (given.length === 1 && given[0] === "quit") break;
-    if (given.length > 0) await playLine(session, line, teller, course);
-  }
-  return course;
-}
-
 /**
  * The status of what is left at the end: goals, or else a variable of the query that a step let go. Goals that are too
  * long to be told are left, whatever they are.
  */
 async function statusOfGoals(session) {
-  const course = new Course(), statuses = new Set();
+  const statuses = new Set();
+  let hasHole = false;
   const last = await asked(session, "goals", (lines) => {
-    course.learn(lines, false);
+    hasHole ||= !isWhole(lines);
     Replies.readGoals(lines).forEach(({ status }) => statuses.add(status));
   }, async () => {});
-  if (course.hasHole) return STATUS.untold;
+  if (hasHole) return STATUS.untold;
   if (statuses.has("failed")) return STATUS.failed;
   if (statuses.has("ready") || statuses.has("stream") || Replies.isRefused(last)) return STATUS.unfinished;
   if (statuses.size > 0) return STATUS.waits;
   return await isLetGo(session) ? STATUS.letGo : STATUS.done;
 }
 
-/** Plays the lines of the input to their end: the exit status. */
+/** Plays the lines of the input to their end; `teller` hears of each reply as it comes. The exit status. */
 async function statusOf(session, input, teller) {
-  const { wasRefused, hasHole } = await playLines(session, input, teller);
-  if (wasRefused || hasHole) return wasRefused ? STATUS.refusedLine : STATUS.untold;
-  return statusOfGoals(session);
-}
-
-/** All that a program and a query are refused for, or a history, where ghcdb has ended before the session began; else none. */
-async function refusalsOf({ errors }, session) {
-  const { kept, texts, native } = session, said = errors.trim();
-  if (kept !== undefined) return [];
-  return texts.text === undefined ? [{ said, ...whyRefused(said, texts) }] : everyRefusal(texts, native, said);
+  const hear = (lines) => teller.hear(lines);
+  let wasRefused = false, hasHole = false; // a line; a reply, which has a refusal in place of a line
+  const learn = (lines, isFirst) => {
+    if (isFirst && Replies.isRefused(lines)) wasRefused = true;
+    else if (!isWhole(lines)) hasHole = true;
+  };
+  for await (const line of linesOf(input)) {
+    const given = wordsOf(line);
+    if (given.length === 1 && given[0] === "quit") break;
+    if (given.length === 0) continue;
+    teller.begin(line, session);
+    await teller.end(await asked(session, sent(line), learn, hear));
+  }
+  if (wasRefused) return STATUS.refusedLine;
+  return hasHole ? STATUS.untold : statusOfGoals(session);
 }
 
 /** Tells lines that are added to what the console says. */
 const addLines = (errors, lines) => lines.forEach((line) => errors(`${MARK}${plain(line)}\n`));
 
 /**
- * Tells why texts are refused. What ghcdb says first stands there already.
- * @param {Refusal[]} refusals
- * @param {(text: string) => void} errors
- */
-function tellWhy(refusals, errors) {
-  const [first, ...others] = refusals;
-  addLines(errors, [...first?.lines ?? [], ...others.flatMap(({ said, lines }) => [said, ...lines])]);
-}
-
-/**
  * Begins a session for the words of a command line, and gives the exit status that comes of `plays(session)`. Where the
- * program ends by itself, `errors` takes texts that say why, and `ended(error, refusals)` hears of it, with all that it
- * refuses of its texts.
+ * program ends by itself, `errors` takes texts that say why, and `ended(error, refusals)` of the teller hears of it,
+ * with all that it refuses of its texts.
  * @param {string[]} words
  * @param {{
  *   plays: (session: ScriptSession) => Promise<number>, errors: (text: string) => void,
- *   ended?: (error: Ended, refusals: Refusal[]) => unknown,
+ *   teller?: { ended: (error: Ended, refusals: Refusal[]) => unknown },
  * }} takers
  */
-async function withSession(words, { plays, errors, ended }) {
+async function withSession(words, { plays, errors, teller }) {
   if (!isSession(readWords(words))) {
     errors("PROGRAM --query QUERY and the options of a session are wanted\n");
     return STATUS.commandLine;
@@ -175,10 +137,11 @@ async function withSession(words, { plays, errors, ended }) {
     return status;
   } catch (error) {
     if (!(error instanceof Ended)) throw error;
-    const refusals = await refusalsOf(error, session);
+    const { kept, texts, native } = session; // nothing is kept where the program, the query or a history was refused
+    const refusals = kept === undefined ? await everyRefusal(texts, native, error.errors.trim()) : [];
     errors(error.errors);
-    tellWhy(refusals, errors);
-    await ended?.(error, refusals);
+    addLines(errors, linesAfterFirst(refusals));
+    await teller?.ended(error, refusals);
     return error.status;
   } finally {
     await session.program?.kill(); // whatever it is at
@@ -191,8 +154,7 @@ async function withSession(words, { plays, errors, ended }) {
  * program has ended by itself, with all that it refuses of its texts. The exit status.
  */
 function play(words, input, teller, errors) {
-  const ended = (error, refusals) => teller.ended(error, refusals);
-  return withSession(words, { plays: (session) => statusOf(session, input, teller), errors, ended });
+  return withSession(words, { plays: (session) => statusOf(session, input, teller), errors, teller });
 }
 
 /** Writes a text to standard output; it is done when the text was taken. */

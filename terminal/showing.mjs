@@ -1,7 +1,11 @@
 // How much the terminal shows of a reply: of long runs and listings the first and the last lines, of long terms the
-// beginning. `all` as the last word shows a listing or a value whole.
+// beginning. `all` as the last word shows a listing or a value whole. `display X` shows X after each line that changed
+// the run.
 import { setImmediate as nextTurn } from "node:timers/promises";
+import { meant } from "../front/protocol/commands.mjs";
+import * as Replies from "../front/protocol/replies.mjs";
 import * as Short from "../front/protocol/short.mjs";
+import * as Own from "../front/run/own.mjs";
 import { plural } from "../front/run/reasons.mjs";
 import { part } from "./part.mjs";
 import { MARK } from "./plain.mjs";
@@ -16,6 +20,8 @@ const LISTINGS = new Set([
   "list", "holders", "whynot",
 ]);
 const OF_STEPS = { tail: 1, what: "step" }, OF_LINES = { tail: 0, what: "line" }; // the last line of steps tells of all
+
+const NONE_DISPLAYED = "nothing is displayed; display X shows X after each run and step";
 
 /** What is meant without `all`, the terminal's word for showing a listing whole. */
 function withoutAll(meaning) {
@@ -48,7 +54,6 @@ const Showing = part({
     else await this.showAll(lines);
     const isCut = lines.some((line, place) => line !== reply[place]);
     if (isCut) this.note(`… stands for what is left out; ${all} shows it`);
-    return undefined;
   },
 
   /** Shows lines; of many the first and the last, and `tail` lines more that tell of all. */
@@ -66,7 +71,6 @@ const Showing = part({
       if (at > 0 && this.isInterrupted) return this.note(`.. ${plural(lines.length - at, "line")} more ..`);
       lines.slice(at, at + AT_ONCE).forEach((line) => this.out(line));
     }
-    return undefined;
   },
 
   noteAll(lines) {
@@ -77,6 +81,33 @@ const Showing = part({
   noteListing(lines, { line, isWhole }) {
     const notes = lines.map((told) => MARK + told);
     return isWhole ? this.showAll(notes) : this.showEnds(notes, { all: `${line} all`, ...OF_LINES });
+  },
+
+  async on_display({ words: [word] }) {
+    if (word === undefined) return this.tellDisplayed();
+    const name = Own.signOf(this.session, word), reply = await this.send(meant("show", name));
+    if (!Replies.isRefused(reply) && !this.displayed.includes(name)) this.displayed.push(name);
+  },
+
+  on_undisplay({ words: [word] }) {
+    const name = word && Own.signOf(this.session, word);
+    if (name !== undefined && !this.displayed.includes(name)) this.note(`${word} is not displayed`);
+    this.displayed = this.displayed.filter((other) => name !== undefined && other !== name);
+    this.tellDisplayed();
+  },
+
+  tellDisplayed() {
+    this.note(this.displayed.length === 0 ? NONE_DISPLAYED : `displayed: ${this.displayed.join(", ")}`);
+  },
+
+  /** Shows what is displayed, where the session has changed since so many changes. */
+  async showDisplayed(changes) {
+    if (this.session.kept.changes === changes) return;
+    for (const name of this.isInterrupted ? [] : this.displayed) {
+      const meaning = meant("show", name), reply = await this.session.ask(meaning.line);
+      this.echo(meaning.line, "");
+      await this.show(reply, meaning);
+    }
   },
 });
 

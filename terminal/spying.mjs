@@ -48,7 +48,7 @@ const Spying = part({
     const named = this.predicatesOf(words);
     for (const predicate of named.length > 0 ? named : words) this.patterns.forget(predicate);
     if (!isSpy) this.stoppedAt = undefined;
-    for (const predicate of named) if (!this.isInterrupted) await this.send(meant(name, predicate), typed);
+    await this.sendAll(named.map((predicate) => meant(name, predicate)), typed);
     return named.length > 0;
   },
 
@@ -69,12 +69,9 @@ const Spying = part({
   async spyNothing() {
     const spied = await this.spied();
     if (spied.length === 0) return this.note(NONE);
-    for (const predicate of spied) {
-      this.patterns.forget(predicate);
-      if (!this.isInterrupted) await this.send(meant("nospy", predicate));
-    }
+    spied.forEach((predicate) => this.patterns.forget(predicate));
+    await this.sendAll(spied.map((predicate) => meant("nospy", predicate)));
     this.stoppedAt = undefined;
-    return undefined;
   },
 
   /** Takes a pattern away; with the last one the predicate is spied no longer. */

@@ -2,8 +2,7 @@
 // at the next start. Beside a history stands a file that says of which program and query it is.
 import fs from "node:fs";
 import path from "node:path";
-import { tried, writeWhole } from "../front/session/files.mjs";
-import { inHome } from "./home.mjs";
+import { inHome, tried, writeWhole } from "../front/session/files.mjs";
 
 const BEGINNING = inHome(".ghcdb_unsaved.");
 const MOST = 4; // sessions that are kept so: a further one takes the place of the oldest

@@ -1,6 +1,5 @@
 // What web/console does; how it is called stands there.
 import fs from "node:fs";
-import Heap from "../front/session/heap.mjs";
 import Host from "../front/session/host.mjs";
 import { moduleOfPage } from "../front/session/engine_of_page.mjs";
 
@@ -36,10 +35,8 @@ class SystemHost extends Host {
     }
   }
 
-  openAt(place) {
-    const all = new Uint8Array(this.memory.buffer);
-    const name = Buffer.from(all.slice(place, all.indexOf(0, place)));
-    return this.asked(undefined, () => fs.openSync(name, "r"));
+  openFile(name) {
+    return this.asked(undefined, () => fs.openSync(Buffer.from(name), "r"));
   }
 
   read(descriptor, to, most) {
@@ -60,22 +57,14 @@ class SystemHost extends Host {
   close(descriptor) {
     return this.asked(descriptor, () => (fs.closeSync(descriptor), 0));
   }
-
-  calls() {
-    return { ...super.calls(), open: (name) => this.openAt(Number(name)) };
-  }
 }
 
 // Runs the program on words, and gives its exit status.
 function run(words) {
-  const compiled = new WebAssembly.Module(moduleOfPage());
   const host = new SystemHost([Buffer.from("ghcdb"), ...words], process.env.GHCDB_CLOSED ?? "");
-  const asked = WebAssembly.Module.imports(compiled).map(({ name }) => name);
-  const instance = new WebAssembly.Instance(compiled, { host: host.imports(asked) });
-  const exports = /** @type {import("../front/types").EngineCalls} */ (instance.exports);
-  host.join(exports.memory, new Heap(exports.memory, Number(exports.__heap_base.value)));
+  const { main } = host.instanceOf(new WebAssembly.Module(moduleOfPage()));
   try {
-    return exports.main();
+    return main();
   } catch (error) {
     if (error instanceof Host.Ended) return error.status;
     throw error;

@@ -1,16 +1,12 @@
 // The engine: the program ghcdb itself, as a WebAssembly module. A session is one instance of it, which waits for the next line.
 //
 // `web/build` has prepared the module so that it can be left where it reads its input, and entered again there.
-import { joined } from "../text/bytes.mjs";
-import Heap from "./heap.mjs";
+import { decode, encode, joined, linesOf } from "../text/bytes.mjs";
 import Host from "./host.mjs";
 
 const LEAVING = 1, ENTERING = 2; // states of a module that can be left; 0 is running
 const ROOM = 65536; // bytes for what the functions that are left hold
 const PROGRAM = "program.ghc", HISTORY = "run.history";
-
-const encode = (text) => new TextEncoder().encode(text);
-const decode = (bytes) => new TextDecoder().decode(bytes);
 
 /** The bytes that zlib packed; those of a module, which begin with 0, are handed on as they are. */
 async function unpacked(bytes) {
@@ -23,22 +19,14 @@ async function unpacked(bytes) {
   }
 }
 
-// The lines of a text, each of which ends with a line feed.
-const linesOf = (text) => text.split("\n").slice(0, -1);
-
 // One run of the program: it goes on until it ends, or waits for input that was not given yet.
 class Run {
   /** @param {import("../types").HostGiven} given */
   constructor(compiled, given) {
     this.host = new Host(given);
-    const asked = WebAssembly.Module.imports(compiled).map(({ name }) => name);
-    const { exports } = new WebAssembly.Instance(compiled, { host: this.host.imports(asked) });
-    this.calls = /** @type {import("../types").EngineCalls} */ (exports);
-    const { memory, __heap_base: base } = this.calls;
-    const heap = new Heap(memory, Number(base.value));
-    this.host.join(memory, heap, { before: () => this.enter(), wait: () => this.leave() });
-    this.room = heap.take(ROOM);
-    new Uint32Array(memory.buffer).set([this.room + 8, this.room + ROOM], this.room / 4);
+    this.calls = this.host.instanceOf(compiled, { before: () => this.enter(), wait: () => this.leave() });
+    this.room = this.host.heap.take(ROOM);
+    new Uint32Array(this.calls.memory.buffer).set([this.room + 8, this.room + ROOM], this.room / 4);
     this.waits = false;
     this.status = undefined; // the exit status, where it has ended by itself
     this.broken = undefined; // why it stopped, where it did not; nothing in it is called after that
@@ -78,7 +66,7 @@ class Run {
 
   // Ends the input.
   end() {
-    this.host.endInput();
+    this.host.inputEnded = true;
     if (this.waits) this.goOn();
   }
 
@@ -122,7 +110,7 @@ class Session {
 
   // The lines of the reply to a line.
   line(text) {
-    return linesOf(decode(this.bytes(text)));
+    return linesOf(this.bytes(text));
   }
 
   // The replies to lines.
@@ -154,13 +142,13 @@ class Engine {
   }
 
   /**
-   * A session on a program and a query, which goes on from a history where one is given.
+   * A session on a program and a query, which goes on from a history where one is given that is not empty.
    * @param {import("../types").Opening} given
    */
   open({ program, query, history }) {
     const words = [PROGRAM, "--query", query];
     const files = new Map([[PROGRAM, encode(program)]]);
-    if (history !== undefined) {
+    if (history) {
       words.push("--load", HISTORY);
       files.set(HISTORY, encode(history));
     }

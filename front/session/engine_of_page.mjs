@@ -22,16 +22,14 @@ function scriptOf(page, name) {
 /** What a script of the page says of a constant: `const NAME = VALUE;`, where the value is JSON. */
 const constantIn = (script) => JSON.parse(script.slice(script.indexOf("=") + 1, script.lastIndexOf(";")));
 
-/** The bytes of the module in the text of a page. */
-const moduleOf = (page) => zlib.inflateSync(Buffer.from(constantIn(scriptOf(page, "module.js")), "base64"));
+const pageText = () => fs.readFileSync(PAGE, "utf8");
 
 /** The bytes of the module that web/ghcdb.html carries. */
-const moduleOfPage = () => moduleOf(fs.readFileSync(PAGE, "latin1"));
+const moduleOfPage = () => zlib.inflateSync(Buffer.from(constantIn(scriptOf(pageText(), "module.js")), "base64"));
 
-// The engine of a page, and with what it was made.
-async function engineOfPage(file = PAGE) {
-  const page = fs.readFileSync(file, "utf8");
-  return { engine: await Engine.load(moduleOf(page)), madeWith: constantIn(scriptOf(page, "made_with.js")) };
+/** The engine, and with what it was made. */
+async function engineOfPage() {
+  return { engine: await Engine.load(moduleOfPage()), madeWith: constantIn(scriptOf(pageText(), "made_with.js")) };
 }
 
 export { engineOfPage, moduleOfPage, scriptOf, PAGE, THREAD };

@@ -2,10 +2,10 @@
 import fs from "node:fs";
 import { parentPort, workerData } from "node:worker_threads";
 import { readWords } from "../protocol/words.mjs";
+import { encode } from "../text/bytes.mjs";
 import Engine from "./engine.mjs";
 import { tried } from "./files.mjs";
 
-const encode = (text) => new TextEncoder().encode(text);
 const decode = (bytes) => Buffer.from(bytes).toString("latin1");
 
 // Of a device nobody knows whether it ends.
@@ -34,7 +34,6 @@ function main() {
     if (!run.waits) return tellEnd();
     return parentPort.postMessage({ reply: decode(run.takeOutput()).split("\n").slice(0, -1) });
   });
-  return undefined;
 }
 
 main();

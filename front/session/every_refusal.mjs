@@ -1,35 +1,71 @@
-// All refusals of a program and a query at once. ghcdb tells one at a time, so it is asked again without what it
-// refused: it judges, and what stands here only repeats.
+// Why ghcdb refused a program, a query or a history before a session began, in words; and all refusals of a program and
+// a query at once. ghcdb tells one at a time, so it is asked again without what it refused: it judges, and what stands
+// here only repeats.
+import fs from "node:fs";
+import * as Replies from "../protocol/replies.mjs";
 import * as Causes from "../text/causes.mjs";
 import * as TakingOut from "../text/taking_out.mjs";
 import Engine from "./engine.mjs";
+import { isFile, lineOf, tried } from "./files.mjs";
 import { HANDED, ofPage, open, unlessEnded } from "./program.mjs";
-import { whyRefused } from "./refused.mjs";
 
 const MOST = 20; // refusals that are told
 const MOST_ASKED = 60; // times that ghcdb is asked
 const NO_QUERY = "true";
 const SAID = /^(program|query): (F[2-5]) (.*)$/;
+const MOST_SHOWN = 200; // letters of a line of a history
+const NOT_READ = { ENOENT: "no such file", EACCES: "reading it is not allowed", EISDIR: "it is a folder" };
 
-/** What the native program says when it is given a program and a query; undefined where it accepts both. */
-async function refusalOfNative(text, query, native) {
+/** Why a file cannot be read; nothing where it can. It is not read: it may never end, or be a pipe. */
+function whyNotRead(file) {
+  try {
+    fs.accessSync(file, fs.constants.R_OK);
+    return fs.statSync(file).isDirectory() ? [`${file}: ${NOT_READ.EISDIR}`] : [];
+  } catch (error) {
+    return [`${file}: ${NOT_READ[error.code] ?? error.message}`];
+  }
+}
+
+/** The line of a history at which loading it stopped. */
+function whyNotLoaded(file, refusal) {
+  const [, number] = /^F24 history line (\d+)$/.exec(refusal) ?? [];
+  if (number === undefined || file === undefined) return []; // a history that is in no file was made by the front
+  if (!isFile(file)) return [`${file}: line ${number} is wrong`];
+  const line = tried(() => lineOf(file, Number(number), MOST_SHOWN));
+  return [`${file}:${number}: ${line ?? "the file ends before this line"}`, "the line is not of its form, or its step cannot be taken: is it of this program and query?"];
+}
+
+/**
+ * What helps with a line of standard error that refuses a text or a file: lines, and the cause in a text where there is
+ * one. `file` and `load` are the names of the program's and the history's files.
+ */
+function whyRefused(line, { text, query, file, load }) {
+  const [, who, refusal] = /^(program|query|history|schedule): (F\d+ .*)$/.exec(line) ?? [];
+  if (who === undefined) return { lines: [] };
+  if (refusal.startsWith("F26")) return { lines: whyNotRead(who === "history" ? load : file) };
+  if (who === "history") return { lines: whyNotLoaded(load, refusal) };
+  const isQuery = who === "query", source = isQuery ? query : text;
+  const limit = Replies.limitIn(refusal);
+  if (limit !== undefined) return { lines: [limit] };
+  const cause = Causes.causeOf(refusal, { text: source, which: isQuery ? "query" : file, isQuery, program: text });
+  return cause === undefined ? { lines: [] } : { lines: Causes.linesOf(cause, source), cause: { ...cause, isQuery } };
+}
+
+/**
+ * What ghcdb says of a program and a query; undefined where it accepts both. Without a native program the page's engine
+ * tells at once, for it only reads.
+ */
+async function refusalOf({ program: text, query }, native) {
+  if (native === undefined) {
+    const { refused, start } = new Engine(ofPage()).open({ program: text, query });
+    return refused ? start.trim() : undefined;
+  }
   const program = open([HANDED.program, "--query", query], native, new Map([[HANDED.program, Buffer.from(text)]]));
   try {
     return await unlessEnded(program.ask("goals").then(() => undefined), ({ errors }) => errors.trim());
   } finally {
     await program.kill();
   }
-}
-
-/** What the page's engine says of them: at once, for it only reads. */
-function refusalOfEngine(program, query) {
-  const session = new Engine(ofPage()).open({ program, query });
-  return session.refused ? session.start.trim() : undefined;
-}
-
-/** What ghcdb says of a program and a query; undefined where it accepts both. */
-async function refusalOf({ program, query }, native) {
-  return native === undefined ? refusalOfEngine(program, query) : refusalOfNative(program, query, native);
 }
 
 /** By the places in the texts, the query's last. */
@@ -44,9 +80,7 @@ const isBefore = (place, other) => place.line < other.line || (place.line === ot
 // The texts as they are judged, after what was refused is out.
 class Judged {
   constructor({ text, query, file = "program", load }) {
-    this.file = file;
-    this.load = load;
-    this.originals = { text, query };
+    this.given = { text, query, file, load };
     this.readable = text; // without what is no syntax
     this.text = text; // without all that was refused
     this.query = query;
@@ -77,16 +111,15 @@ class Judged {
 
   /** The refusal with its cause, in a list, told of the text as it was; none where it may be due to what is out. */
   told(said) {
-    const { who, number, rest, clause } = this.read(said), { file, query, load, originals } = this;
+    const { who, number, rest, clause } = this.read(said), { query, given } = this;
     if (number === "F5" && (this.isOpen || this.names.has(/^undefined (\w+)\//.exec(rest)[1]))) return [];
     const mends = number === "F3" || number === "F4" ? this.mends.get(clause) ?? [] : [];
     const text = mends.reduce((before, mend) => mend(before) ?? before, this.readable);
-    const { lines, cause } = whyRefused(said, { text, query, file, load });
+    const { lines, cause } = whyRefused(said, { ...given, text, query });
     if (cause === undefined) return [{ said, lines, cause }];
     const key = `${who} ${cause.line}:${cause.column}`, isTold = number !== "F5" && this.places.has(key);
     this.places.add(key);
-    const original = who === "query" ? originals.query : originals.text;
-    return isTold ? [] : [{ said, lines: Causes.linesOf(cause, original), cause }];
+    return isTold ? [] : [{ said, lines: Causes.linesOf(cause, who === "query" ? given.query : given.text), cause }];
   }
 
   /** Takes out what was refused, of which `cause` was told; false where that cannot be. */
@@ -107,8 +140,8 @@ class Judged {
 
   /** Takes a goal out that is no syntax; its clause where that does not help, and where no goal is wrong. */
   takeOutOfProgram(read) {
-    const isSame = this.isSame(read), now = { before: this.text, place: read.place };
-    const { before, place } = isSame ? this.taken : now;
+    const isSame = this.isSame(read);
+    const { before, place } = isSame ? this.taken : { before: this.text, place: read.place };
     const without = TakingOut.withoutPlace(before, place, isSame);
     if (without === undefined || without.text === before) return false;
     this.taken = without.end && { who: read.who, before, place, ...without };
@@ -157,8 +190,10 @@ async function everyRefusal(given, native, first) {
     if (refusals.length === MOST || !judged.takeOut(said, told[0]?.cause)) break;
     said = await refusalOf(judged, native);
   }
-  const [told, ...more] = refusals;
-  return told === undefined ? [] : [told, ...more.sort(byPlace)];
+  return [...refusals.slice(0, 1), ...refusals.slice(1).sort(byPlace)];
 }
 
-export { everyRefusal };
+/** What is told after the words of the first refusal, which ghcdb said itself: what helps with it, and the others. */
+const linesAfterFirst = (refusals) => refusals.flatMap(({ said, lines }, at) => (at === 0 ? lines : [said, ...lines]));
+
+export { everyRefusal, linesAfterFirst, whyNotRead };

@@ -1,9 +1,10 @@
-// Files: written whole or not at all, and read no further than is asked for.
+// Files: written whole or not at all, and read no further than is asked for; and why one is not written.
 import fs from "node:fs";
+import os from "node:os";
 import path from "node:path";
 
 const PIECE = 65_536; // bytes that are read at once
-const LINE_FEED = 10;
+const NOWHERE = "/dev/null"; // no file stands below it: nothing is read, and nothing can be written
 
 /** What a call gives; `otherwise` where the system refuses it. */
 function tried(call, otherwise) {
@@ -21,6 +22,9 @@ const isNoFile = (file) => tried(() => !fs.statSync(file).isFile(), false);
 
 /** Is it a device or a pipe, which might be read without end? */
 const isEndless = (file) => isNoFile(file) && !fs.statSync(file).isDirectory();
+
+/** The place of a file in the home folder. Where HOME is empty it is nowhere, and not in the folder one stands in. */
+const inHome = (name) => path.join(os.homedir() || NOWHERE, name);
 
 /** The bytes of a file, piece by piece. */
 function* piecesOf(file) {
@@ -48,29 +52,16 @@ function beginningOf(file, most) {
   return Buffer.concat(pieces).subarray(0, most);
 }
 
-/** The place in a piece of text where the line begins that is `left` lines further on, and how many are still left. */
-function skipLines(piece, left) {
-  let at = 0;
-  for (; left > 0; left -= 1) {
-    const end = piece.indexOf(LINE_FEED, at);
-    if (end < 0) return { at: piece.length, left };
-    at = end + 1;
-  }
-  return { at, left };
-}
-
 /** The first `most` letters of a line of a file; undefined where the file ends before it. */
 function lineOf(file, number, most) {
-  let line = "", left = number - 1;
+  let begun = "", left = number - 1; // how the line begins that no piece has ended yet, and how many lines come before
   for (const piece of piecesOf(file)) {
-    const found = skipLines(piece, left);
-    left = found.left;
-    if (found.at === piece.length) continue;
-    const end = piece.indexOf(LINE_FEED, found.at);
-    line += piece.toString("latin1", found.at, end < 0 ? piece.length : end);
-    if (end >= 0 || line.length >= most) return line.slice(0, most);
+    const lines = (begun + piece.toString("latin1")).split("\n"), line = lines[left];
+    if (left < lines.length - 1 || line?.length >= most) return line.slice(0, most);
+    left -= lines.length - 1;
+    begun = lines.at(-1).slice(0, most);
   }
-  return line === "" ? undefined : line;
+  return left === 0 && begun !== "" ? begun : undefined;
 }
 
 /** Does a process of that number run, other than this one? */
@@ -115,11 +106,6 @@ function syncFolder(folder) {
   fs.closeSync(to);
 }
 
-/** The error of a place that is there and is no file. */
-function notAFile(found) {
-  return Object.assign(new Error("it is no file"), { code: found.isDirectory() ? "EISDIR" : "ENOTFILE" });
-}
-
 /**
  * Writes a text into a file, whole or not at all: into another file beside it, which then takes its place. So the old
  * file stands until the new one is on the disk. A symbolic link is followed. `mode` is for a file that is not there
@@ -127,7 +113,9 @@ function notAFile(found) {
  */
 function writeWhole(file, text, mode = 0o666) {
   const place = tried(() => fs.realpathSync(file), file), old = fs.statSync(place, { throwIfNoEntry: false });
-  if (old !== undefined && !old.isFile()) throw notAFile(old);
+  if (old !== undefined && !old.isFile()) {
+    throw Object.assign(new Error("it is no file"), { code: old.isDirectory() ? "EISDIR" : "ENOTFILE" });
+  }
   if (old !== undefined) fs.accessSync(place, fs.constants.W_OK);
   takeAwayLeftovers(place);
   const made = `${place}.${process.pid}.new`;
@@ -146,4 +134,24 @@ const NO_VERSION = "is no version: save tells the whole session, save 1 the kept
 /** Why a word names no file to save into: a number is taken for a version. Undefined where it names one. */
 const whyNoName = (word) => (/^\d+$/.test(word) ? `${word} ${NO_VERSION} ./${word}` : undefined);
 
-export { beginningOf, isEndless, isFile, isNoFile, lineOf, tried, whyNoName, writeWhole };
+const HEADING = "ghc-history ";
+
+/** Why nothing is saved into a file that is no history. Undefined where it may be saved; of a folder writing tells. */
+function whyOtherFile(file) {
+  const head = isFile(file) ? tried(() => beginningOf(file, HEADING.length).toString("latin1"), "") : "";
+  const isOther = isEndless(file) || (head !== "" && head !== HEADING);
+  return isOther ? `${file} is there and is no history: name another file` : undefined;
+}
+
+const FULL = "the disk is full", NOT_ALLOWED = "writing it is not allowed", NO_FOLDER = "its folder is not there";
+const NOT_WRITTEN = {
+  ENOENT: NO_FOLDER, ENOTDIR: NO_FOLDER, EACCES: NOT_ALLOWED, EPERM: NOT_ALLOWED, EROFS: NOT_ALLOWED,
+  EISDIR: "it is a folder", ENOTFILE: "it is no file", ENOSPC: FULL, EDQUOT: FULL, EFBIG: "no file may be so large",
+};
+
+/** Why a file was not written, by the error that was thrown. */
+const whyNotWritten = (file, error) => `${file}: ${NOT_WRITTEN[error.code] ?? error.message}; nothing was saved`;
+
+export {
+  beginningOf, inHome, isEndless, isFile, isNoFile, lineOf, tried, whyNoName, whyNotWritten, whyOtherFile, writeWhole,
+};

@@ -2,7 +2,8 @@
 //
 // The words of the command line and the files are given; standard input is fed piece by piece; what is written to standard
 // output and standard error is gathered. There are no folders, no environment and no threads.
-import { joined } from "../text/bytes.mjs";
+import { decode, joined } from "../text/bytes.mjs";
+import Heap from "./heap.mjs";
 
 const INPUT = 0, OUTPUT = 1, ERRORS = 2, FIRST_FILE = 3;
 // Errors by their numbers on Linux.
@@ -26,30 +27,29 @@ class Host {
     this.full = full;
     this.open = new Map([[INPUT, { bytes: new Uint8Array(0), at: 0 }]]); // by their descriptors bytes, and where they are read next
     this.lastFile = FIRST_FILE - 1;
-    this.inputEnded = false;
+    this.inputEnded = false; // does the input end after what was fed?
     this.written = new Map([[OUTPUT, []], [ERRORS, []]]);
     this.error = 0;
   }
 
-  // Joins the host to an instance of the module. `reading.before` is called before anything is read, and `reading.wait` where
-  // the program reads input that is not there yet.
-  join(memory, heap, reading) {
-    this.memory = memory;
-    this.heap = heap;
+  // Makes an instance of the module, which asks this host alone, and gives what it exports. `reading.before` is called
+  // before anything is read, and `reading.wait` where the program reads input that is not there yet.
+  instanceOf(compiled, reading) {
+    const asked = WebAssembly.Module.imports(compiled).map(({ name }) => name);
+    const { exports } = new WebAssembly.Instance(compiled, { host: this.imports(asked) });
+    const calls = /** @type {import("../types").EngineCalls} */ (exports);
+    this.memory = calls.memory;
+    this.heap = new Heap(this.memory, Number(calls.__heap_base.value));
     this.reading = reading;
-    this.features = heap.take(FEATURES);
+    this.features = this.heap.take(FEATURES);
     this.bytes(this.features, FEATURES).fill(255);
+    return calls;
   }
 
   // Adds bytes to the input that is not read yet.
   feed(bytes) {
     const { bytes: before, at } = this.open.get(INPUT);
     this.open.set(INPUT, { bytes: joined([before.subarray(at), bytes]), at: 0 });
-  }
-
-  // Behind what was fed, the input ends.
-  endInput() {
-    this.inputEnded = true;
   }
 
   // What was written to a stream since it was taken last.
@@ -65,9 +65,9 @@ class Host {
   }
 
   // The bytes from a place up to a byte 0.
-  textAt(place) {
+  bytesAt(place) {
     const all = new Uint8Array(this.memory.buffer);
-    return new TextDecoder().decode(all.slice(place, all.indexOf(0, place)));
+    return all.slice(place, all.indexOf(0, place));
   }
 
   // Answers that a call has failed, and keeps why for those who ask.
@@ -94,9 +94,9 @@ class Host {
     return word.length <= room ? word.length : -2;
   }
 
-  // A descriptor of a file, from whose beginning it is read.
+  // A descriptor of a file, from whose beginning it is read. Its name comes as bytes.
   openFile(name) {
-    const bytes = this.files.get(name);
+    const bytes = this.files.get(decode(name));
     if (bytes === undefined) return this.fail(NO_SUCH_FILE);
     this.lastFile += 1;
     this.open.set(this.lastFile, { bytes, at: 0 });
@@ -154,7 +154,7 @@ class Host {
       rattle_arg: (index, to, room) => wide(this.word(Number(index), Number(to), Number(room))),
       rattle_errno: () => this.error,
       rattle_set_errno: (error) => { this.error = error; },
-      open: (name) => this.openFile(this.textAt(Number(name))),
+      open: (name) => this.openFile(this.bytesAt(Number(name))),
       read: (descriptor, to, most) => wide(this.read(descriptor, Number(to), Number(most))),
       write: (descriptor, from, length) => wide(this.write(descriptor, Number(from), Number(length))),
       lseek: (descriptor, offset, from) => wide(this.seek(descriptor, Number(offset), from)),

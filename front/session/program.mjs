@@ -71,18 +71,15 @@ function startWatcher(group) {
 
 /** The name of the signal that ended a program; undefined where none did. */
 function signalOf(status, signal) {
-  if (signal !== null) return signal;
-  const found = Object.entries(os.constants.signals).find(([, number]) => number === status - SIGNALLED);
-  return found?.[0];
+  const { signals } = os.constants;
+  return signal ?? Object.keys(signals).find((name) => signals[name] === status - SIGNALLED);
 }
 
 // What both kinds of sessions do: one line at a time is asked, and what comes of it can be held back for a while.
 class Talk {
-  constructor() {
-    this.before = Promise.resolve(); // what was asked before
-    /** @type {Ended | undefined} */
-    this.ended = undefined;
-  }
+  before = Promise.resolve(); // what was asked before
+  /** @type {Ended | undefined} */
+  ended = undefined;
 
   /** Hands a line to the program: each kind of session does so in its own way. */
   send(line) {
@@ -187,24 +184,20 @@ class NativeSession extends Talk {
 
   /** Is the reply whole? Its last line is the mark's, and it has another one. */
   isWhole() {
-    const last = this.pieces.at(-1);
-    if (last.length < MARK_REPLY.length) this.pieces = [Buffer.concat(this.pieces)];
+    if (this.pieces.at(-1).length < MARK_REPLY.length) this.pieces = [Buffer.concat(this.pieces)];
     const end = this.pieces.at(-1);
     if (!end.subarray(-MARK_REPLY.length).equals(Buffer.from(MARK_REPLY))) return false;
     const before = end.length > MARK_REPLY.length ? end.at(-MARK_REPLY.length - 1) : this.pieces.at(-2)?.at(-1);
-    return before === 0x0a;
+    return before === LINE_FEED;
   }
 
   gather(piece) {
     this.pieces.push(piece);
-    if (!this.isBusy) return;
-    if (!this.isWhole()) {
-      this.handOn(this.waiting);
-      return;
-    }
+    if (!this.isBusy) return undefined;
+    if (!this.isWhole()) return this.handOn(this.waiting);
     const { pieces } = this;
     this.pieces = [];
-    this.settle(({ resolve, reject }) => {
+    return this.settle(({ resolve, reject }) => {
       try {
         resolve(Buffer.concat(pieces).toString("latin1").slice(0, -MARK_REPLY.length - 1).split("\n"));
       } catch (error) {
@@ -289,12 +282,10 @@ class EngineSession extends Talk {
   }
 }
 
-const isProgram = (file) => tried(() => fs.accessSync(file, fs.constants.X_OK) ?? true, false);
-
 /** The native program to use: the one that is named, else the proved one where it was built; undefined for the page's engine. */
 function nativeProgram(named = process.env.GHCDB) {
   if (named === "page") return undefined;
-  return named || (isProgram(NATIVE) ? NATIVE : undefined);
+  return named || tried(() => fs.accessSync(NATIVE, fs.constants.X_OK) ?? NATIVE);
 }
 
 /**

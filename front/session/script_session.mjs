@@ -21,11 +21,8 @@ async function asked(asker, line, learn, hear) {
 }
 
 class ScriptSession extends Session {
-  constructor(words) {
-    super(words);
-    this.mostKept = MOST_KEPT;
-    this.isForgotten = false; // what was told of the steps
-  }
+  mostKept = MOST_KEPT;
+  isForgotten = false; // what was told of the steps
 
   /** The lines of the reply to a line, after those that `hear` took as they came. */
   async ask(line, hear) {

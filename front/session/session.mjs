@@ -6,7 +6,7 @@ import * as Replies from "../protocol/replies.mjs";
 import Run from "../run/run.mjs";
 import * as Program from "./program.mjs";
 import { beginningOf, isNoFile, tried, writeWhole } from "./files.mjs";
-import { NOT_BEGUN, NotEnded, WayBack, isWhole } from "./way_back.mjs";
+import { NOT_BEGUN, NotEnded, WayBack, isWhole, textOf } from "./way_back.mjs";
 import { readWords, wordsFrom, wordsOfProgram } from "../protocol/words.mjs";
 
 const { HANDED } = Program;
@@ -23,9 +23,6 @@ const MOST_BYTES = 1_048_576; // of a program: ghcdb reads one byte further to s
 
 /** The bytes of a program, which is read once; undefined where it cannot be read, which ghcdb tells. */
 const bytesOf = (file) => tried(() => beginningOf(file, MOST_BYTES + 1));
-
-/** A history, as its lines are in a file. */
-const textOf = (lines) => `${lines.join("\n")}\n`;
 
 class Session {
   /**
@@ -179,7 +176,6 @@ class Session {
 
   /** Keeps a history that brings the session back. Without memory for it, the one before and the lines since do. */
   async prepareForEnding() {
-    this.way ??= new WayBack(this.isByMany);
     this.asked = "save";
     const saved = await this.program.ask("save");
     if (isWhole(saved)) this.way.begin(textOf(saved), saved.length);

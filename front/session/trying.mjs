@@ -3,7 +3,7 @@
 import * as Histories from "../protocol/histories.mjs";
 import * as Replies from "../protocol/replies.mjs";
 import { MOST_STEPS, choicesIn, concernedIn, eachOnce, isOpen, outcomeTold } from "../run/other_choices.mjs";
-import { isWhole } from "./way_back.mjs";
+import { isWhole, textOf } from "./way_back.mjs";
 
 const MOST = 40; // choices that are tried
 const MOST_LOOKED = 3000; // steps, of all variables of a query, among which a run's end looks for those that were free
@@ -46,7 +46,7 @@ class Trying {
    */
   constructor(session, saved) {
     this.session = session;
-    this.history = `${saved.join("\n")}\n`;
+    this.history = textOf(saved);
     this.prepared = Histories.spiesIn(saved).map((predicate) => `nospy ${predicate}`);
     this.isStopped = false;
   }

@@ -9,6 +9,9 @@ const LIGHT = 1000; // so many lines of replies are soon told again, however sho
 /** Is a history whole? */
 const isWhole = (history) => !history.includes(Replies.NO_MEMORY);
 
+/** A history, as its lines are in a file. */
+const textOf = (lines) => `${lines.join("\n")}\n`;
+
 // What is thrown where a line cannot be ended without losing the session.
 class NotEnded extends Error {}
 
@@ -80,4 +83,4 @@ class WayBack {
   }
 }
 
-export { NOT_BEGUN, NotEnded, WayBack, isWhole };
+export { NOT_BEGUN, NotEnded, WayBack, isWhole, textOf };

@@ -7,6 +7,7 @@ import Engine from "./engine.mjs";
 import Host from "./host.mjs";
 import * as ReloadPlan from "../run/reload_plan.mjs";
 import * as Replies from "../protocol/replies.mjs";
+import { decode, linesOf } from "../text/bytes.mjs";
 import * as Reader from "../text/reader.mjs";
 
 const MOST_WITH_TEXTS = 3000; // steps; the goals of a longer run are not asked for
@@ -14,17 +15,9 @@ const MOST_LINES_READ = 300000; // bytes; a longer reply is handed on as it is
 const EVERY = 8192, LEAST_PAUSE = 150; // requests for memory, milliseconds: how often it says that a line is still at work
 const NOTHING = new Uint8Array(0), FIRST_OF_REFUSAL = 70; // the letter F
 
-const decode = (bytes) => new TextDecoder().decode(bytes);
-const linesOf = (bytes) => decode(bytes).split("\n").slice(0, -1);
 /** What shortens the lines of a reply: a history stays as it is. */
 const shortening = (line) => (Effects.wordOf(line) === "save" ? (told) => told : (told) => Short.line(told));
 const refusalIn = (reply) => (reply[0] === FIRST_OF_REFUSAL ? decode(reply).trim() : "");
-
-/** The numbers of the steps that a reply tells to be taken back. */
-function goneIn(reply) {
-  const lines = Array.isArray(reply) ? reply : linesOf(reply);
-  return lines.flatMap((line) => Replies.readUndone(line) ?? []);
-}
 
 class WorkerSide {
   constructor(engine) {
@@ -34,16 +27,12 @@ class WorkerSide {
 
   /** Begins a session, from nothing or from a history. */
   open({ given }) {
-    return this.begin(given, this.opened(given));
-  }
-
-  opened({ program, query, history }) {
-    return this.engine.open({ program, query, history: history || undefined });
+    return this.begin(given, this.engine.open(given));
   }
 
   /** Begins a session at which nobody looks: it is asked alone. */
   trial({ given }) {
-    this.session = this.opened(given);
+    this.session = this.engine.open(given);
     if (this.session.refused) throw new Error(this.session.start.trim());
     return {};
   }
@@ -74,8 +63,10 @@ class WorkerSide {
     return come === null ? this.look() : this.changed({ kept, come });
   }
 
-  /** The same, where steps have gone: they are told by their numbers. */
-  takenLook(gone) {
+  /** The same, where steps have gone: a reply, a list of lines or bytes, tells their numbers. */
+  takenLook(reply) {
+    const lines = Array.isArray(reply) ? reply : linesOf(reply);
+    const gone = lines.flatMap((line) => Replies.readUndone(line) ?? []);
     this.told.take(new Set(gone));
     return this.changed({ gone: Float64Array.from(gone), come: NOTHING });
   }
@@ -97,8 +88,9 @@ class WorkerSide {
   reload({ program }) {
     const { program: text, query } = this.given, fresh = this.engine.open({ program, query });
     if (fresh.refused) return { refusal: fresh.start.trim() };
-    const [before, after] = [text, program].map(Reader.readProgram);
-    const plan = ReloadPlan.planTold({ before, after, ...this.whole() });
+    const [before, after] = [text, program].map(Reader.readProgram), records = linesOf(this.told.bytes);
+    const [saved, shelf] = ["save", "shelf"].map((line) => this.session.line(line));
+    const plan = ReloadPlan.planTold({ before, after, records, saved, shelf });
     if (plan === undefined) return { refusal: Replies.NO_MEMORY };
     let given, session;
     for (const history of ReloadPlan.historiesOf(plan)) {
@@ -109,16 +101,9 @@ class WorkerSide {
     return { refusal: session.start.trim() };
   }
 
-  /** The lines by which the session can go on elsewhere. */
-  whole() {
-    const [saved, shelf] = ["save", "shelf"].map((line) => this.session.line(line));
-    return { records: linesOf(this.told.bytes), saved, shelf };
-  }
-
   /** A session of the first steps alone. */
   after(count) {
-    this.second = this.second ?? this.aside();
-    const { second } = this, { session, numbers } = second;
+    const second = this.second ??= this.aside(), { session, numbers } = second;
     for (; second.count > count; second.count--) session.line(`undo ${numbers[second.count - 1]}`);
     for (; second.count < count; second.count++) session.line(`redo ${numbers[second.count]}`);
     return session;
@@ -151,7 +136,7 @@ class WorkerSide {
   lookAfter(lines, reply) {
     const effects = lines.map(Effects.effectOf);
     if (effects.every((effect) => effect === "looks")) return null;
-    if (effects.length === 1 && effects[0] === "takes") return this.takenLook(goneIn(reply));
+    if (effects.length === 1 && effects[0] === "takes") return this.takenLook(reply);
     return effects.every((effect) => ["adds", "looks"].includes(effect)) ? this.addedLook() : this.look();
   }
 

@@ -1,4 +1,10 @@
-// Bytes. Pure.
+// Bytes, and the texts that they are in UTF-8. Pure.
+
+const encode = (text) => new TextEncoder().encode(text);
+const decode = (bytes) => new TextDecoder().decode(bytes);
+
+/** The lines of bytes, each of which ends with a line feed. */
+const linesOf = (bytes) => decode(bytes).split("\n").slice(0, -1);
 
 /** The bytes of all parts, one after the other. */
 function joined(parts) {
@@ -11,4 +17,4 @@ function joined(parts) {
   return all;
 }
 
-export { joined };
+export { decode, encode, joined, linesOf };
