@@ -44,8 +44,8 @@ function bindingInGuard(clause, place) {
 
 /** The arguments of two clauses' heads side by side, each as its tokens. */
 function besideEachOther(clause, other) {
-  const [own, others] = [clause, other].map((tokens) => Cures.argumentsOf(Tokens.headOf(tokens)));
-  return own.map((argument, place) => ({ argument, beside: others[place] }));
+  const others = Tokens.argumentsOf(other);
+  return Tokens.argumentsOf(clause).map((argument, place) => ({ argument, beside: others[place] }));
 }
 
 const isLone = (argument, kind) => argument.length === 1 && argument[0].kind === kind && argument[0].text !== "_";
@@ -149,7 +149,7 @@ const NO_EQUALITY = "other terms have no test of equality: write a clause for ea
 
 /** How a body makes what a head cannot: an argument of the head, at its place. */
 function bindInBody(tokens, place) {
-  const built = Cures.newName("A", tokens), text = Cures.textOf(Cures.argumentsOf(Tokens.headOf(tokens))[place]) ?? "..";
+  const built = Cures.newName("A", tokens), text = Cures.textOf(Tokens.argumentsOf(tokens)[place]) ?? "..";
   return `write ${built} for argument ${place + 1}, and ${built} = ${text} in the body`;
 }
 
@@ -189,7 +189,7 @@ function curesOf(clauses, number, tokens, name, { role, place, within }) {
 /** F4: the second place of the variable in the head. */
 function notLinear(tokens, name, number, program) {
   const clause = Tokens.clausesOf(tokens)[number - 1], token = clause.filter(({ text }) => text === name)[1];
-  const clauses = Reader.readProgram(program), given = Cures.argumentsOf(Tokens.headOf(clause));
+  const clauses = Reader.readProgram(program), given = Tokens.argumentsOf(clause);
   const places = given.flatMap((argument, place) => (argument.some(({ text }) => text === name) ? [place] : []));
   const second = places.find((place) => given[place].includes(token)), within = given[second].length > 1 ? second : undefined;
   const what = { ...roleOf(clauses, clauses[number - 1], name, places), within }, cures = curesOf(clauses, number, clause, name, what);

@@ -27,7 +27,7 @@ function markAt(clause, place) {
 
 /** Where the goal around a place begins and ends; a bracket that is opened before the place ends it too. */
 function goalAt(clause, { from, to }) {
-  return Cures.rangeAt(clause, { from, to }, Tokens.depthOf(clause.slice(0, from)), ENDS);
+  return Tokens.rangeAt(clause, { from, to }, Tokens.depthOf(clause.slice(0, from)), ENDS);
 }
 
 const isTerm = (tokens) => tokens.length > 0 && tokens.every(({ kind }) => kind !== "wrong" && kind !== "end");

@@ -117,17 +117,11 @@ class Reading {
     return { sort: "comparison", operator, left, right: this.expression() };
   }
 
-  /** Does a bar stand, outside of all brackets, before the clause's full stop? */
-  hasBar() {
-    const stop = this.tokens.findIndex(({ text }, place) => place >= this.at && text === ".");
-    return Tokens.barOutside(this.tokens.slice(this.at, stop < 0 ? undefined : stop)) >= 0;
-  }
-
   clause(number) {
     const first = this.next, head = this.term();
     let tests = [], body = [];
     if (this.takes(":-")) {
-      if (this.hasBar()) {
+      if (Tokens.barOutside(this.tokens, this.at) >= 0) {
         tests = this.row(this.test);
         this.take("|");
       }

@@ -153,7 +153,7 @@ function beginning({ token, here, next, isQuery, before, example }) {
 }
 
 function foreignWord({ token, before, next, later }) {
-  const [X, Y] = token.text === "mod" ? Cures.argumentsOf(later).map(Cures.textOf) : [];
+  const [X, Y] = token.text === "mod" ? Tokens.argumentsOf(later).map(Cures.textOf) : [];
   if (token.text === "mod" && next.text === "(") return cause("mod is an operator", `${X ?? "X"} mod ${Y ?? "2"}, and not mod(${X ?? "X"},${Y ?? "2"})`);
   if (token.text === "is" && before?.kind === "variable") return cause("`is` is written :=", endsTerm(next) || next.text === "(" ? "{X} := {Y}" : `${before.text} := ..`, ...(next.text === "[" ? [`a term is given by =, as ${before.text} = [A|X]`] : []));
   if (token.kind === "name" && Object.hasOwn(Habits.WORDS, token.text) && endsTerm(before)) return cause(...Habits.WORDS[token.text]);
@@ -209,18 +209,6 @@ function arithmetic(where) {
   return undefined;
 }
 
-/** What stands in the list that is open, outside of brackets within it; undefined where none is. */
-function inList(here) {
-  const open = Tokens.openBrackets(here).at(-1);
-  if (open?.text !== "[") return undefined;
-  let depth = 0;
-  return here.slice(here.indexOf(open) + 1).filter((token) => {
-    const isOutside = depth === 0;
-    depth += Tokens.depthOf([token]);
-    return isOutside;
-  });
-}
-
 /** May the last goal before a guard's bar be a test? An expression without a comparison is none. */
 function isTest(here) {
   const start = here.findLastIndex(({ text }, place) => [",", ":-"].includes(text) && Tokens.depthOf(here.slice(0, place)) === 0), goal = here.slice(start + 1);
@@ -231,9 +219,9 @@ function isTest(here) {
 function bars({ token, before, here, later }) {
   const hasBar = Tokens.barOutside(here) >= 0;
   if (token.text === "|" && before?.text === ":-") return cause("the guard is empty", "write true |, or leave out the bar too");
-  const list = inList(here), hasTail = list?.some(({ text }) => text === "|");
+  const open = Tokens.openBrackets(here).at(-1), isList = open?.text === "[", hasTail = isList && Tokens.barOutside(here, here.indexOf(open) + 1) >= 0;
   if (hasTail && ["|", ","].includes(token.text) && endsTerm(before)) return cause("one tail stands after the bar of a list", "[A,B|C], and not [A|B|C]");
-  if (list !== undefined && token.text === "]" && before.text === "|") return cause("no tail stands after the bar of the list", "write it, as [A|X], or drop the bar");
+  if (isList && token.text === "]" && before.text === "|") return cause("no tail stands after the bar of the list", "write it, as [A|X], or drop the bar");
   if (token.text === "|" && before?.text === "[") return cause("a term is expected after '['", "write it, or drop the mark");
   if (token.text === "|" && !isTest(here)) return cause("an expression is no test", OwnGoals.comparedGoal({ here, later }));
   if (token.text === "|" && before?.kind === "variable") return cause(`${quoted(before)} is no test`, `to wait until it is bound write wait(${before.text})`);
@@ -355,18 +343,12 @@ function variableAsGoal({ token, before, tokens, place, depth }) {
   return cause(`the variable ${before.text} is no goal`, "goals are calls, as p(X), and X = Y, X := E; there is no call of a term");
 }
 
-/** The tokens of a goal, of which the first ones are given: up to the comma after it. */
-function goalOf(tokens) {
-  const end = tokens.findIndex(({ text }, place) => text === "," && Tokens.depthOf(tokens.slice(0, place)) === 0);
-  return end < 0 ? tokens : tokens.slice(0, end);
-}
-
 function afterMark(where) {
   const { token, before, isQuery, later, example } = where;
   if (before?.text === ",") return cause(
     `a goal or a term is expected after the comma, and ${quoted(token)} is none`, "drop the comma, or write what is missing");
   if (token.text === "(" && hasArrow(later)) return cause(NO_IF, OwnGoals.twoClauses(where));
-  if (token.text === "(" && before?.text === "=" && goalOf(later).some(({ text }) => OPERATIONS.has(text))) return cause(NO_SUM, OwnGoals.computed(where));
+  if (token.text === "(" && before?.text === "=" && Tokens.partsOf(later)[0].some(({ text }) => OPERATIONS.has(text))) return cause(NO_SUM, OwnGoals.computed(where));
   if (token.text === "(" && [":-", "|"].includes(before?.text)) return cause("brackets group expressions alone", "write the goals without them, with commas between them");
   if (token.text === "(" && before?.text === "=") return cause("brackets group expressions alone", "a pair is a structure, as pair(1,2)");
   if (["=", ":="].includes(before?.text)) return cause(

@@ -68,17 +68,10 @@ const BEYOND = new Set([..."\"'`“”„‘’{};", "if", "then", "else", "when
  * Undefined where brackets are not closed, or more may be wrong.
  */
 function goalAround(tokens, place, { from, to }) {
-  const part = tokens.slice(from, to), start = tokens.slice(from, place).findLastIndex(isNeck);
+  const part = tokens.slice(from, to), start = from + tokens.slice(from, place).findLastIndex(isNeck) + 1;
   if (part.some(({ text }) => BEYOND.has(text)) || part.some(Tokens.isArrow)) return undefined;
-  let depth = 0, first = from + start + 1, end = to;
-  for (let at = first; at < to; at += 1) {
-    depth += Tokens.depthOf([tokens[at]]);
-    if (depth < 0) return undefined;
-    const isEnd = end === to && depth === 0 && (tokens[at].text === "," || tokens[at].text === "|");
-    if (isEnd && at >= place) end = at;
-    else if (isEnd) first = at + 1;
-  }
-  return depth === 0 ? { from: first, to: end } : undefined;
+  const row = tokens.slice(start, to), goal = Tokens.rangeAt(row, { from: place - start, to: place - start }, 0, [",", "|"]);
+  return Tokens.isBalanced(row) ? { from: start + goal.from, to: start + goal.to } : undefined;
 }
 
 /** The letters of a goal that are taken out, and what stands there: with a short one its comma goes. */

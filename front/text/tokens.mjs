@@ -65,7 +65,7 @@ function tokensOf(text) {
   return tokens;
 }
 
-const OPENING = new Set(["(", "["]), CLOSING = new Set([")", "]"]);
+const BRACKETS = new Map([["(", 1], ["[", 1], [")", -1], ["]", -1]]); // with what each does to how many are open
 const OPERATORS = new Set(["+", "-", "*", "/", "mod"]), COMPARISONS = new Set(["<", ">", "=<", ">=", "=:=", "=\\="]);
 
 const touches = (left, right) => left !== undefined && left.end === right?.at;
@@ -73,7 +73,7 @@ const touches = (left, right) => left !== undefined && left.end === right?.at;
 /** How many brackets are open after these tokens; a closing one takes one off. */
 function depthOf(tokens) {
   let depth = 0;
-  for (const { text } of tokens) depth += OPENING.has(text) ? 1 : CLOSING.has(text) ? -1 : 0;
+  for (const { text } of tokens) depth += BRACKETS.get(text) ?? 0;
   return depth;
 }
 
@@ -81,21 +81,46 @@ function depthOf(tokens) {
 function openBrackets(tokens) {
   const open = [];
   for (const token of tokens) {
-    if (OPENING.has(token.text)) open.push(token);
-    if (CLOSING.has(token.text)) open.pop();
+    if (BRACKETS.get(token.text) > 0) open.push(token);
+    else if (BRACKETS.has(token.text)) open.pop();
   }
   return open;
 }
 
-/** The place of the first bar, from a place on, that stands outside of all brackets opened there; -1 where there is none. */
+/**
+ * The place of the first bar, from a place on, that stands outside of all brackets opened there and before the next
+ * full stop; -1 where there is none.
+ */
 function barOutside(tokens, start = 0) {
   let depth = 0;
-  for (let place = start; place < tokens.length; place += 1) {
-    const { text } = tokens[place];
-    if (depth === 0 && text === "|") return place;
-    depth += OPENING.has(text) ? 1 : CLOSING.has(text) ? -1 : 0;
+  for (let place = start; place < tokens.length && tokens[place].text !== "."; place += 1) {
+    if (depth === 0 && tokens[place].text === "|") return place;
+    depth += depthOf([tokens[place]]);
   }
   return -1;
+}
+
+/** How many brackets stand open around each token; a bracket stands outside of itself. */
+function levelsOf(tokens) {
+  let level = 0;
+  return tokens.map((token) => {
+    const depth = depthOf([token]);
+    level += depth;
+    return depth > 0 ? level - 1 : level;
+  });
+}
+
+/** Is each bracket closed that is opened in tokens, and opened that is closed? */
+const isBalanced = (tokens) => depthOf(tokens) === 0 && levelsOf(tokens).every((level) => level >= 0);
+
+/** The tokens around some, up to marks at a level of brackets or a bracket outside: from where to where. */
+function rangeAt(tokens, around, level, marks) {
+  const levels = levelsOf(tokens);
+  const isWithin = (at) => levels[at] > level || (levels[at] === level && !marks.includes(tokens[at].text));
+  let { from, to } = around;
+  while (from > 0 && isWithin(from - 1)) from -= 1;
+  while (to < tokens.length && isWithin(to)) to += 1;
+  return { from, to };
 }
 
 /** The tokens of each clause, its full stop included; what stands after the last full stop is a clause of its own. */
@@ -119,34 +144,8 @@ const commentBefore = (tokens, place) => tokens.slice(0, place + 1).findLast((to
 /** Does an arrow, `->`, begin at a token, the one at a place of tokens? */
 const isArrow = (token, place, tokens) => token.text === "-" && tokens[place + 1]?.text === ">";
 
-/** How many arguments the call has whose name is the token at a place. */
-function arityAt(tokens, place) {
-  if (tokens[place + 1]?.text !== "(") return 0;
-  let depth = 0, commas = 0;
-  for (const { text } of tokens.slice(place + 1)) {
-    depth += OPENING.has(text) ? 1 : CLOSING.has(text) ? -1 : 0;
-    if (depth === 0) break;
-    if (text === "," && depth === 1) commas += 1;
-  }
-  return commas + 1;
-}
-
 /** The tokens of each clause of a text. */
 const clausesIn = (text) => clausesOf(tokensOf(text));
-
-/** The predicate of the call at a place, as `append/3`. */
-const predicateAt = (tokens, place) => `${tokens[place].text}/${arityAt(tokens, place)}`;
-
-/** The place of the name of the call that ends before a place. */
-function callBefore(tokens, place) {
-  if (tokens[place - 1]?.text !== ")") return place - 1;
-  let at = place - 1;
-  for (let depth = 0; at > 0; at -= 1) {
-    depth += depthOf([tokens[at]]);
-    if (depth === 0) break;
-  }
-  return at - 1;
-}
 
 /** The place of the last token of the call that begins at a place. */
 function endOfCall(tokens, place) {
@@ -159,10 +158,32 @@ function endOfCall(tokens, place) {
   return at;
 }
 
-/** The tokens of the call that begins a clause. */
-const headOf = (clause) => clause.slice(0, endOfCall(clause, 0) + 1);
+/** The place of the name of the call that ends before a place. */
+const callBefore = (tokens, place) => tokens.slice(0, place).findLastIndex(({ text }, at) =>
+  text !== ")" && endOfCall(tokens, at) === place - 1);
+
+/** The tokens of the call that begins a clause, or stands at a place. */
+const headOf = (clause, place = 0) => clause.slice(place, endOfCall(clause, place) + 1);
+
+/** The parts of tokens between the commas that stand outside of all brackets. */
+function partsOf(tokens) {
+  const levels = levelsOf(tokens), commas = levels.flatMap((level, at) => (level === 0 && tokens[at].text === "," ? [at] : []));
+  return [...commas, tokens.length].map((end, place) => tokens.slice(place === 0 ? 0 : commas[place - 1] + 1, end));
+}
+
+/** The arguments of the call that begins a clause, or stands at a place, each as its tokens. */
+function argumentsOf(clause, place = 0) {
+  const call = headOf(clause, place), isClosed = depthOf(call) === 0;
+  return call.length < 2 ? [] : partsOf(call.slice(2, isClosed ? -1 : undefined));
+}
+
+/** How many arguments the call has whose name is the token at a place. */
+const arityAt = (tokens, place) => argumentsOf(tokens, place).length;
+
+/** The predicate of the call at a place, as `append/3`. */
+const predicateAt = (tokens, place) => `${tokens[place].text}/${arityAt(tokens, place)}`;
 
 export {
-  tokensOf, clausesOf, clausesIn, commentBefore, isArrow, arityAt, predicateAt, headOf, callBefore, endOfCall, depthOf, openBrackets,
-  barOutside, touches, OPERATORS, COMPARISONS,
+  tokensOf, clausesOf, clausesIn, commentBefore, isArrow, arityAt, argumentsOf, predicateAt, headOf, callBefore, endOfCall,
+  partsOf, rangeAt, isBalanced, depthOf, openBrackets, barOutside, touches, OPERATORS, COMPARISONS,
 };
