@@ -1,25 +1,24 @@
 // What to write instead of a goal, a test or a head that is refused, with the reader's own sides of it. Pure.
 //
-// What is given is a place of a clause: the tokens `here` before it, and `later` those from it on.
+// What is given is a place of a `clause`: the tokens `here` stand before it.
 import * as Cures from "./cures.mjs";
 import * as OwnWords from "./own_words.mjs";
 import * as Tokens from "./tokens.mjs";
 
 const isVariable = (text) => /^[A-Z_]\w*$/.test(text ?? "");
-const clauseOf = ({ here, later }) => [...here, ...later];
+const headIn = (clause, otherwise) => Cures.textOf(OwnWords.headOf(clause) ?? []) || otherwise;
 
 /** The two sides of a mark in the goal around the place, as texts; none where the mark is not there. */
-function sidesAt(where, mark) {
-  const clause = clauseOf(where), at = Math.min(where.here.length, clause.length - 1);
+function sidesAt({ clause, here }, mark) {
+  const at = Math.min(here.length, clause.length - 1);
   const { from, to } = OwnWords.goalAt(clause, { from: at, to: at });
   const place = clause.findIndex(({ text }, number) => number >= from && number < to && text === mark);
   return place < 0 ? [] : OwnWords.sidesOf(clause, { from: place, to: place + 1 });
 }
 
 /** An if-then-else as two clauses, with the clause's head and the condition. */
-function twoClauses(where) {
-  const clause = clauseOf(where), head = OwnWords.headOf(clause), named = (head && Cures.textOf(head)) ?? "p(X,Y)";
-  const arrow = clause.findIndex(Tokens.isArrow);
+function twoClauses({ clause }) {
+  const named = headIn(clause, "p(X,Y)"), arrow = clause.findIndex(Tokens.isArrow);
   const { from } = OwnWords.goalAt(clause, { from: arrow, to: arrow + 2 }), condition = clause.slice(from, arrow);
   const other = Cures.oppositeOf(condition), start = "write two clauses, each with its guard: ";
   if (other === undefined) return `${start}${named} :- .. | ..`;
@@ -45,8 +44,8 @@ function comparedSides(where) {
 }
 
 /** A term other than a number in a comparison: the head tests for it. */
-function comparedTerm(where) {
-  const { here } = where, clause = clauseOf(where), unequal = "for \"not equal\" write a clause for each case";
+function comparedTerm({ clause, here }) {
+  const unequal = "for \"not equal\" write a clause for each case";
   const mark = here.findLastIndex(({ text }) => Tokens.COMPARISONS.has(text));
   const isBefore = mark < here.findLastIndex(({ text }) => [",", "|", ":-"].includes(text));
   const at = isBefore || mark < 0 ? here.length : mark;
@@ -55,8 +54,7 @@ function comparedTerm(where) {
 }
 
 /** The expression that ends before the place, compared. */
-function comparedGoal(where) {
-  const clause = clauseOf(where), place = where.here.length;
+function comparedGoal({ clause, here: { length: place } }) {
   const { from } = OwnWords.goalAt(clause, { from: place, to: place }), goal = clause.slice(from, place);
   const variable = clause.find(({ kind }) => kind === "variable")?.text ?? "X";
   if (goal.length === 1) return `compare it, as ${variable} =:= ${goal[0].text}`;
@@ -64,23 +62,22 @@ function comparedGoal(where) {
 }
 
 /** A comparison of three sides, of which the place is the second mark, as two of them. */
-function twoComparisons(where) {
-  const clause = clauseOf(where), place = where.here.length, first = place - 2;
-  const { from, to } = OwnWords.goalAt(clause, { from: first, to: place + 1 });
+function twoComparisons({ clause, here: { length: place } }) {
+  const first = place - 2, { from, to } = OwnWords.goalAt(clause, { from: first, to: place + 1 });
   const [one, two] = [clause.slice(from, place), clause.slice(first + 1, to)].map(Cures.textOf);
   return `write two: ${one ?? "X < Y"}, ${two ?? "Y < Z"}`;
 }
 
-/** A comparison at a place of a clause's body, moved before the bar. */
-function beforeBar(where, place) {
-  const clause = clauseOf(where), head = OwnWords.headOf(clause), named = (head && Cures.textOf(head)) ?? "head";
+/** A comparison in a clause's body, by its mark, moved before the bar. */
+function beforeBar({ clause }, mark) {
+  const place = clause.indexOf(mark), named = headIn(clause, "head");
   const { from, to } = OwnWords.goalAt(clause, { from: place, to: place + 1 });
   return `tests stand before the bar: ${named} :- ${Cures.textOf(clause.slice(from, to)) ?? "X > Y"} | ..`;
 }
 
 /** A sum or difference in a head: a new variable stands there, of which the body computes the old one. */
-function computedInBody(where) {
-  const clause = clauseOf(where), [name, sign, number] = clause.slice(where.here.length - 1);
+function computedInBody({ clause, here }) {
+  const [name, sign, number] = clause.slice(here.length - 1);
   const isSigned = sign.kind === "integer", isSum = ["+", "-"].includes(sign.text) && number?.kind === "integer";
   if (name.kind !== "variable" || !(isSigned || isSum)) return "take a variable there, and compute in the body";
   const other = Cures.newName(name.text, clause), amount = isSigned ? sign.text.slice(1) : number.text;

@@ -8,7 +8,6 @@ const TRUE = "true";
 const GO_ON = new Set([",", "|", ":-", "(", "[", "=", ":=", ";"]); // after these no clause begins
 
 const isNeck = ({ text }) => text === ":-";
-const placeOf = (tokens, at) => tokens.findIndex(({ line, column }) => line === at.line && column === at.column);
 const isWord = ({ kind }) => kind === "name" || kind === "variable";
 const nameOf = ({ text }) => text[0].toLowerCase() + text.slice(1); // of a predicate, written with a large letter or not
 const bytesOf = (text) => new TextEncoder().encode(text).length;
@@ -70,7 +69,8 @@ const BEYOND = new Set([..."\"'`“”„‘’{};", "if", "then", "else", "when
 function goalAround(tokens, place, { from, to }) {
   const part = tokens.slice(from, to), start = from + tokens.slice(from, place).findLastIndex(isNeck) + 1;
   if (part.some(({ text }) => BEYOND.has(text)) || part.some(Tokens.isArrow)) return undefined;
-  const row = tokens.slice(start, to), goal = Tokens.rangeAt(row, { from: place - start, to: place - start }, 0, [",", "|"]);
+  const row = tokens.slice(start, to), at = place - start;
+  const goal = Tokens.rangeAt(row, { from: at, to: at }, 0, [",", "|"]);
   return Tokens.isBalanced(row) ? { from: start + goal.from, to: start + goal.to } : undefined;
 }
 
@@ -87,7 +87,7 @@ function takenFor(tokens, { from, to }) {
  * place is in a head, or more has to go.
  */
 function withoutGoal(text, at, isQuery = false) {
-  const tokens = Tokens.tokensOf(text), place = placeOf(tokens, at);
+  const tokens = Tokens.tokensOf(text), place = Tokens.placeOf(tokens, at);
   if (place < 0) return undefined;
   const around = isQuery ? { from: 0, to: tokens.length - 1 } : clauseAround(tokens, place), { from, to } = around;
   const end = !isQuery && to > from && endsLine(tokens, to - 1) ? to - 1 : to;
@@ -117,7 +117,7 @@ function strangeAt(text, tokens, place) {
  * @returns {import("../types").Without | undefined}
  */
 function withoutPlace(text, at, isWhole = false) {
-  const tokens = Tokens.tokensOf(text), place = placeOf(tokens, at);
+  const tokens = Tokens.tokensOf(text), place = Tokens.placeOf(tokens, at);
   if (place < 0) return undefined;
   const strange = strangeAt(text, tokens, place);
   if (strange !== undefined) return { text: replaced(text, strange), names: [] };

@@ -137,6 +137,9 @@ function clausesOf(tokens) {
   return clause.length > 0 ? [...clauses, clause] : clauses;
 }
 
+/** The place of the token that begins at a line and a column; -1 where none does. */
+const placeOf = (tokens, at) => tokens.findIndex(({ line, column }) => line === at.line && column === at.column);
+
 /** The first token of the last comment of another language that is opened up to a place; undefined where none is. */
 const commentBefore = (tokens, place) => tokens.slice(0, place + 1).findLast((token, at) =>
   token.text === "/" && tokens[at + 1]?.text === "*" && touches(token, tokens[at + 1]));
@@ -167,7 +170,8 @@ const headOf = (clause, place = 0) => clause.slice(place, endOfCall(clause, plac
 
 /** The parts of tokens between the commas that stand outside of all brackets. */
 function partsOf(tokens) {
-  const levels = levelsOf(tokens), commas = levels.flatMap((level, at) => (level === 0 && tokens[at].text === "," ? [at] : []));
+  const levels = levelsOf(tokens), isEnd = (place) => levels[place] === 0 && tokens[place].text === ",";
+  const commas = [...tokens.keys()].filter(isEnd);
   return [...commas, tokens.length].map((end, place) => tokens.slice(place === 0 ? 0 : commas[place - 1] + 1, end));
 }
 
@@ -184,6 +188,6 @@ const arityAt = (tokens, place) => argumentsOf(tokens, place).length;
 const predicateAt = (tokens, place) => `${tokens[place].text}/${arityAt(tokens, place)}`;
 
 export {
-  tokensOf, clausesOf, clausesIn, commentBefore, isArrow, arityAt, argumentsOf, predicateAt, headOf, callBefore, endOfCall,
-  partsOf, rangeAt, isBalanced, depthOf, openBrackets, barOutside, touches, OPERATORS, COMPARISONS,
+  tokensOf, clausesOf, clausesIn, placeOf, commentBefore, isArrow, arityAt, argumentsOf, predicateAt, headOf,
+  callBefore, endOfCall, partsOf, rangeAt, isBalanced, depthOf, openBrackets, barOutside, touches, OPERATORS, COMPARISONS,
 };
