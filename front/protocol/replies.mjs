@@ -258,6 +258,17 @@ function namedIn(line) {
   return { before, ...(step ? { step: Number(name) } : { goal: name }), after };
 }
 
+const SPIES = /^spies \d+$/, END = /^end (\d+)$/;
+
+/** The predicates that are spied, of the lines of a whole session, as `save` tells it. */
+function spiesIn(lines) {
+  const at = lines.findLastIndex((line) => SPIES.test(line));
+  return at < 0 ? [] : lines.slice(at + 1, -1);
+}
+
+/** The number that the next step gets, of the lines of a whole session. */
+const nextIn = (lines) => Number(END.exec(lines.at(-1))?.[1]);
+
 const NOT_IN_1 = "history 1 cannot hold a step that asked for goals: use save alone";
 
 /** What the limit means at which a line, or a text at the start, was refused; undefined where it was not at a limit. */
@@ -267,7 +278,7 @@ function limitIn(refusal, line = "") {
 }
 
 export {
-  reading,
+  reading, spiesIn, nextIn,
   isRefusal, isRefused, limitIn, hasHole, NO_MEMORY, readRecord, readRecords, withTerms, numberIn, beginsWithStep, numberAt, readShelf, wordsOf, readGoals, beforeGoal, beforeTerm, afterTerm,
   readTaken, readCall, goalsMade, readUndone, readPort, readExplained, readCause, readDependence, readValue, isUnbound, readHolder, readExtent, readTakenGoal, readChoice, readBinder, namedIn,
 };

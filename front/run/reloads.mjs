@@ -1,6 +1,5 @@
 // What becomes of a run whose program is edited, without a session of Node's: which steps go under a text, and the
 // history by which the others go on. Pure.
-import * as Histories from "../protocol/histories.mjs";
 import * as Replies from "../protocol/replies.mjs";
 import * as Clauses from "../text/clauses.mjs";
 import * as Graph from "./graph.mjs";
@@ -23,10 +22,10 @@ function goingUnder({ graph, clauses }, text) {
  */
 function planOf({ before, after, records, saved, shelf }) {
   if ([records, saved, shelf].some((lines) => lines.includes(Replies.NO_MEMORY))) return undefined;
-  const plan = ReloadPlan.planOf({ before, after, steps: Replies.readRecords(records) }), next = Histories.nextIn(saved);
+  const plan = ReloadPlan.planOf({ before, after, steps: Replies.readRecords(records) }), next = Replies.nextIn(saved);
   const shelves = [ReloadPlan.shelvedOf(plan, Replies.readShelf(shelf)), []];
   const histories = shelves.map((shelved) => ReloadPlan.historyOf(plan, { next, spied: [], shelved }));
-  return { ...plan, histories, spied: Histories.spiesIn(saved) };
+  return { ...plan, histories, spied: Replies.spiesIn(saved) };
 }
 
 /** What is told of a plan: how many steps stay and go, the first that took a clause that is gone, and clauses. */

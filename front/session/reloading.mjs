@@ -1,6 +1,5 @@
 // A session goes on under its program as the file has it now: which of its steps stay, in words, and the session that
 // takes its place. The history by which it does is made here; the console loads it, and judges.
-import * as Histories from "../protocol/histories.mjs";
 import * as Replies from "../protocol/replies.mjs";
 import { wordsOfQuery } from "../protocol/words.mjs";
 import { plural } from "../run/reasons.mjs";
@@ -45,8 +44,8 @@ async function reloadOf(session, { clauses, predicates, bytes }) {
   const records = await session.ask("records"), saved = await session.ask("save"), shelf = await session.ask("shelf");
   if (![records, saved, shelf].every(isWhole)) return undefined;
   const plan = ReloadPlan.planOf({ before: session.clauses, after: clauses, steps: Replies.readRecords(records) });
-  const spied = Histories.spiesIn(saved), isThere = (predicate) => predicates.includes(predicate);
-  const given = { next: Histories.nextIn(saved), spied: spied.filter(isThere) }, before = Replies.readShelf(shelf);
+  const spied = Replies.spiesIn(saved), isThere = (predicate) => predicates.includes(predicate);
+  const given = { next: Replies.nextIn(saved), spied: spied.filter(isThere) }, before = Replies.readShelf(shelf);
   const handedWith = (shelved) => ({ program: bytes, history: ReloadPlan.historyOf(plan, { ...given, shelved }) });
   const shelved = await shelvedBy(session, plan, before, handedWith), isShelved = new Set(shelved);
   const unshelved = before.filter((step) => !isShelved.has(step)), unspied = spied.filter((one) => !isThere(one));

@@ -26,6 +26,33 @@ function causeOf(refusal, { text, which, isQuery = false, program = text }) {
   return call ? caused(which, CheckerCauses.undefinedCall(Tokens.tokensOf(program), tokens, call[1], Number(call[2]), isQuery)) : undefined;
 }
 
+const said = (title, ...hints) => ({ title: `syntax: ${title}`, hints });
+
+/** What is said of what stands after a whole term. */
+function afterTerm({ text }) {
+  if (text === ".") return said("no full stop stands after a term", "drop it");
+  if (Tokens.OPERATORS.has(text) || text.startsWith("-")) return said("a term is not computed", "feed the value");
+  return said("one term is fed at a time", "feed the next one by another `in`");
+}
+
+/** What is said of the place at which an input term ends too early. */
+function atTermsEnd(open) {
+  if (open === undefined) return said("the term ends too early", "write a term, as f(a,[1,2])");
+  return said("the term ends within brackets", `'${open.text}' of column ${open.column} is not closed`);
+}
+
+const NO_VARIABLES = said("an input term has no variables", "`ask` adds goals, in which variables may stand");
+
+/** The cause at a place of an input term, where a query's words would mislead; undefined where they fit. */
+function causeInTerm(text, column) {
+  const tokens = Tokens.tokensOf(text), place = Tokens.placeOf(tokens, { line: 1, column }), token = tokens[place];
+  if (token === undefined || token.kind === "wrong") return undefined;
+  const open = Tokens.openBrackets(tokens.slice(0, place)).at(-1), tell = (what) => caused("in", { token, ...what });
+  if (token.kind === "variable") return tell(NO_VARIABLES);
+  if (token.kind === "end") return tell(atTermsEnd(open));
+  return place > 0 && open === undefined ? tell(afterTerm(token)) : undefined;
+}
+
 const bytesOf = (text) => new TextEncoder().encode(text);
 const lineOf = (text, line) => (text.split("\n")[line - 1] ?? "").replace(/\r$/, "");
 
@@ -82,8 +109,8 @@ function meantInSums(clause, lone) {
 
 /** What is written instead of an assignment that waits for what it is to bind. */
 function cureOfSum(clause, { place, right }) {
-  const { text } = clause[place], isLike = (token) => token.kind === "variable" && lettersOf(token.text) === lettersOf(text);
-  const meant = standingOnce(clause).find(isLike);
+  const { text } = clause[place], isLike = (other) => lettersOf(other.text) === lettersOf(text);
+  const meant = standingOnce(clause).find((token) => token.kind === "variable" && isLike(token));
   const told = (name, tokens) => `${name} := ${Cures.textOf(tokens) ?? ".."}`;
   if (meant === undefined) return `a variable gets one value; name a new one: ${told(Cures.newName(text, clause), right)}`;
   return `a variable gets one value; is ${meant.text} meant? ${told(text, right.map((token) => (token.text === text ? meant : token)))}`;
@@ -93,7 +120,8 @@ function cureOfSum(clause, { place, right }) {
 function loneVariables(clause, number) {
   const all = clause.filter(({ kind, text }) => kind === "variable" && !text.startsWith("_"));
   const lone = standingOnce(all), isMeant = new Set(meantInSums(clause, lone));
-  const names = [...lone.map(({ text }) => text), ...new Set(all.map(({ text }) => text))]; // two that stand once may be meant to be one
+  const textsOf = (tokens) => tokens.map(({ text }) => text);
+  const names = [...textsOf(lone), ...new Set(textsOf(all))]; // two that stand once may be meant to be one
   return lone.map((token) => {
     const near = Nearest.nearest(token.text, names.filter((name) => mayBeMeant(token.text, name)));
     const other = isMeant.has(token) ? UNUSED : `${UNUSED}; write _ where that is meant`;
@@ -149,10 +177,11 @@ function resultsInHeads(program, all) {
 /** The notes on a program that was accepted, in the order of its text. */
 function notesOn(program, which) {
   const clauses = Tokens.clausesIn(program);
-  const within = (notesIn) => clauses.flatMap((clause, place) => notesIn(clause, place + 1));
-  return [...[loneVariables, lostValues, waitingSums].flatMap(within), ...resultsInHeads(program, clauses), ...scattered(clauses)]
+  const eachOf = (notesIn) => clauses.flatMap((clause, place) => notesIn(clause, place + 1));
+  const within = [loneVariables, lostValues, waitingSums].flatMap(eachOf);
+  return [...within, ...resultsInHeads(program, clauses), ...scattered(clauses)]
     .map(({ token, title, hint }) => caused(which, { token, title: `note: ${title}`, hints: [hint] }))
     .sort((one, other) => one.line - other.line || one.column - other.column);
 }
 
-export { causeOf, notesOn, linesOf, letterOf };
+export { causeOf, causeInTerm, notesOn, linesOf, letterOf };

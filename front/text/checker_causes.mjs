@@ -98,10 +98,11 @@ function badVariable(token, head) {
 function notFlat(tokens, number) {
   const clauses = Tokens.clausesOf(tokens), clause = clauses[number - 1], { start, end } = guardOf(clause);
   const head = new Set(clause.slice(0, start).filter(({ kind, text }) => kind === "variable" && text !== "_").map(({ text }) => text));
-  let found, depth = 0;
+  const levels = Tokens.levelsOf(clause.slice(start, end));
+  let found;
   for (let place = start; place < end && found === undefined; place += 1) {
-    found = (depth === 0 ? badTest(clauses, clause, place) : undefined) ?? badVariable(clause[place], head);
-    depth += Tokens.depthOf([clause[place]]);
+    const isOutside = levels[place - start] === 0;
+    found = (isOutside ? badTest(clauses, clause, place) : undefined) ?? badVariable(clause[place], head);
   }
   found ??= causeAt(clause[start] ?? clause[0], "this guard is no test", ALL_TESTS);
   return { ...found, title: `not flat, clause ${number}: ${found.title}` };
@@ -199,12 +200,9 @@ function notLinear(tokens, name, number, program) {
 /** The first call of a predicate in a text; its first token where there is none. */
 function callIn(tokens, name, arity, isQuery) {
   const isGoal = (place) => (isQuery && place === 0) || [",", "|", ":-"].includes(tokens[place - 1]?.text);
-  const isOutside = (place) => {
-    const stop = tokens.slice(0, place).findLastIndex(({ text }) => text === ".");
-    return Tokens.depthOf(tokens.slice(stop + 1, place)) === 0;
-  };
-  const found = tokens.findIndex((token, place) => token.text === name && Tokens.arityAt(tokens, place) === arity && isGoal(place) && isOutside(place));
-  return tokens[Math.max(0, found)];
+  const levels = Tokens.levelsOf(tokens), isOutside = (place) => levels[place] === 0;
+  const isMeant = (token, place) => token.text === name && Tokens.arityAt(tokens, place) === arity;
+  return tokens.find((token, place) => isMeant(token, place) && isGoal(place) && isOutside(place)) ?? tokens[0];
 }
 
 /** F5: the call, and which predicate may have been meant. */

@@ -24,22 +24,16 @@ function newName(name, clause) {
 const PARTS = new Set([...Tokens.OPERATORS, "(", ")"]);
 const isOfExpression = ({ kind, text }) => ["variable", "integer"].includes(kind) || PARTS.has(text);
 
-/** An assignment of the expression at a place, and the goal in which that stands; undefined where it is none. */
-function assigned(clause, place) {
-  const at = { from: place, to: place + 1 }, level = Tokens.depthOf(clause.slice(0, place));
-  const inner = Tokens.rangeAt(clause, at, level, [",", "|"]);
-  const goal = Tokens.rangeAt(clause, at, 0, [",", "|", ":-"]), expression = clause.slice(inner.from, inner.to);
-  if (Tokens.depthOf(clause) !== 0 || !expression.every(isOfExpression)) return undefined;
-  const name = newName(expression.find(({ kind }) => kind === "variable")?.text ?? "N", clause);
-  const changed = [...clause.slice(goal.from, inner.from), { text: name }, ...clause.slice(inner.to, goal.to)];
-  const value = textOf(expression), text = textOf(changed);
-  return value === undefined || text === undefined ? undefined : `${name} := ${value}, ${text}`;
-}
-
 /** How an argument of a clause's goal is computed first; the place is one of the argument. */
 function computeFirst(clause, place) {
-  const goals = assigned(clause, place);
-  return goals === undefined ? "compute it first, by :=, and hand on the variable" : `compute it first: ${goals}`;
+  const at = { from: place, to: place + 1 }, level = Tokens.depthOf(clause.slice(0, place));
+  const inner = Tokens.rangeAt(clause, at, level, [",", "|"]), expression = clause.slice(inner.from, inner.to);
+  const goal = Tokens.rangeAt(clause, at, 0, [",", "|", ":-"]), isWhole = Tokens.depthOf(clause) === 0;
+  const name = newName(expression.find(({ kind }) => kind === "variable")?.text ?? "N", clause);
+  const changed = [...clause.slice(goal.from, inner.from), { text: name }, ...clause.slice(inner.to, goal.to)];
+  const value = isWhole && expression.every(isOfExpression) ? textOf(expression) : undefined, text = textOf(changed);
+  if (value === undefined || text === undefined) return "compute it first, by :=, and hand on the variable";
+  return `compute it first: ${name} := ${value}, ${text}`;
 }
 
 /** A goal of a program's first predicate, to show how one is written. */

@@ -169,11 +169,7 @@ function fold(given, leaf, node) {
 const termsOf = (goal) => (goal.sort === "call" ? [goal.call] : goal.sort === "true" ? [] : goal.sort === "stream" ? [goal.tail] : [goal.left, goal.right]);
 
 /** The names of the variables of goals, by first occurrence. */
-function variablesOfGoals(goals) {
-  const names = new Set();
-  for (const goal of goals) addVariables(names, ...termsOf(goal));
-  return [...names];
-}
+const variablesOfGoals = (goals) => [...addVariables(new Set(), ...goals.flatMap(termsOf))];
 
 /** A clause with what is asked of it often: its predicate, the goals that a step by it makes, the variables that it makes. */
 function finished(clause) {

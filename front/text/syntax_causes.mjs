@@ -3,7 +3,6 @@
 import * as Tokens from "./tokens.mjs";
 import * as Habits from "./habits.mjs";
 import * as Cures from "./cures.mjs";
-import * as OwnGoals from "./own_goals.mjs";
 import * as OwnWords from "./own_words.mjs";
 import * as Reader from "./reader.mjs";
 
@@ -59,7 +58,7 @@ function semicolon(where) {
   if (token.text !== ";") return undefined;
   const ends = next.kind === "end" || next.line > token.line;
   if (isQuery) return cause("there is no \"or\"", "a query is one row of goals: separate them by commas");
-  if (hasArrow(here)) return hasNeck ? cause(NO_IF, OwnGoals.twoClauses(where)) : cause("-> is written :-, and a clause ends with a full stop", CLAUSE);
+  if (hasArrow(here)) return hasNeck ? cause(NO_IF, OwnWords.twoClauses(where)) : cause("-> is written :-, and a clause ends with a full stop", CLAUSE);
   return ends && hasNeck ? cause("there is no \"or\"", "write two clauses", "a clause ends with a full stop") : undefined;
 }
 
@@ -75,14 +74,13 @@ function foreignMark({ rest, text, token, before }) {
     Habits.MARKS.find(([pattern]) => pattern.test("\ufeff"))[1], "save it as UTF-8 without BOM");
   if (token.text === "\\" && before?.text === "/" && touches(before, token)) return cause(...Habits.PAIRS["/\\"]);
   const found = Habits.MARKS.find(([pattern]) => pattern.test(rest)), isMark = token.kind === "wrong" || rest.startsWith("//");
-  return found === undefined || !isMark ? undefined : cause(found[1], found[2]);
+  return found && isMark && cause(found[1], found[2]);
 }
 
 /** A comment of another language, in which the place is: it begins before the place, and does not end there. */
 function blockComment({ text, tokens, place }) {
-  const first = Tokens.commentBefore(tokens, place);
-  if (first === undefined || text.slice(first.end + 1, tokens[place].at).includes("*/")) return undefined;
-  return { ...cause(...Habits.COMMENT), at: { ...first, text: "/*" } };
+  const first = Tokens.commentBefore(tokens, place), between = first && text.slice(first.end + 1, tokens[place].at);
+  return first && !between.includes("*/") && { ...cause(...Habits.COMMENT), at: { ...first, text: "/*" } };
 }
 
 function badToken({ token }) {
@@ -90,13 +88,14 @@ function badToken({ token }) {
     `${token.text} is a name of the running state`, "name the variable otherwise; such names may stand in `ask` and `show` alone");
   if (token.kind !== "integer") return undefined;
   const value = BigInt(token.text);
-  if (value <= 2n ** 63n - 1n && value >= -(2n ** 63n)) return undefined;
-  return cause("the integer does not fit into 64 bits", "integers go from -9223372036854775808 to 9223372036854775807");
+  return BigInt.asIntN(64, value) !== value && cause(
+    "the integer does not fit into 64 bits", "integers go from -9223372036854775808 to 9223372036854775807");
 }
 
 /** The first pair of tokens around the place that touch each other and are one of some marks; undefined where none is. */
-function pairAt({ token, before, next }, isMark) {
-  return [[before, token], [token, next]].filter(([left, right]) => touches(left, right)).map(([left, right]) => left.text + right.text).find(isMark);
+function pairAt({ token, before, next }, isMark, isPair = touches) {
+  const pairs = [[before, token], [token, next]].filter(([left, right]) => isPair(left, right));
+  return pairs.map(([left, right]) => left.text + right.text).find(isMark);
 }
 
 /** Arrows, which mean one thing after a head and another in a body. */
@@ -111,24 +110,24 @@ function arrow(where) {
 const MARKS = new Set([":-", ":=", "=<", ">="]);
 
 /** A mark that a blank stands in. */
-function splitMark({ token, before, next }) {
-  const joined = [[before, token], [token, next]].filter(([left, right]) => left !== undefined && left.line === right.line && !touches(left, right)).map(([left, right]) => left.text + right.text);
-  const mark = joined.find((pair) => MARKS.has(pair));
-  return mark === undefined ? undefined : cause(`a blank stands within ${mark}`, `write ${mark} in one piece`);
+function splitMark(where) {
+  const isApart = (left, right) => left?.line === right.line && !touches(left, right);
+  const mark = pairAt(where, (pair) => MARKS.has(pair), isApart);
+  return mark && cause(`a blank stands within ${mark}`, `write ${mark} in one piece`);
 }
 
 function foreignPair(where) {
   const found = pairAt(where, (pair) => Object.hasOwn(Habits.PAIRS, pair));
-  return found === undefined ? undefined : cause(...Habits.PAIRS[found]);
+  return found && cause(...Habits.PAIRS[found]);
 }
 
 /** Where a comment took the rest of an expression's line: % is no operator. */
 function commentInExpression({ text, token, before, here }) {
   if (!computes(here) || !endsTerm(before) || before.line === token.line) return undefined;
-  const rest = text.slice(before.end).split("\n")[0];
-  if (!/^[ \t]*%/.test(rest)) return undefined;
-  const [, right = "2"] = /^[ \t]*%[ \t]*(\w+)/.exec(rest) ?? [];
-  return { ...cause("% begins a comment, and is no operator", `the remainder is mod, as ${before.kind === "variable" ? before.text : "X"} mod ${right}`), after: before };
+  const [comment, right = "2"] = /^[ \t]*%[ \t]*(\w+)?/.exec(text.slice(before.end).split("\n")[0]) ?? [];
+  const left = before.kind === "variable" ? before.text : "X";
+  const told = cause("% begins a comment, and is no operator", `the remainder is mod, as ${left} mod ${right}`);
+  return comment !== undefined && { ...told, after: before };
 }
 
 const OPERATORS = ["+", "-", "*", "/", "mod", "=", ":="];
@@ -165,7 +164,7 @@ function foreignWord({ token, before, next, later }) {
   if (token.text === "is" && before?.kind === "variable") return cause("`is` is written :=", endsTerm(next) || next.text === "(" ? "{X} := {Y}" : `${before.text} := ..`, ...(next.text === "[" ? [`a term is given by =, as ${before.text} = [A|X]`] : []));
   if (token.kind === "name" && Object.hasOwn(Habits.WORDS, token.text) && endsTerm(before)) return cause(...Habits.WORDS[token.text]);
   const isAfterWord = before?.kind === "name" && Object.hasOwn(Habits.WORDS, before.text) && before.text !== "is";
-  return isAfterWord ? cause(...Habits.WORDS[before.text]) : undefined;
+  return isAfterWord && cause(...Habits.WORDS[before.text]);
 }
 
 const isFraction = (left, point, right) => left?.kind === "integer" && point?.text === "." && right?.kind === "integer" && touches(left, point) && touches(point, right);
@@ -176,16 +175,15 @@ function numbers({ token, before, next, tokens, place }) {
   if (before?.kind === "integer" && touches(before, token) && (token.kind === "name" || token.kind === "variable")) return cause(
     `${quoted(token)} cannot follow ${quoted(before)}`, BEHIND_NUMBER);
   if (token.text === "+" && next.kind === "integer" && !endsTerm(before)) return cause("there is no + before a number", `write ${next.text}`);
-  if (token.text === "-" && next.kind === "integer" && !touches(token, next) && !endsTerm(before)) return cause(
+  return token.text === "-" && next.kind === "integer" && !touches(token, next) && !endsTerm(before) && cause(
     "a space stands between the sign and the number", `write -${next.text}`);
-  return undefined;
 }
 
 /** An expression in the place of a term: in a head, or in an argument of a body. */
 function expressionWithin(where) {
   const { token, before, next, here, clause, isQuery, hasNeck } = where;
   const isNumber = [token, before, next].some(({ kind }) => kind === "integer") && before.kind !== "name";
-  if (!isQuery && !hasNeck) return cause("a head has terms, and computes nothing", isNumber ? OwnGoals.computedInBody(where) : PAIR);
+  if (!isQuery && !hasNeck) return cause("a head has terms, and computes nothing", isNumber ? OwnWords.computedInBody(where) : PAIR);
   if (before.kind === "name" || next.kind === "name" || next.text === "[") return cause(ARGUMENT, PAIR);
   const mayBePair = !isNumber && endsTerm(before) && ["-", "/"].includes(token.text);
   return cause(ARGUMENT, Cures.computeFirst(clause, here.length), ...(mayBePair ? [PAIR] : []));
@@ -206,10 +204,10 @@ function arithmetic(where) {
     "there is no minus before a variable or a bracket", next.kind === "variable" ? `write 0 - ${next.text}` : "write 0 - (..)");
   const isSigned = token.text.startsWith("-") && token.kind === "integer";
   if (depth > 0 && (isOperator || isSigned)) return expressionWithin(where);
-  if (isOperator && has(clause, "=")) return cause(NO_SUM, OwnGoals.computed(where));
-  if (token.text === ":=") return cause("only a variable stands before :=", OwnGoals.turnedRound(where));
+  if (isOperator && has(clause, "=")) return cause(NO_SUM, OwnWords.computed(where));
+  if (token.text === ":=") return cause("only a variable stands before :=", OwnWords.turnedRound(where));
   if (token.kind === "name" && isCompared(here)) return cause(
-    `${quoted(token)} is no number, and only numbers are compared`, OwnGoals.comparedTerm(where));
+    `${quoted(token)} is no number, and only numbers are compared`, OwnWords.comparedTerm(where));
   if (token.kind !== "name" || !isOperand || !computes(here)) return undefined;
   if (next.text === "(" && before.text !== "|") return cause(
     `${token.text} is no operator, and nothing computes it`, `let a process give the value: ${token.text}(..,V), and then X := V`, "to name a term write =");
@@ -233,11 +231,10 @@ function bars(where) {
   if (hasTail && isOneOf(token, "|", ",") && endsTerm(before)) return cause("one tail stands after the bar of a list", "[A,B|C], and not [A|B|C]");
   if (isList && token.text === "]" && before.text === "|") return cause("no tail stands after the bar of the list", "write it, as [A|X], or drop the bar");
   if (isBar && before?.text === "[") return cause("a term is expected after '['", "write it, or drop the mark");
-  if (isBar && !isTest(where)) return cause("an expression is no test", OwnGoals.comparedGoal(where));
+  if (isBar && !isTest(where)) return cause("an expression is no test", OwnWords.comparedGoal(where));
   if (isBar && before?.kind === "variable") return cause(`${quoted(before)} is no test`, `to wait until it is bound write wait(${before.text})`);
-  if (isBar && hasBar) return cause(
+  return isBar && hasBar && cause(
     "a second bar in one clause", "a clause is head :- guard | body. with one bar: all tests stand before it");
-  return undefined;
 }
 
 /** An expression and `=` before the bar: a comparison is meant. */
@@ -245,19 +242,17 @@ function equationInGuard(where) {
   const { token, here, later, depth, hasBar } = where;
   if (depth > 0 || hasBar || Tokens.barOutside(later) < 0) return undefined;
   const isLater = OPERATIONS.has(token.text) && has(goalAfter([",", ":-"], here), "=");
-  const isMeant = token.text === "=" ? !isTest(where) : isLater;
-  return isMeant ? cause("= does not compare", OwnGoals.comparedSides(where)) : undefined;
+  return (token.text === "=" ? !isTest(where) : isLater) && cause("= does not compare", OwnWords.comparedSides(where));
 }
 
-function comparisonAfterBar({ isComparison, hasBar, later }) {
-  if (!isComparison || !hasBar || !has(later, "|")) return undefined;
-  return cause("a comparison stands after the first bar", "a clause has one bar: all tests stand before it, with commas, as true, X > 0 |");
-}
+const comparisonAfterBar = ({ isComparison, hasBar, later }) => isComparison && hasBar && has(later, "|") && cause(
+  "a comparison stands after the first bar",
+  "a clause has one bar: all tests stand before it, with commas, as true, X > 0 |");
 
 function comparison(where) {
   const { token, before, here, isQuery, tokens, place, open, isComparison } = where;
   const isChained = isComparison && COMPARISONS.has(tokens[place - 2]?.text);
-  if (isChained) return cause("a comparison has two sides", OwnGoals.twoComparisons(where));
+  if (isChained) return cause("a comparison has two sides", OwnWords.twoComparisons(where));
   const ends = token.kind === "end" || isOneOf(token, ".", ",");
   if (before === undefined || !(isComparison || (ends && hasComparison(here)))) return undefined;
   const isGrouped = open?.text === "(" && here[here.indexOf(open) - 1]?.kind !== "name";
@@ -266,7 +261,7 @@ function comparison(where) {
     "a comparison stands in the query", "comparisons are tests of clauses; to compute write Y := X + 1, and look at it by `show`");
   const at = isComparison ? token : here.find(({ text }) => COMPARISONS.has(text));
   return { at, ...cause(
-    "a comparison stands in the body", OwnGoals.beforeBar(where, at), "a clause without a bar has the guard true, and all of it is body") };
+    "a comparison stands in the body", OwnWords.beforeBar(where, at), "a clause without a bar has the guard true, and all of it is body") };
 }
 
 function brackets({ token, before, depth, open, opened: where }) {
@@ -278,14 +273,13 @@ function brackets({ token, before, depth, open, opened: where }) {
   if (isClosing && missing !== token.text) return cause(`${quoted(token)} does not close ${where}`, `missing: ${missing}`);
   if (isClosing && before?.text === "(") return cause(
     "no arguments stand between the brackets", "an atom, or a goal without arguments, has no brackets");
-  const isTwice = token.text === "(" && before?.text === "(";
-  return isTwice ? cause(GROUPS, "write the term without them") : undefined;
+  return token.text === "(" && before?.text === "(" && cause(GROUPS, "write the term without them");
 }
 
 /** What belongs to clauses stands in a query. */
 function clauseInQuery({ token, isQuery, depth, example }) {
-  if (!isQuery || depth > 0 || !isOneOf(token, ":-", "|")) return undefined;
-  return cause(token.text === ":-" ? "a clause stands in the place of a query" : "a query has no guard", goalsAs(example));
+  const title = token.text === ":-" ? "a clause stands in the place of a query" : "a query has no guard";
+  return isQuery && depth <= 0 && isOneOf(token, ":-", "|") && cause(title, goalsAs(example));
 }
 
 /** A second `:-` where a clause has not ended: most often a comma in the place of a full stop. */
@@ -298,9 +292,9 @@ function secondNeck({ token, hasNeck, tokens, place }) {
 
 /** A head is one call, and then comes `:-` or the full stop. */
 function afterHead({ token, isQuery, depth, before, hasNeck, isComparison }) {
-  if (isQuery || depth > 0 || hasNeck || !endsTerm(before)) return undefined;
-  if (!isComparison && !isOneOf(token, ",", "|", "=", ":=")) return undefined;
-  return cause(`${quoted(token)} cannot follow the head of a clause`, "is :- missing? " + CLAUSE);
+  const isHead = !isQuery && depth <= 0 && !hasNeck && endsTerm(before);
+  if (!isHead || !(isComparison || isOneOf(token, ",", "|", "=", ":="))) return undefined;
+  return cause(`${quoted(token)} cannot follow the head of a clause`, `is :- missing? ${CLAUSE}`);
 }
 
 /** What stands within brackets is terms with commas between them. */
@@ -310,8 +304,7 @@ function withinBrackets({ token, before, here, depth, open, isComparison }) {
   if (binds && here[here.indexOf(open) - 1]?.text === "not") return cause(...Habits.WORDS.not);
   if (binds || isComparison) return cause("an argument is a term, and no goal or test", "write the goal before or after this one, with a comma between them");
   if (isOneOf(before, "(", "[") && isOneOf(token, ",", "|")) return cause(`a term is expected after ${quoted(before)}`, "write it, or drop the mark");
-  const isGroup = before?.text === "(" && token.kind === "name";
-  return isGroup ? cause(GROUPS, "write goals and terms without them") : undefined;
+  return before?.text === "(" && token.kind === "name" && cause(GROUPS, "write goals and terms without them");
 }
 
 function streams({ token, isQuery }) {
@@ -322,8 +315,8 @@ function streams({ token, isQuery }) {
 
 /** A name that is written with a hyphen, as my-pred. */
 function hyphen({ token, before, next }) {
-  if (token.text !== "-" || before?.kind !== "name" || next.kind !== "name" || !touches(before, token) || !touches(token, next)) return undefined;
-  return cause("a name has no hyphen", `write ${before.text}_${next.text}`);
+  const isBetween = before?.kind === "name" && next.kind === "name" && touches(before, token) && touches(token, next);
+  return token.text === "-" && isBetween && cause("a name has no hyphen", `write ${before.text}_${next.text}`);
 }
 
 function neighbours(where) {
@@ -332,8 +325,7 @@ function neighbours(where) {
     `${quoted(token)} cannot follow ${quoted(before)}`, `arguments stand in brackets: ${before.text}(${token.text})`);
   if (token.text === "(" && before?.kind === "variable") return cause(`${before.text} is a variable, and names nothing that has arguments`, `names begin with a small letter: ${before.text[0].toLowerCase()}${before.text.slice(1)}(..)`);
   const begins = ["name", "variable", "integer"].includes(token.kind) || isOneOf(token, "(", "[");
-  if (!endsTerm(before) || !begins) return undefined;
-  return cause(`${quoted(token)} cannot follow ${quoted(before)}`, missingBetween(where));
+  return endsTerm(before) && begins && cause(`${quoted(token)} cannot follow ${quoted(before)}`, missingBetween(where));
 }
 
 /** What is missing between two tokens: the bar after a comparison; in a new line a comma where it is indented and begins no clause, else a full stop. */
@@ -347,9 +339,10 @@ function missingBetween({ token, before, isQuery, here, later, tokens, place, de
 
 function variableAsGoal({ token, before, tokens, place, depth }) {
   const isEnd = isOneOf(token, ".", ",") || token.kind === "end";
-  if (depth > 0 || before?.kind !== "variable" || !isEnd) return undefined;
-  if (![",", "|", ":-", undefined].includes(tokens[place - 2]?.text)) return undefined;
-  return cause(`the variable ${before.text} is no goal`, "goals are calls, as p(X), and X = Y, X := E; there is no call of a term");
+  const isGoal = [",", "|", ":-", undefined].includes(tokens[place - 2]?.text);
+  return depth <= 0 && before?.kind === "variable" && isEnd && isGoal && cause(
+    `the variable ${before.text} is no goal`,
+    "goals are calls, as p(X), and X = Y, X := E; there is no call of a term");
 }
 
 function afterMark(where) {
@@ -357,20 +350,21 @@ function afterMark(where) {
   if (before?.text === ",") return cause(
     `a goal or a term is expected after the comma, and ${quoted(token)} is none`, "drop the comma, or write what is missing");
   const opens = token.text === "(", isEquation = opens && before?.text === "=";
-  if (opens && hasArrow(later)) return cause(NO_IF, OwnGoals.twoClauses(where));
-  if (isEquation && has(Tokens.partsOf(later)[0], ...OPERATIONS)) return cause(NO_SUM, OwnGoals.computed(where));
+  if (opens && hasArrow(later)) return cause(NO_IF, OwnWords.twoClauses(where));
+  if (isEquation && has(Tokens.partsOf(later)[0], ...OPERATIONS)) return cause(NO_SUM, OwnWords.computed(where));
   if (opens && isOneOf(before, ":-", "|")) return cause(GROUPS, "write the goals without them, with commas between them");
   if (isEquation) return cause(GROUPS, "a pair is a structure, as pair(1,2)");
   if (isOneOf(before, "=", ":=")) return cause(
     `${quoted(token)} cannot stand after ${quoted(before)}`, before.text === "=" ? "a term stands there, as [A|X]" : "an expression stands there, as X + 1; to name a term write =");
-  if (!isOneOf(before, ":-", "|")) return undefined;
-  return cause(`no goal begins with ${quoted(token)}`, isQuery ? goalsAs(example) : CLAUSE);
+  const goesOn = isQuery ? goalsAs(example) : CLAUSE;
+  return isOneOf(before, ":-", "|") && cause(`no goal begins with ${quoted(token)}`, goesOn);
 }
 
 function anything({ token, before, isQuery, example }) {
   return cause(`${quoted(token)} cannot stand here${before === undefined ? "" : `, after ${quoted(before)}`}`, isQuery ? goalsAs(example) : CLAUSE);
 }
 
+// What each rule tells of the surroundings is a cause, or nothing: undefined or false.
 const RULES = [
   declaration, blockComment, badToken, splitMark, semicolon, markInPlace, foreignMark, arrow, foreignPair, hyphen,
   commentInExpression, numbers, equationInGuard, comparisonAfterBar, comparison, variableAsGoal, endOfText, streams,
@@ -379,15 +373,14 @@ const RULES = [
 ];
 
 /** The cause of a refusal at a place of a text: its title, its hints, and the token at which it stands. */
-function causeOf(text, at, isQuery, program = text) {
-  const where = surroundings(text, at, isQuery, program);
+function causeOf(text, place, isQuery, program = text) {
+  const where = surroundings(text, place, isQuery, program);
   for (const rule of RULES) {
     const found = rule(where);
-    if (found === undefined) continue;
-    const { after, at: meant, title, hints } = found;
-    const told = { title, hints: hints.map((hint) => OwnWords.fill(hint, where.clause, where.here.length)) };
-    if (after === undefined) return { ...told, token: meant ?? where.token };
-    return { ...told, token: { line: after.line, column: after.column + after.text.length, text: " " } };
+    if (!found) continue;
+    const { after, at = where.token, title, hints } = found;
+    const token = after === undefined ? at : { line: after.line, column: after.column + after.text.length, text: " " };
+    return { title, hints: hints.map((hint) => OwnWords.fill(hint, where.clause, where.here.length)), token };
   }
   return undefined;
 }

@@ -77,12 +77,13 @@ function depthOf(tokens) {
   return depth;
 }
 
-/** The brackets that are open after these tokens, the outermost first. */
-function openBrackets(tokens) {
+/** The brackets that are open after these tokens, or others that have texts, the outermost first. */
+function openBrackets(tokens, textOf = ({ text }) => text) {
   const open = [];
   for (const token of tokens) {
-    if (BRACKETS.get(token.text) > 0) open.push(token);
-    else if (BRACKETS.has(token.text)) open.pop();
+    const depth = BRACKETS.get(textOf(token));
+    if (depth > 0) open.push(token);
+    else if (depth < 0) open.pop();
   }
   return open;
 }
@@ -189,5 +190,6 @@ const predicateAt = (tokens, place) => `${tokens[place].text}/${arityAt(tokens, 
 
 export {
   tokensOf, clausesOf, clausesIn, placeOf, commentBefore, isArrow, arityAt, argumentsOf, predicateAt, headOf,
-  callBefore, endOfCall, partsOf, rangeAt, isBalanced, depthOf, openBrackets, barOutside, touches, OPERATORS, COMPARISONS,
+  callBefore, endOfCall, partsOf, levelsOf, rangeAt, isBalanced, depthOf, openBrackets, barOutside, touches,
+  OPERATORS, COMPARISONS,
 };
