@@ -72,6 +72,7 @@ function readStep(number, goal, act) {
   return { number: Number(number), goal: goal === "-" ? null : goal, act, kind, clause: kind === "reduce" ? Number(act.slice(3)) : null };
 }
 
+/** @param {readonly string[]} parts of a line that tells a step */
 const readParts = ([, number, goal, act]) => readStep(number, goal, act);
 
 /** Where the last three parts of a record line begin, found from its end, since an act can hold their words; null where it is none. */

@@ -3,7 +3,7 @@ import * as Tokens from "./tokens.mjs";
 
 const LONGEST = 70; // letters of a goal or a head that a cure repeats
 const OPPOSITES = { "<": ">=", ">": "=<", "=<": ">", ">=": "<", "=:=": "=\\=", "=\\=": "=:=" }; // of comparisons
-const SPACED = [...Tokens.OPERATORS, ...Object.keys(OPPOSITES), "=", ":="];
+const SPACED = [...Tokens.OPERATORS, ...Tokens.COMPARISONS, "=", ":="];
 
 /** Tokens of a term or a goal as a text; undefined where it is too long for a cure. */
 function textOf(tokens) {

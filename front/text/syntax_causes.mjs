@@ -130,15 +130,13 @@ function commentInExpression({ text, token, before, here }) {
   return comment !== undefined && { ...told, after: before };
 }
 
-const OPERATORS = ["+", "-", "*", "/", "mod", "=", ":="];
-
 function endOfText({ token, here, isQuery, before, example, opened }) {
   if (token.kind !== "end") return undefined;
   const where = opened && `${opened} is not closed`;
   if (isQuery && opened !== undefined) return cause("the query ends within brackets", where);
   if (isQuery) return cause(
     here.length > 0 ? "the query ends too early" : "the query is empty",
-    OPERATORS.includes(before?.text) ? `something is missing after ${quoted(before)}` : `write goals, as ${example}; for none: true`);
+    isOneOf(before, ...OPERATIONS, "=", ":=") ? `something is missing after ${quoted(before)}` : `write goals, as ${example}; for none: true`);
   return { ...cause("the text ends within a clause", where ?? `write a full stop after ${quoted(before)}`), after: before };
 }
 
@@ -189,7 +187,7 @@ function expressionWithin(where) {
   return cause(ARGUMENT, Cures.computeFirst(clause, here.length), ...(mayBePair ? [PAIR] : []));
 }
 
-const BEFORE_OPERAND = new Set([":=", "<", ">", "=<", ">=", "=:=", "=\\=", "+", "-", "*", "/", "mod", "(", "|"]);
+const BEFORE_OPERAND = new Set([":=", ...COMPARISONS, ...OPERATIONS, "(", "|"]);
 
 /** Is what stands at the end of a clause's beginning a side of a comparison? */
 function isCompared(here) {
