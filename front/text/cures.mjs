@@ -2,7 +2,7 @@
 import * as Tokens from "./tokens.mjs";
 
 const LONGEST = 70; // letters of a goal or a head that a cure repeats
-const OPPOSITES = { "<": ">=", ">": "=<", "=<": ">", ">=": "<", "=:=": "=\\=", "=\\=": "=:=" }; // of comparisons
+const OPPOSITES = new Map([["<", ">="], [">", "=<"], ["=<", ">"], [">=", "<"], ["=:=", "=\\="], ["=\\=", "=:="]]);
 const SPACED = [...Tokens.OPERATORS, ...Tokens.COMPARISONS, "=", ":="];
 
 /** Tokens of a term or a goal as a text; undefined where it is too long for a cure. */
@@ -45,8 +45,8 @@ function exampleOf(program) {
 
 /** A comparison that says yes where another one says no; undefined of other tokens. */
 function oppositeOf(test) {
-  const text = textOf(test.map((token) => ({ text: OPPOSITES[token.text] ?? token.text })));
-  return test.filter((token) => token.text in OPPOSITES).length === 1 ? text : undefined;
+  const opposite = textOf(test.map(({ text }) => ({ text: OPPOSITES.get(text) ?? text })));
+  return test.filter(({ text }) => OPPOSITES.has(text)).length === 1 ? opposite : undefined;
 }
 
 export { textOf, newName, computeFirst, exampleOf, oppositeOf };

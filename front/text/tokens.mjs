@@ -71,11 +71,7 @@ const OPERATORS = new Set(["+", "-", "*", "/", "mod"]), COMPARISONS = new Set(["
 const touches = (left, right) => left !== undefined && left.end === right?.at;
 
 /** How many brackets are open after these tokens; a closing one takes one off. */
-function depthOf(tokens) {
-  let depth = 0;
-  for (const { text } of tokens) depth += BRACKETS.get(text) ?? 0;
-  return depth;
-}
+const depthOf = (tokens) => tokens.reduce((depth, { text }) => depth + (BRACKETS.get(text) ?? 0), 0);
 
 /** The brackets that are open after these tokens, or others that have texts, the outermost first. */
 function openBrackets(tokens, textOf = ({ text }) => text) {
@@ -126,16 +122,12 @@ function rangeAt(tokens, around, level, marks) {
 
 /** The tokens of each clause, its full stop included; what stands after the last full stop is a clause of its own. */
 function clausesOf(tokens) {
-  const clauses = [];
-  let clause = [];
-  for (const token of tokens) {
-    if (token.kind === "end") break;
-    clause.push(token);
-    if (token.text !== ".") continue;
-    clauses.push(clause);
-    clause = [];
+  const clauses = [[]];
+  for (const token of tokens.filter(({ kind }) => kind !== "end")) {
+    clauses.at(-1).push(token);
+    if (token.text === ".") clauses.push([]);
   }
-  return clause.length > 0 ? [...clauses, clause] : clauses;
+  return clauses.filter((clause) => clause.length > 0);
 }
 
 /** The place of the token that begins at a line and a column; -1 where none does. */
@@ -155,10 +147,7 @@ const clausesIn = (text) => clausesOf(tokensOf(text));
 function endOfCall(tokens, place) {
   if (tokens[place + 1]?.text !== "(") return place;
   let at = place + 1;
-  for (let depth = 0; at < tokens.length - 1; at += 1) {
-    depth += depthOf([tokens[at]]);
-    if (depth === 0) break;
-  }
+  for (let depth = 1; depth > 0 && at < tokens.length - 1; depth += depthOf([tokens[at]])) at += 1;
   return at;
 }
 
