@@ -26,9 +26,8 @@ function markAt(clause, place) {
 }
 
 /** Where the goal around a place begins and ends; a bracket that is opened before the place ends it too. */
-function goalAt(clause, { from, to }) {
-  return Tokens.rangeAt(clause, { from, to }, Tokens.depthOf(clause.slice(0, from)), ENDS);
-}
+const goalAt = (clause, around) =>
+  Tokens.rangeAt(clause, around, Tokens.depthOf(clause.slice(0, around.from)), ENDS);
 
 const isTerm = (tokens) => tokens.length > 0 && tokens.every(({ kind }) => kind !== "wrong" && kind !== "end");
 

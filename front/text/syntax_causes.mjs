@@ -77,10 +77,10 @@ function foreignMark({ rest, text, token, before }) {
   return found && isMark && cause(found[1], found[2]);
 }
 
-/** A comment of another language, in which the place is: it begins before the place, and does not end there. */
+/** A comment of another language, in which the place is. */
 function blockComment({ text, tokens, place }) {
-  const first = Tokens.commentBefore(tokens, place), between = first && text.slice(first.end + 1, tokens[place].at);
-  return first && !between.includes("*/") && { ...cause(...Habits.COMMENT), at: { ...first, text: "/*" } };
+  const first = Tokens.commentAround(text, tokens, place);
+  return first && { ...cause(...Habits.COMMENT), at: { ...first, text: "/*" } };
 }
 
 function badToken({ token }) {

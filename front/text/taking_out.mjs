@@ -16,9 +16,7 @@ const bytesOf = (text) => new TextEncoder().encode(text).length;
 const blanked = (text) => text.replace(/[^\n]/gu, (letter) => " ".repeat(bytesOf(letter)));
 
 /** A clause that any call of its predicate can take. */
-function clauseFor(name, arity) {
-  return arity === 0 ? `${name}.` : `${name}(${Array(arity).fill("_").join(",")}).`;
-}
+const clauseFor = (name, arity) => (arity === 0 ? `${name}.` : `${name}(${Array(arity).fill("_").join(",")}).`);
 
 /** May a clause begin at a token? It begins a line, and a head stands there. */
 function beginsClause(tokens, place, column) {
@@ -42,13 +40,6 @@ function clauseAround(tokens, place) {
   const isNext = (at) => at > place && beginsClause(tokens, at, column);
   while (tokens[to].kind !== "end" && !endsLine(tokens, to) && !isNext(to)) to += 1;
   return { from, to: endsLine(tokens, to) ? to + 1 : to };
-}
-
-/** A comment of another language around the token at a place, from letter to letter; undefined where none is. */
-function commentAround(text, tokens, place) {
-  const first = Tokens.commentBefore(tokens, place), end = first && text.indexOf("*/", first.end + 1);
-  if (first === undefined || (end >= 0 && end + 1 < tokens[place].at)) return undefined;
-  return { from: first.at, to: end < 0 ? text.length : end + 2 };
 }
 
 /** What stands in the place of some letters of a text: a clause, and blanks. */
@@ -104,10 +95,12 @@ function mayDefine(tokens) {
   return words.map(nameOf);
 }
 
-/** A comment of another language, or what nobody sees, at a place; undefined where neither is. */
+/** A comment of another language, or what nobody sees, at a place: its letters; undefined where neither is. */
 function strangeAt(text, tokens, place) {
-  const { at, end, text: letters } = tokens[place];
-  return commentAround(text, tokens, place) ?? (INVISIBLE.test(letters) ? { from: at, to: end } : undefined);
+  const comment = Tokens.commentAround(text, tokens, place), token = tokens[place];
+  if (comment === undefined) return INVISIBLE.test(token.text) ? { from: token.at, to: token.end } : undefined;
+  const close = text.indexOf("*/", comment.end + 1);
+  return { from: comment.at, to: close < 0 ? text.length : close + 2 };
 }
 
 /**

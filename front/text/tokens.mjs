@@ -133,9 +133,12 @@ function clausesOf(tokens) {
 /** The place of the token that begins at a line and a column; -1 where none does. */
 const placeOf = (tokens, at) => tokens.findIndex(({ line, column }) => line === at.line && column === at.column);
 
-/** The first token of the last comment of another language that is opened up to a place; undefined where none is. */
-const commentBefore = (tokens, place) => tokens.slice(0, place + 1).findLast((token, at) =>
-  token.text === "/" && tokens[at + 1]?.text === "*" && touches(token, tokens[at + 1]));
+/** The first token of a comment of another language that begins up to a place, and does not end before it; or none. */
+function commentAround(text, tokens, place) {
+  const opens = (token, next) => token.text === "/" && next?.text === "*" && touches(token, next);
+  const first = tokens.slice(0, place + 1).findLast((token, at) => opens(token, tokens[at + 1]));
+  return first && !text.slice(first.end + 1, tokens[place].at).includes("*/") ? first : undefined;
+}
 
 /** Does an arrow, `->`, begin at a token, the one at a place of tokens? */
 const isArrow = (token, place, tokens) => token.text === "-" && tokens[place + 1]?.text === ">";
@@ -178,7 +181,7 @@ const arityAt = (tokens, place) => argumentsOf(tokens, place).length;
 const predicateAt = (tokens, place) => `${tokens[place].text}/${arityAt(tokens, place)}`;
 
 export {
-  tokensOf, clausesOf, clausesIn, placeOf, commentBefore, isArrow, arityAt, argumentsOf, predicateAt, headOf,
+  tokensOf, clausesOf, clausesIn, placeOf, commentAround, isArrow, arityAt, argumentsOf, predicateAt, headOf,
   callBefore, endOfCall, partsOf, levelsOf, rangeAt, isBalanced, depthOf, openBrackets, barOutside, touches,
   OPERATORS, COMPARISONS,
 };
