@@ -149,8 +149,11 @@ const clausesIn = (text) => clausesOf(tokensOf(text));
 /** The place of the last token of the call that begins at a place. */
 function endOfCall(tokens, place) {
   if (tokens[place + 1]?.text !== "(") return place;
-  let at = place + 1;
-  for (let depth = 1; depth > 0 && at < tokens.length - 1; depth += depthOf([tokens[at]])) at += 1;
+  let at = place + 1, depth = 1;
+  while (depth > 0 && at < tokens.length - 1) {
+    at += 1;
+    depth += depthOf([tokens[at]]);
+  }
   return at;
 }
 
