@@ -136,7 +136,8 @@ function endOfText({ token, here, isQuery, before, example, opened }) {
   if (isQuery && opened !== undefined) return cause("the query ends within brackets", where);
   if (isQuery) return cause(
     here.length > 0 ? "the query ends too early" : "the query is empty",
-    isOneOf(before, ...OPERATIONS, "=", ":=") ? `something is missing after ${quoted(before)}` : `write goals, as ${example}; for none: true`);
+    isOneOf(before, ...OPERATIONS, "=", ":=") ? `something is missing after ${quoted(before)}`
+      : `write goals, as ${example}; for none: true`);
   return { ...cause("the text ends within a clause", where ?? `write a full stop after ${quoted(before)}`), after: before };
 }
 
