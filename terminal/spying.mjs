@@ -1,7 +1,6 @@
 // What the terminal does for `spy` and `nospy`: predicates without the number of their arguments, patterns of goals,
 // and which are spied.
 import { meant, usageOf } from "../front/protocol/commands.mjs";
-import * as Histories from "../front/protocol/histories.mjs";
 import * as Replies from "../front/protocol/replies.mjs";
 import { repeatedIn, whyRepeated } from "../front/run/patterns.mjs";
 import { predicateOf } from "../front/text/print.mjs";
@@ -22,7 +21,7 @@ const Spying = part({
   /** The predicates that are spied, as a history of the session tells them. */
   async spied() {
     const saved = await this.session.ask("save");
-    return Replies.isRefused(saved) ? [] : Histories.spiesIn(saved);
+    return Replies.isRefused(saved) ? [] : Replies.spiesIn(saved);
   },
 
   /** A predicate with the patterns to which its goals are narrowed. */

@@ -18,28 +18,19 @@ function rangeOf(cause, places) {
 /** @param {Refusal["cause"]} cause */
 const messageOf = ({ title, hints, isQuery }) => [`${isQuery ? "query: " : ""}${title.replace(/^note: /, "")}`, ...hints].join("\n");
 
-/**
- * The diagnostic of a refusal.
- * @param {Refusal} refusal
- * @param {Places} places
- */
-function refusedFor({ said, lines, cause }, places) {
-  const [code] = /F\d+/.exec(said) ?? [], told = { severity: ERROR, source: "ghcdb", ...(code && { code }) };
-  if (cause === undefined) return { ...told, range: START, message: [said, ...lines].join("\n") };
-  return { ...told, range: rangeOf(cause, places), message: messageOf(cause) };
-}
-
-/** The diagnostic of a note. */
-function notedFor(cause, places) {
-  return { severity: WARNING, source: "ghcdb", range: rangeOf(cause, places), message: messageOf(cause) };
-}
-
 /** The diagnostics of a program's text. */
 async function diagnosticsOf(text, native) {
   const query = queryOf(text) || NO_QUERY, places = new Places({ file: "program", text, query }, 0);
+  const told = (cause) => ({ source: "ghcdb", range: rangeOf(cause, places), message: messageOf(cause) });
+  /** @param {Refusal} refusal */
+  const refused = ({ said, lines, cause }) => {
+    const [code] = /F\d+/.exec(said) ?? [], message = [said, ...lines].join("\n");
+    const about = cause === undefined ? { source: "ghcdb", range: START, message } : told(cause);
+    return { severity: ERROR, ...about, ...(code && { code }) };
+  };
   const refusals = await everyRefusal({ text, query }, native);
-  if (refusals.length > 0) return refusals.map((refusal) => refusedFor(refusal, places));
-  return Causes.notesOn(text, "program").map((cause) => notedFor(cause, places));
+  if (refusals.length > 0) return refusals.map(refused);
+  return Causes.notesOn(text, "program").map((cause) => ({ severity: WARNING, ...told(cause) }));
 }
 
 export { diagnosticsOf };

@@ -8,13 +8,8 @@ const WHOLE_TEXTS = 1, FUNCTION = 12, CLAUSE = 6; // how texts are sent; kinds o
 const PAUSE = 150; // milliseconds without a key, before a text is read
 const MOST_SHOWN = 20; // clauses, when one points at a predicate
 
-// An error that the editor hears of.
-class Told extends Error {
-  constructor(code, message) {
-    super(message);
-    this.code = code;
-  }
-}
+/** An error that the editor hears of. */
+const told = (code, message) => Object.assign(new Error(message), { code });
 
 class Server {
   /** `send` takes messages; `leave` ends the server with a status; `native` is the program to use, or undefined for the page's engine. */
@@ -54,15 +49,15 @@ class Server {
   }
 
   answer(method, params) {
-    if (!this.isBegun && method !== "initialize") throw new Told(NOT_BEGUN, "initialize comes first");
-    if (this.isEnding) throw new Told(INVALID, "after shutdown nothing is answered");
-    if (!(`asked_${method}` in this)) throw new Told(UNKNOWN, `${method} is not known`);
+    if (!this.isBegun && method !== "initialize") throw told(NOT_BEGUN, "initialize comes first");
+    if (this.isEnding) throw told(INVALID, "after shutdown nothing is answered");
+    if (!(`asked_${method}` in this)) throw told(UNKNOWN, `${method} is not known`);
     return this[`asked_${method}`](params);
   }
 
   programOf({ textDocument }) {
     const program = this.programs.get(textDocument?.uri);
-    if (program === undefined) throw new Told(WRONG_WORDS, `${textDocument?.uri} is not open`);
+    if (program === undefined) throw told(WRONG_WORDS, `${textDocument?.uri} is not open`);
     return program;
   }
 

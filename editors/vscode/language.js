@@ -6,7 +6,6 @@ const vscode = require("vscode");
 
 const KIND = "fghc";
 
-const isProgram = ({ languageId }) => languageId === KIND;
 const rangeOf = ({ start, end }) => new vscode.Range(start.line, start.character, end.line, end.character);
 
 // The protocol numbers severities and kinds of symbols from 1, the editor from 0.
@@ -74,29 +73,26 @@ class Server {
 
   // ---- the programs that are open
 
-  open(document) {
-    const { uri, languageId, version } = document;
-    if (isProgram(document)) this.tell("textDocument/didOpen", { textDocument: { uri: uri.toString(), languageId, version, text: document.getText() } });
-  }
-
-  change(document) {
-    const textDocument = { uri: document.uri.toString(), version: document.version };
-    if (isProgram(document)) this.tell("textDocument/didChange", { textDocument, contentChanges: [{ text: document.getText() }] });
-  }
-
-  close(document) {
-    if (isProgram(document)) this.tell("textDocument/didClose", { textDocument: { uri: document.uri.toString() } });
+  /** Tells that a program is opened, changed or closed: `didOpen`, `didChange` or `didClose`. */
+  tellOf(method, document) {
+    const { languageId, version } = document, uri = document.uri.toString(), text = document.getText();
+    const told = {
+      didOpen: { textDocument: { uri, languageId, version, text } },
+      didChange: { textDocument: { uri, version }, contentChanges: [{ text }] },
+      didClose: { textDocument: { uri } },
+    };
+    if (languageId === KIND) this.tell(`textDocument/${method}`, told[method]);
   }
 
   // ---- what the editor asks
 
-  at(method, { uri }, { line, character }) {
-    return this.ask(`textDocument/${method}`, { textDocument: { uri: uri.toString() }, position: { line, character } });
+  at(method, { uri }, { line, character } = {}) {
+    const position = line === undefined ? undefined : { line, character };
+    return this.ask(`textDocument/${method}`, { textDocument: { uri: uri.toString() }, position });
   }
 
-  async provideDocumentSymbols({ uri }) {
-    const symbols = await this.ask("textDocument/documentSymbol", { textDocument: { uri: uri.toString() } });
-    return symbols?.map(symbolOf);
+  async provideDocumentSymbols(document) {
+    return (await this.at("documentSymbol", document))?.map(symbolOf);
   }
 
   async provideDefinition(document, position) {
@@ -121,11 +117,11 @@ async function begin(wire, start, subscriptions) {
   const server = new Server(wire, start), { languages, workspace } = vscode;
   subscriptions.push(server);
   await server.begin();
-  workspace.textDocuments.forEach((document) => server.open(document));
+  workspace.textDocuments.forEach((document) => server.tellOf("didOpen", document));
   subscriptions.push(
-    workspace.onDidOpenTextDocument((document) => server.open(document)),
-    workspace.onDidChangeTextDocument(({ document }) => server.change(document)),
-    workspace.onDidCloseTextDocument((document) => server.close(document)),
+    workspace.onDidOpenTextDocument((document) => server.tellOf("didOpen", document)),
+    workspace.onDidChangeTextDocument(({ document }) => server.tellOf("didChange", document)),
+    workspace.onDidCloseTextDocument((document) => server.tellOf("didClose", document)),
     languages.registerDocumentSymbolProvider({ language: KIND }, server),
     languages.registerDefinitionProvider({ language: KIND }, server),
     languages.registerHoverProvider({ language: KIND }, server),

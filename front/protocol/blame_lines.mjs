@@ -4,50 +4,35 @@ import * as Replies from "./replies.mjs";
 const GOAL = "\\d+\\.\\d+";
 const STANDS = new RegExp(`^(${GOAL}) (?:(ready|stream)|(waits) (\\S+)|(failed) (F\\d+))$`);
 // No call begins with a sign: `1.1 gave = x` is an equation of the atom `gave`.
-const MADE = new RegExp(`^(${GOAL}) (gave|left|stands) (?!:?= )(.*)$`), WRITTEN = new RegExp(`^(${GOAL}) (.* :?= .*)$`);
+const MADE = new RegExp(`^(?:(${GOAL}) (gave|left|stands) (?!:?= )(.*)|(${GOAL}) (.* :?= .*))$`);
 const TAKEN = new RegExp(`^(\\d+) (${GOAL}) by (\\d+)$`);
 const ASK = new RegExp(`^ask (${GOAL}) of (\\d+)$`), FAULT = new RegExp(`^fault (?:(\\d+) (${GOAL}) by (\\d+)|(${GOAL})|0)$`);
 const ANSWER = new RegExp(`^([+-])(${GOAL})$`);
 
 /** A goal with its status, as `4.2 failed F10` tells it; null where the text tells none. */
-function readStanding(text) {
-  const [, goal, alone, waits, variables, failed, refusal = ""] = STANDS.exec(text) ?? [];
-  return goal === undefined ? null : { goal, status: alone ?? waits ?? failed, waitsFor: variables?.split(",") ?? [], refusal };
-}
+const readStanding = Replies.reading(STANDS, ([, goal, alone, waits, variables, failed, refusal = ""]) =>
+  ({ goal, status: alone ?? waits ?? failed, waitsFor: variables?.split(",") ?? [], refusal }));
 
 /**
  * A goal that the call's step made: `gave` with what it gave, `left` where it is the goal asked about, `stands` where no step took it,
  * `written` for an equation or a sum; null where the line tells none.
  */
-function readMade(line) {
-  const [, goal, how, text] = MADE.exec(line) ?? [];
-  if (goal !== undefined) return { goal, how, text };
-  const [, other, written] = WRITTEN.exec(line) ?? [];
-  return other === undefined ? null : { goal: other, how: "written", text: written };
-}
+const readMade = Replies.reading(MADE, ([, goal, how, text, written, equation]) =>
+  (goal === undefined ? { goal: written, how: "written", text: equation } : { goal, how, text }));
 
 /** The step that took the call, as `16 2.2 by 2` tells it; null where the line tells none. */
-function readTaking(line) {
-  const [, step, goal, clause] = TAKEN.exec(line) ?? [];
-  return step === undefined ? null : { step: Number(step), goal, clause: Number(clause) };
-}
+const readTaking = Replies.reading(TAKEN, ([, step, goal, clause]) =>
+  ({ step: Number(step), goal, clause: Number(clause) }));
 
 /** The question's goal, and among how many calls it was chosen; null where the line asks nothing. */
-function readAsk(line) {
-  const [, goal, of] = ASK.exec(line) ?? [];
-  return goal === undefined ? null : { goal, of: Number(of) };
-}
+const readAsk = Replies.reading(ASK, ([, goal, of]) => ({ goal, of: Number(of) }));
 
 /**
  * The verdict: a step with its goal and clause; or a goal alone, which no clause answers; or none of them, where the query is at fault.
  * Null where the line is no verdict.
  */
-function readFault(line) {
-  const found = FAULT.exec(line);
-  if (found === null) return null;
-  const [, step, taken, clause, goal = taken] = found;
-  return { step: step === undefined ? null : Number(step), goal: goal ?? null, clause: clause === undefined ? null : Number(clause) };
-}
+const readFault = Replies.reading(FAULT, ([, step, taken, clause, goal = taken ?? null]) =>
+  ({ step: step === undefined ? null : Number(step), goal, clause: clause === undefined ? null : Number(clause) }));
 
 // By the first word of a line: what it adds to what a reply tells.
 const HEADS = {
@@ -83,10 +68,7 @@ function read(lines) {
 const isBlame = (line) => /^ *blame( |$)/.test(line);
 
 /** An answer as it stands on a line: `+2.2` says that what goal 2.2 gave is right, `-2.2` that it is wrong; null where the word is none. */
-function readAnswer(word) {
-  const [, sign, goal] = ANSWER.exec(word) ?? [];
-  return goal === undefined ? null : { goal, isRight: sign === "+" };
-}
+const readAnswer = Replies.reading(ANSWER, ([, sign, goal]) => ({ goal, isRight: sign === "+" }));
 
 /** The answers that stand on a line. */
 const answersOn = (line) => line.trim().split(/ +/).map(readAnswer).filter((answer) => answer !== null);

@@ -24,7 +24,6 @@ const OFFERS = {
   ready: (session) => goals(session, ["ready"]),
   goal: (session) => goals(session, ["ready", "waits", "failed"]),
   kept: steps,
-  "kept ..": steps,
   shelf: async (session) => numbersOf(await session.ask("shelf")),
   variable: variables,
   value: variablesAndGoals,
@@ -43,7 +42,7 @@ async function completeGoals(session, line) {
 async function completionsOf(session, line) {
   const words = line.split(" "), last = words.at(-1);
   if (words.length === 1) return { begun: last, words: NAMES.filter((name) => name.startsWith(last)).map((name) => `${name} `) };
-  const follows = followsOf(commandOf(words[0])), offer = OFFERS[follows];
+  const follows = followsOf(commandOf(words[0])), offer = OFFERS[follows.replace(" ..", "")];
   if (follows === "goals") return completeGoals(session, line);
   const offered = offer === undefined || (words.length > 2 && !follows.endsWith("..")) ? [] : await offer(session);
   return { begun: last, words: some(offered.filter((word) => word.startsWith(last))) };

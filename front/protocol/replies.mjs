@@ -22,7 +22,18 @@ const NO_MEMORY = "F1 no memory";
 /** Did memory run out for a line of a listing? Such a text of a history does not load. */
 const hasHole = (text) => /^F1 no memory$/m.test(text);
 
-const listed = (text) => (text === "-" ? [] : text.indexOf(",") < 0 ? [text] : text.split(","));
+/**
+ * Reads lines of one form: what a function makes of its parts; null where a line is not of that form.
+ * @template T
+ * @param {RegExp} form
+ * @param {(parts: RegExpExecArray) => T} made
+ */
+const reading = (form, made) => (/** @type {string} */ line) => {
+  const parts = form.exec(line);
+  return parts && made(parts);
+};
+
+const listed = (text = "-") => (text === "-" ? [] : text.indexOf(",") < 0 ? [text] : text.split(","));
 
 function readBinding(text) {
   const sign = text.indexOf("=");
@@ -61,14 +72,21 @@ function readStep(number, goal, act) {
   return { number: Number(number), goal: goal === "-" ? null : goal, act, kind, clause: kind === "reduce" ? Number(act.slice(3)) : null };
 }
 
+/** @param {readonly string[]} parts of a line that tells a step */
+const readParts = ([, number, goal, act]) => readStep(number, goal, act);
+
 /** Where the last three parts of a record line begin, found from its end, since an act can hold their words; null where it is none. */
 function placesIn(line) {
   const makes = line.lastIndexOf(" makes "), binds = line.lastIndexOf(" binds ", makes - 1), reads = line.lastIndexOf(" reads ", binds - 1);
   return reads < 0 ? null : { reads, binds, makes };
 }
 
-/** The bindings of a record line, each as a text: none of a term has a semicolon but between brackets. */
-const bindingsIn = (bound) => (bound.indexOf(";") < 0 ? [bound] : splitOutside(bound, ";"));
+/** The bindings that a record line tells: none of a term has a semicolon but between brackets. */
+function bindingsIn(line, { binds, makes }) {
+  const bound = line.slice(binds + 7, makes);
+  if (bound === "-") return NONE_AT_ALL;
+  return (bound.indexOf(";") < 0 ? [bound] : splitOutside(bound, ";")).map(readBinding);
+}
 
 /**
  * A step of a line such as `3 0.1 by 2 reads _0_1 binds - makes 3.1,3.2`; null where it is none.
@@ -80,10 +98,9 @@ function readRecord(line) {
   if (places === null || second < 0 || second >= places.reads) return null;
   const { reads, binds, makes } = places, step = readStep(line.slice(0, first), line.slice(first + 1, second), line.slice(second + 1, reads));
   if (step === null) return null;
-  const bound = line.slice(binds + 7, makes);
   step.names = step.kind === "ask" ? namesIn(step.act, step.number) : NONE_AT_ALL;
   step.reads = listed(line.slice(reads + 7, binds));
-  step.binds = bound === "-" ? NONE_AT_ALL : bindingsIn(bound).map(readBinding);
+  step.binds = bindingsIn(line, places);
   step.makes = listed(line.slice(makes + 7));
   return step;
 }
@@ -94,15 +111,12 @@ function readRecord(line) {
  */
 const readRecords = (lines) => lines.map(readRecord).filter(Boolean);
 
-/** A record line with each binding changed by a function of its variable's sign and its term. */
+/** A record line with the term of each binding changed by a function. */
 function withTerms(line, change) {
   const places = placesIn(line);
   if (places === null) return line;
-  const { binds, makes } = places, changed = bindingsIn(line.slice(binds + 7, makes)).map((text) => {
-    const sign = text.indexOf("=") + 1;
-    return text.slice(0, sign) + change(text.slice(sign));
-  });
-  return line.slice(0, binds + 7) + changed.join(";") + line.slice(makes);
+  const changed = bindingsIn(line, places).map(({ variable, term }) => `${variable}=${change(term)}`);
+  return line.slice(0, places.binds + 7) + (changed.join(";") || "-") + line.slice(places.makes);
 }
 
 /** The number with which a line begins. */
@@ -124,26 +138,16 @@ function numberAt(bytes, place) {
  * The steps of the reply to `shelf`.
  * @type {(lines: Reply) => ShortStep[]}
  */
-const readShelf = (lines) => lines.map((line) => /^(\d+) (\S+) (.+)$/.exec(line)).filter(Boolean)
-  .map(([, number, goal, act]) => readStep(number, goal, act)).filter(Boolean);
+const readShelf = (lines) => lines.map(reading(/^(\d+) (\S+) (.+)$/, readParts)).filter(Boolean);
 
 /** What a step consumes and does, in words: `goal 1.1 by 2`, or the act alone where it consumes no goal. */
 const wordsOf = (step) => (step.goal === null ? step.act : `goal ${step.goal} ${step.act}`);
 
-/**
- * A goal of a line such as `1.3 waits _1_1 p(_1_1)`; null where it is none.
- * @param {string} line
- * @returns {Goal | null}
- */
-function readGoal(line) {
-  const found = /^(\d+\.\d+) (ready|waits (\S+)|failed (\S+)|stream) (.*)$/.exec(line);
-  if (!found) return null;
-  const [, name, status, waitsFor, refusal, text] = found;
-  return {
-    name, status: status.split(" ")[0], waitsFor: waitsFor ? waitsFor.split(",") : [],
-    refusal: refusal || "", text, sort: Printed.sortOfText(text),
-  };
-}
+const GOAL = /^(\d+\.\d+) (ready|waits (\S+)|failed (\S+)|stream) (.*)$/;
+
+/** A goal of a line such as `1.3 waits _1_1 p(_1_1)`; null where it is none. */
+const readGoal = reading(GOAL, ([, name, status, waitsFor, refusal = "", text]) =>
+  ({ name, status: status.split(" ")[0], waitsFor: listed(waitsFor), refusal, text, sort: Printed.sortOfText(text) }));
 
 /**
  * The goals of the reply to `goals`.
@@ -162,43 +166,30 @@ const beforeTerm = (line) => BEFORE_TERM.exec(line)?.[0] ?? beforeGoal(line);
 /** What stands behind it: the line of a clause. */
 const afterTerm = (line) => (/ line \d+$/.exec(line) || [""])[0];
 
-const REDU = /^REDU (\d+) (\d+\.\d+|-) (.+)$/, CALL = /^CALL (\d+\.\d+) (.*)$/, UNDONE = /^undone ([\d,]+)$/;
+const REDU = /^REDU (\d+) (\d+\.\d+|-) (.+)$/, CALL = /^CALL (\d+\.\d+) (.*)$/;
 
-/**
- * The step of a line such as `REDU 1 0.1 by 2`; null where it is none.
- * @param {string} line
- * @returns {ShortStep | null}
- */
-function readTaken(line) {
-  const found = REDU.exec(line);
-  return found && readStep(found[1], found[2], found[3]);
-}
+/** The step of a line such as `REDU 1 0.1 by 2`; null where it is none. */
+const readTaken = reading(REDU, readParts);
 
 /** The goal of a line such as `CALL 1.1 p(_1_1)`; null where it is none. */
-function readCall(line) {
-  const found = CALL.exec(line);
-  return found && { name: found[1], text: found[2] };
-}
+const readCall = reading(CALL, ([, name, text]) => ({ name, text }));
 
 /** The names of the goals that CALL lines tell. */
 const goalsMade = (lines) => lines.map(readCall).filter(Boolean).map(({ name }) => name);
 
 /** The numbers of the steps that a line such as `undone 3,2` tells to be taken back; null where it is none. */
-function readUndone(line) {
-  const found = UNDONE.exec(line);
-  return found && found[1].split(",").map(Number);
-}
+const readUndone = reading(/^undone ([\d,]+)$/, ([, numbers]) => numbers.split(",").map(Number));
+
+const PORTS = [
+  reading(REDU, ([, step, goal, act]) => ({ port: "REDU", step: Number(step), goal: goal === "-" ? null : goal, act })),
+  reading(CALL, ([, goal, text]) => ({ port: "CALL", goal, text })),
+  reading(/^RESU (\S+)$/, ([, goal]) => ({ port: "RESU", goal })),
+  reading(/^SUSP (\S+) (\S+)$/, ([, goal, variables]) => ({ port: "SUSP", goal, waitsFor: listed(variables) })),
+  reading(/^FAIL (\S+) (\S+)$/, ([, goal, refusal]) => ({ port: "FAIL", goal, refusal })),
+];
 
 /** What a line of a port tells; null where it is none. */
-function readPort(line) {
-  const [, port, rest] = /^(REDU|CALL|RESU|SUSP|FAIL) (.*)$/.exec(line) ?? [];
-  if (port === undefined) return null;
-  const [first, second, ...more] = rest.split(" ");
-  if (port === "REDU") return { port, step: Number(first), goal: second === "-" ? null : second, act: more.join(" ") };
-  if (port === "CALL") return { port, goal: first, text: rest.slice(first.length + 1) };
-  if (port === "SUSP") return { port, goal: first, waitsFor: second.split(",") };
-  return port === "FAIL" ? { port, goal: first, refusal: second } : { port, goal: first };
-}
+const readPort = (line) => PORTS.map((read) => read(line)).find(Boolean) ?? null;
 
 const OTHERS = / or ([\d,]+)$/;
 
@@ -227,45 +218,35 @@ const readValue = (line) => ({ variable: line.slice(0, line.indexOf(" ")), value
 const isUnbound = (line) => / = _\d+_\d+$/.test(line);
 
 /** A goal that has an unbound variable, as `explain` tells it; null where the line tells none. */
-function readHolder(line) {
-  const [, variable, goal, status] = /^(_\d+_\d+) in (\d+\.\d+) (.+)$/.exec(line) ?? [];
-  return variable === undefined ? null : { variable, goal, status };
-}
+const readHolder = reading(
+  /^(_\d+_\d+) in (\d+\.\d+) (.+)$/, ([, variable, goal, status]) => ({ variable, goal, status }));
 
 /** Of how many steps the last line of an explanation speaks; undefined where it is none. */
 const readExtent = (line) => { const [, of] = /^steps \d+ of (\d+)$/.exec(line) ?? []; return of && Number(of); };
 
-/** The line of the program at which a clause begins, and what is told in front of it; no `line` where none is told. */
-function readLine(told) {
-  const after = afterTerm(told), before = told.slice(0, told.length - after.length);
-  return after === "" ? { before } : { before, line: Number(after.slice(" line ".length)) };
-}
+/** The line of the program at which a clause begins; nothing where none is told. */
+const lineIn = (line) => line && { line: Number(line) };
+
+const TAKEN_GOAL = /^(\d+) (?:(\d+\.\d+) (by \d+|eq|is|end|in \S+) (.*?)|- (ask .*?))(?: line (\d+))?$/;
 
 /** The goal that a step took, and the line of its clause, as `goal N` tells it; null where the line tells none. */
-function readTakenGoal(told) {
-  const { before, ...where } = readLine(told);
-  const [, number, name, act, text, asked] = /^(\d+) (?:(\d+\.\d+) (by \d+|eq|is|end|in \S+) (.*)|- (ask .*))$/.exec(before) ?? [];
-  return number === undefined ? null : { number: Number(number), goal: name ?? null, act: act ?? asked, text: text ?? null, ...where };
-}
+const readTakenGoal = reading(TAKEN_GOAL, ([, number, goal = null, act, text = null, asked, line]) =>
+  ({ number: Number(number), goal, act: act ?? asked, text, ...lineIn(line) }));
+
+const CHOICE = /^(\d+) (?:(yes)|(waits) (\S+)|(no) (head|test|value) (\d+))(?: line (\d+))?$/;
 
 /**
  * What a clause says to a goal, as `clauses` tells it: `yes`, `no` or `waits`, and for what; where it says no, also the argument of its
  * head, or the test, that does, from 1 on: of a `value` a side of the test has none; and at which line of the program the clause begins.
  * Null where the line tells none.
  */
-function readChoice(told) {
-  const { before, ...where } = readLine(told);
-  const [, number, yes, waits, variables, no, part, which] = /^(\d+) (?:(yes)|(waits) (\S+)|(no) (head|test|value) (\d+))$/.exec(before) ?? [];
-  if (number === undefined) return null;
-  const at = no === undefined ? undefined : { part, number: Number(which) };
-  return { number: Number(number), says: yes ?? waits ?? no, waitsFor: variables === undefined ? [] : variables.split(","), at, ...where };
-}
+const readChoice = reading(CHOICE, ([, number, yes, waits, variables, no, part, which, line]) => ({
+  number: Number(number), says: yes ?? waits ?? no, waitsFor: listed(variables),
+  at: no === undefined ? undefined : { part, number: Number(which) }, ...lineIn(line),
+}));
 
 /** Which step bound a variable, as `who` tells it; null where the line tells none. */
-function readBinder(line) {
-  const [, variable, number] = /^(\S+) by (\d+)$/.exec(line) ?? [];
-  return variable === undefined ? null : { variable, number: Number(number) };
-}
+const readBinder = reading(/^(\S+) by (\d+)$/, ([, variable, number]) => ({ variable, number: Number(number) }));
 
 const WITH_STEP = [/^()(\d+)( (?:made|read|named)\b.*)$/, /^(\S+ by )(\d+)()$/, /^((?:REDU|fault|_\d+_\d+ lost by) )(\d+)( .*)$/, /^(asked )(\d+)()$/, /^(F17 step )(\d+)( .*)$/, /^()(\d+)( (?:\d+\.\d+|-) .*)$/];
 const WITH_GOAL = [/^(_\d+_\d+ in )(\d+\.\d+)( .*)$/, /^()(\d+\.\d+)( .*)$/, /^((?:CALL|RESU|SUSP|FAIL|stopped spied|ask|left|fault) )(\d+\.\d+)(.*)$/];
@@ -278,6 +259,17 @@ function namedIn(line) {
   return { before, ...(step ? { step: Number(name) } : { goal: name }), after };
 }
 
+const SPIES = /^spies \d+$/, END = /^end (\d+)$/;
+
+/** The predicates that are spied, of the lines of a whole session, as `save` tells it. */
+function spiesIn(lines) {
+  const at = lines.findLastIndex((line) => SPIES.test(line));
+  return at < 0 ? [] : lines.slice(at + 1, -1);
+}
+
+/** The number that the next step gets, of the lines of a whole session. */
+const nextIn = (lines) => Number(END.exec(lines.at(-1))?.[1]);
+
 const NOT_IN_1 = "history 1 cannot hold a step that asked for goals: use save alone";
 
 /** What the limit means at which a line, or a text at the start, was refused; undefined where it was not at a limit. */
@@ -287,6 +279,7 @@ function limitIn(refusal, line = "") {
 }
 
 export {
+  reading, spiesIn, nextIn,
   isRefusal, isRefused, limitIn, hasHole, NO_MEMORY, readRecord, readRecords, withTerms, numberIn, beginsWithStep, numberAt, readShelf, wordsOf, readGoals, beforeGoal, beforeTerm, afterTerm,
   readTaken, readCall, goalsMade, readUndone, readPort, readExplained, readCause, readDependence, readValue, isUnbound, readHolder, readExtent, readTakenGoal, readChoice, readBinder, namedIn,
 };

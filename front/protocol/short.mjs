@@ -1,20 +1,11 @@
 // Shortens terms that are too long to be shown, before the worker hands them over: `…` stands for what is left out. Pure.
 import { joined } from "../text/bytes.mjs";
+import { openBrackets } from "../text/tokens.mjs";
 import * as Replies from "./replies.mjs";
 
 const MOST = 20000; // letters of a term, a goal or a binding
 const LINE_END = 10;
 const PLACES = "([,|", CLOSING = { "(": ")", "[": "]" };
-
-/** The brackets that are open at the end of a text, the outermost first. */
-function openAt(text) {
-  const open = [];
-  for (const letter of text) {
-    if (letter === "(" || letter === "[") open.push(letter);
-    else if (letter === ")" || letter === "]") open.pop();
-  }
-  return open;
-}
 
 /** A term or a goal in at most some letters and its closing brackets: one part of it is `…`, and nothing stands after that. */
 function term(text, most = MOST) {
@@ -22,7 +13,8 @@ function term(text, most = MOST) {
   let end = most;
   while (end > 0 && !PLACES.includes(text[end - 1])) end -= 1;
   if (end === 0) return `${text.slice(0, most)}…`;
-  const open = openAt(text.slice(0, end)), isRest = open[open.length - 1] === "[" && text[end - 1] === ",";
+  const open = openBrackets(text.slice(0, end), (letter) => letter);
+  const isRest = open.at(-1) === "[" && text[end - 1] === ",";
   return `${isRest ? `${text.slice(0, end - 1)}|` : text.slice(0, end)}…${open.reverse().map((bracket) => CLOSING[bracket]).join("")}`;
 }
 
@@ -43,28 +35,19 @@ function line(text, most = MOST) {
   return changed !== text || before === "" ? changed : before + term(text.slice(before.length, text.length - after.length), most) + after;
 }
 
-/** Where the lines stand that have more bytes than some: where they begin, and their line ends. */
-function longLines(bytes, most) {
-  const found = [];
+/** The bytes of lines, each long one shortened by `record` or `goal`; the same bytes where none is long. */
+function lines(bytes, shorten, most = MOST) {
+  const parts = [];
+  let taken = 0; // of the bytes
   for (let at = 0, end = 0; at < bytes.length; at = end + 1) {
     end = bytes.indexOf(LINE_END, at);
     if (end < 0) end = bytes.length;
-    if (end - at > most) found.push([at, end]);
+    if (end - at <= most) continue;
+    const line = new TextDecoder().decode(bytes.subarray(at, end));
+    parts.push(bytes.subarray(taken, at), new TextEncoder().encode(shorten(line, most)));
+    taken = end;
   }
-  return found;
-}
-
-/** The bytes of lines, each long one shortened by `record` or `goal`; the same bytes where none is long. */
-function lines(bytes, shorten, most = MOST) {
-  const long = longLines(bytes, most), parts = [];
-  if (long.length === 0) return bytes;
-  let at = 0;
-  for (const [from, to] of long) {
-    const line = new TextDecoder().decode(bytes.subarray(from, to));
-    parts.push(bytes.subarray(at, from), new TextEncoder().encode(shorten(line, most)));
-    at = to;
-  }
-  return joined([...parts, bytes.subarray(at)]);
+  return parts.length === 0 ? bytes : joined([...parts, bytes.subarray(taken)]);
 }
 
 export { term, record, goal, line, lines, MOST };

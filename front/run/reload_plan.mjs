@@ -1,7 +1,6 @@
 // What becomes of a run where its program has changed: which clauses are gone, which steps go with them, and the
 // history by which the rest goes on under the new program. A clause is the same where its tokens are. The console
 // judges the history: nothing is promised here. Pure.
-import * as Histories from "../protocol/histories.mjs";
 import * as Replies from "../protocol/replies.mjs";
 import * as Clauses from "../text/clauses.mjs";
 import * as Printed from "../text/printed.mjs";
@@ -135,7 +134,7 @@ function historyOf(plan, { next, spied, shelved }) {
 function planTold({ before, after, records, saved, shelf }) {
   if ([records, saved, shelf].some((lines) => lines.includes(Replies.NO_MEMORY))) return undefined;
   const plan = planOf({ before, after, steps: Replies.readRecords(records) });
-  return { ...plan, shelf: Replies.readShelf(shelf), next: Histories.nextIn(saved), spied: Histories.spiesIn(saved) };
+  return { ...plan, shelf: Replies.readShelf(shelf), next: Replies.nextIn(saved), spied: Replies.spiesIn(saved) };
 }
 
 /** The histories by which the steps that stay may go on: with what may stay of the shelf, and with an empty one. */

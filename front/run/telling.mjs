@@ -9,7 +9,6 @@ import * as Printed from "../text/printed.mjs";
 import * as Reader from "../text/reader.mjs";
 import { nearest, predicatesNamed } from "../text/nearest.mjs";
 import Refusals from "../protocol/refusals.mjs";
-import { causeInTerm } from "../text/causes_in_terms.mjs";
 import * as Replies from "../protocol/replies.mjs";
 import * as WhyNotLines from "../protocol/why_not_lines.mjs";
 import { afterPart, otherClauseWords } from "./blame_words.mjs";
@@ -75,7 +74,7 @@ function noPredicate(session, words, reply) {
 /** Why the text after `ask` or `in` is refused. */
 function badText(session, meaning, reply) {
   const text = meaning.line.replace(meaning.name === "in" ? /^in +\S+ +/ : /^ask +/, ""), [, column] = /^F2 syntax at 1:(\d+)$/.exec(reply[0]) ?? [];
-  const own = meaning.name === "in" && column !== undefined ? causeInTerm(text, Number(column)) : undefined;
+  const own = meaning.name === "in" && column !== undefined ? Causes.causeInTerm(text, Number(column)) : undefined;
   const cause = own ?? Causes.causeOf(reply[0], { text, which: meaning.name, isQuery: true, program: session.text });
   return cause === undefined ? undefined : Causes.linesOf(cause, text);
 }

@@ -1,6 +1,5 @@
 // What the other choices of a session lead to: for each, another program of the same engine plays the kept steps, rolls
 // one, takes another clause and runs on. The session itself is only asked.
-import * as Histories from "../protocol/histories.mjs";
 import * as Replies from "../protocol/replies.mjs";
 import { MOST_STEPS, choicesIn, concernedIn, eachOnce, isOpen, outcomeTold } from "../run/other_choices.mjs";
 import { isWhole, textOf } from "./way_back.mjs";
@@ -47,7 +46,7 @@ class Trying {
   constructor(session, saved) {
     this.session = session;
     this.history = textOf(saved);
-    this.prepared = Histories.spiesIn(saved).map((predicate) => `nospy ${predicate}`);
+    this.prepared = Replies.spiesIn(saved).map((predicate) => `nospy ${predicate}`);
     this.isStopped = false;
   }
 

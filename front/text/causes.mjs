@@ -26,6 +26,33 @@ function causeOf(refusal, { text, which, isQuery = false, program = text }) {
   return call ? caused(which, CheckerCauses.undefinedCall(Tokens.tokensOf(program), tokens, call[1], Number(call[2]), isQuery)) : undefined;
 }
 
+const said = (title, ...hints) => ({ title: `syntax: ${title}`, hints });
+
+/** What is said of what stands after a whole term. */
+function afterTerm({ text }) {
+  if (text === ".") return said("no full stop stands after a term", "drop it");
+  if (Tokens.OPERATORS.has(text) || text.startsWith("-")) return said("a term is not computed", "feed the value");
+  return said("one term is fed at a time", "feed the next one by another `in`");
+}
+
+/** What is said of the place at which an input term ends too early. */
+function atTermsEnd(open) {
+  if (open === undefined) return said("the term ends too early", "write a term, as f(a,[1,2])");
+  return said("the term ends within brackets", `'${open.text}' of column ${open.column} is not closed`);
+}
+
+const NO_VARIABLES = said("an input term has no variables", "`ask` adds goals, in which variables may stand");
+
+/** The cause at a place of an input term, where a query's words would mislead; undefined where they fit. */
+function causeInTerm(text, column) {
+  const tokens = Tokens.tokensOf(text), place = Tokens.placeOf(tokens, { line: 1, column }), token = tokens[place];
+  if (token === undefined || token.kind === "wrong") return undefined;
+  const open = Tokens.openBrackets(tokens.slice(0, place)).at(-1), tell = (what) => caused("in", { token, ...what });
+  if (token.kind === "variable") return tell(NO_VARIABLES);
+  if (token.kind === "end") return tell(atTermsEnd(open));
+  return place > 0 && open === undefined ? tell(afterTerm(token)) : undefined;
+}
+
 const bytesOf = (text) => new TextEncoder().encode(text);
 const lineOf = (text, line) => (text.split("\n")[line - 1] ?? "").replace(/\r$/, "");
 
@@ -68,6 +95,13 @@ function ownSums(clause) {
   });
 }
 
+/** The tokens whose text no other one has. */
+function standingOnce(tokens) {
+  const counts = new Map();
+  for (const { text } of tokens) counts.set(text, (counts.get(text) ?? 0) + 1);
+  return tokens.filter(({ text }) => counts.get(text) === 1);
+}
+
 /** The lone variables that are meant in assignments of a like name, as F1 in F := N * F. */
 function meantInSums(clause, lone) {
   return ownSums(clause).flatMap(({ place }) => lone.filter(({ text }) => lettersOf(text) === lettersOf(clause[place].text)).slice(0, 1));
@@ -75,85 +109,79 @@ function meantInSums(clause, lone) {
 
 /** What is written instead of an assignment that waits for what it is to bind. */
 function cureOfSum(clause, { place, right }) {
-  const { text } = clause[place], lone = clause.filter((token) => clause.filter((other) => other.text === token.text).length === 1);
-  const [meant] = lone.filter((token) => token.kind === "variable" && lettersOf(token.text) === lettersOf(text));
+  const { text } = clause[place], isLike = (other) => lettersOf(other.text) === lettersOf(text);
+  const meant = standingOnce(clause).find((token) => token.kind === "variable" && isLike(token));
   const told = (name, tokens) => `${name} := ${Cures.textOf(tokens) ?? ".."}`;
   if (meant === undefined) return `a variable gets one value; name a new one: ${told(Cures.newName(text, clause), right)}`;
   return `a variable gets one value; is ${meant.text} meant? ${told(text, right.map((token) => (token.text === text ? meant : token)))}`;
 }
 
 /** Notes on the variables of a clause that stand once in it. */
-function loneVariables(clause, number, which) {
-  const places = new Map();
-  for (const token of clause) {
-    if (token.kind === "variable" && !token.text.startsWith("_")) places.set(token.text, places.has(token.text) ? undefined : token);
-  }
-  const lone = [...places.values()].filter((token) => token !== undefined), isMeant = new Set(meantInSums(clause, lone));
-  const names = [...lone.map(({ text }) => text), ...places.keys()]; // two that stand once may be meant to be one
+function loneVariables(clause, number) {
+  const all = clause.filter(({ kind, text }) => kind === "variable" && !text.startsWith("_"));
+  const lone = standingOnce(all), isMeant = new Set(meantInSums(clause, lone));
+  const textsOf = (tokens) => tokens.map(({ text }) => text);
+  const names = [...textsOf(lone), ...new Set(textsOf(all))]; // two that stand once may be meant to be one
   return lone.map((token) => {
     const near = Nearest.nearest(token.text, names.filter((name) => mayBeMeant(token.text, name)));
     const other = isMeant.has(token) ? UNUSED : `${UNUSED}; write _ where that is meant`;
     const hint = near === undefined ? other : `is it ${near}? ${UNUSED}`;
-    return caused(which, { token, title: `note: ${token.text} stands once in clause ${number}`, hints: [hint] });
+    return { token, title: `${token.text} stands once in clause ${number}`, hint };
   });
 }
 
 const NOBODYS = "each _ is a variable of its own: give the value a name, and use that";
 
-/** Notes on assignments that wait for what they are to bind, and on those whose value nobody gets. */
-function ownAssignments(clause, number, which) {
-  const notes = [];
-  clause.forEach((token, place) => {
-    if (token.text !== ":=") return;
-    const left = clause[place - 1], title = `note: nobody gets what _ := computes in clause ${number}`;
-    if (left.text === "_") notes.push(caused(which, { token: left, title, hints: [NOBODYS] }));
-  });
-  for (const sum of ownSums(clause)) {
-    const token = clause[sum.place], title = `note: ${token.text} stands on both sides of := in clause ${number}`;
-    notes.push(caused(which, { token, title, hints: [cureOfSum(clause, sum)] }));
-  }
-  return notes;
+/** Notes on assignments whose value nobody gets. */
+function lostValues(clause, number) {
+  const lost = clause.filter(({ text }, place) => text === "_" && clause[place + 1]?.text === ":=");
+  return lost.map((token) => ({ token, title: `nobody gets what _ := computes in clause ${number}`, hint: NOBODYS }));
 }
 
-/** Notes on predicates whose clauses stand apart. */
-function scattered(clauses, which) {
-  const seen = new Map(), notes = [];
-  let last;
-  clauses.forEach((clause, place) => {
-    const predicate = Tokens.predicateAt(clause, 0);
-    const title = `note: clause ${place + 1} of ${predicate} stands apart from clause ${seen.get(predicate)}`;
-    const isApart = seen.has(predicate) && last !== predicate;
-    if (isApart) notes.push(caused(which, { token: clause[0], title, hints: ["clauses of one predicate are read more easily side by side"] }));
-    seen.set(predicate, place + 1);
-    last = predicate;
+/** Notes on assignments that wait for what they are to bind. */
+function waitingSums(clause, number) {
+  return ownSums(clause).map((sum) => {
+    const token = clause[sum.place], title = `${token.text} stands on both sides of := in clause ${number}`;
+    return { token, title, hint: cureOfSum(clause, sum) };
   });
-  return notes;
+}
+
+const APART = "clauses of one predicate are read more easily side by side";
+
+/** Notes on predicates whose clauses stand apart. */
+function scattered(clauses) {
+  const seen = new Map();
+  return clauses.flatMap((clause, place) => {
+    const predicate = Tokens.predicateAt(clause, 0), last = seen.get(predicate) ?? place;
+    const title = `clause ${place + 1} of ${predicate} stands apart from clause ${last}`;
+    seen.set(predicate, place + 1);
+    return last === place ? [] : [{ token: clause[0], title, hint: APART }];
+  });
 }
 
 /**
  * Notes on results that stand in a head, which binds nothing, where another clause of the predicate binds that
  * argument in its body; `all` are the clauses' tokens.
  */
-function resultsInHeads(program, all, which) {
-  const clauses = Reader.readProgram(program), binders = CheckerCauses.bindersOf(clauses), notes = [];
-  const cureOf = (number, place) => CheckerCauses.bindInBody(all[number - 1], place);
-  for (const { head, predicate, number, line, letter, name } of clauses) {
-    head.arguments.forEach((argument, place) => {
-      const binder = argument.variable === undefined ? binders.get(`${predicate} ${place}`) : undefined;
-      if (binder === undefined) return;
-      const cure = `a head binds nothing; clause ${binder} binds that argument in its body: ${cureOf(number, place)}`;
-      const token = { line, column: letter, text: name };
-      notes.push(caused(which, { token, title: `note: clause ${number} waits until argument ${place + 1} is bound`, hints: [cure] }));
-    });
-  }
-  return notes;
+function resultsInHeads(program, all) {
+  const clauses = Reader.readProgram(program), binders = CheckerCauses.bindersOf(clauses);
+  return clauses.flatMap(({ head, predicate, number }) => head.arguments.flatMap(({ variable }, place) => {
+    const binder = variable === undefined ? binders.get(`${predicate} ${place}`) : undefined, tokens = all[number - 1];
+    if (binder === undefined) return [];
+    const cure = CheckerCauses.bindInBody(tokens, place);
+    const hint = `a head binds nothing; clause ${binder} binds that argument in its body: ${cure}`;
+    return [{ token: tokens[0], title: `clause ${number} waits until argument ${place + 1} is bound`, hint }];
+  }));
 }
 
 /** The notes on a program that was accepted, in the order of its text. */
 function notesOn(program, which) {
   const clauses = Tokens.clausesIn(program);
-  const notes = clauses.flatMap((clause, place) => [...loneVariables(clause, place + 1, which), ...ownAssignments(clause, place + 1, which)]);
-  return [...notes, ...resultsInHeads(program, clauses, which), ...scattered(clauses, which)].sort((one, other) => one.line - other.line || one.column - other.column);
+  const eachOf = (notesIn) => clauses.flatMap((clause, place) => notesIn(clause, place + 1));
+  const within = [loneVariables, lostValues, waitingSums].flatMap(eachOf);
+  return [...within, ...resultsInHeads(program, clauses), ...scattered(clauses)]
+    .map(({ token, title, hint }) => caused(which, { token, title: `note: ${title}`, hints: [hint] }))
+    .sort((one, other) => one.line - other.line || one.column - other.column);
 }
 
-export { causeOf, notesOn, linesOf, letterOf };
+export { causeOf, causeInTerm, notesOn, linesOf, letterOf };

@@ -44,8 +44,8 @@ function bindingInGuard(clause, place) {
 
 /** The arguments of two clauses' heads side by side, each as its tokens. */
 function besideEachOther(clause, other) {
-  const [own, others] = [clause, other].map((tokens) => Cures.argumentsOf(Tokens.headOf(tokens)));
-  return own.map((argument, place) => ({ argument, beside: others[place] }));
+  const others = Tokens.argumentsOf(other);
+  return Tokens.argumentsOf(clause).map((argument, place) => ({ argument, beside: others[place] }));
 }
 
 const isLone = (argument, kind) => argument.length === 1 && argument[0].kind === kind && argument[0].text !== "_";
@@ -98,10 +98,11 @@ function badVariable(token, head) {
 function notFlat(tokens, number) {
   const clauses = Tokens.clausesOf(tokens), clause = clauses[number - 1], { start, end } = guardOf(clause);
   const head = new Set(clause.slice(0, start).filter(({ kind, text }) => kind === "variable" && text !== "_").map(({ text }) => text));
-  let found, depth = 0;
+  const levels = Tokens.levelsOf(clause.slice(start, end));
+  let found;
   for (let place = start; place < end && found === undefined; place += 1) {
-    found = (depth === 0 ? badTest(clauses, clause, place) : undefined) ?? badVariable(clause[place], head);
-    depth += Tokens.depthOf([clause[place]]);
+    const isOutside = levels[place - start] === 0;
+    found = (isOutside ? badTest(clauses, clause, place) : undefined) ?? badVariable(clause[place], head);
   }
   found ??= causeAt(clause[start] ?? clause[0], "this guard is no test", ALL_TESTS);
   return { ...found, title: `not flat, clause ${number}: ${found.title}` };
@@ -149,7 +150,7 @@ const NO_EQUALITY = "other terms have no test of equality: write a clause for ea
 
 /** How a body makes what a head cannot: an argument of the head, at its place. */
 function bindInBody(tokens, place) {
-  const built = Cures.newName("A", tokens), text = Cures.textOf(Cures.argumentsOf(Tokens.headOf(tokens))[place]) ?? "..";
+  const built = Cures.newName("A", tokens), text = Cures.textOf(Tokens.argumentsOf(tokens)[place]) ?? "..";
   return `write ${built} for argument ${place + 1}, and ${built} = ${text} in the body`;
 }
 
@@ -189,7 +190,7 @@ function curesOf(clauses, number, tokens, name, { role, place, within }) {
 /** F4: the second place of the variable in the head. */
 function notLinear(tokens, name, number, program) {
   const clause = Tokens.clausesOf(tokens)[number - 1], token = clause.filter(({ text }) => text === name)[1];
-  const clauses = Reader.readProgram(program), given = Cures.argumentsOf(Tokens.headOf(clause));
+  const clauses = Reader.readProgram(program), given = Tokens.argumentsOf(clause);
   const places = given.flatMap((argument, place) => (argument.some(({ text }) => text === name) ? [place] : []));
   const second = places.find((place) => given[place].includes(token)), within = given[second].length > 1 ? second : undefined;
   const what = { ...roleOf(clauses, clauses[number - 1], name, places), within }, cures = curesOf(clauses, number, clause, name, what);
@@ -199,12 +200,9 @@ function notLinear(tokens, name, number, program) {
 /** The first call of a predicate in a text; its first token where there is none. */
 function callIn(tokens, name, arity, isQuery) {
   const isGoal = (place) => (isQuery && place === 0) || [",", "|", ":-"].includes(tokens[place - 1]?.text);
-  const isOutside = (place) => {
-    const stop = tokens.slice(0, place).findLastIndex(({ text }) => text === ".");
-    return Tokens.depthOf(tokens.slice(stop + 1, place)) === 0;
-  };
-  const found = tokens.findIndex((token, place) => token.text === name && Tokens.arityAt(tokens, place) === arity && isGoal(place) && isOutside(place));
-  return tokens[Math.max(0, found)];
+  const levels = Tokens.levelsOf(tokens), isOutside = (place) => levels[place] === 0;
+  const isMeant = (token, place) => token.text === name && Tokens.arityAt(tokens, place) === arity;
+  return tokens.find((token, place) => isMeant(token, place) && isGoal(place) && isOutside(place)) ?? tokens[0];
 }
 
 /** F5: the call, and which predicate may have been meant. */

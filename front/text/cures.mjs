@@ -2,8 +2,8 @@
 import * as Tokens from "./tokens.mjs";
 
 const LONGEST = 70; // letters of a goal or a head that a cure repeats
-const OPPOSITES = { "<": ">=", ">": "=<", "=<": ">", ">=": "<", "=:=": "=\\=", "=\\=": "=:=" }; // of comparisons
-const SPACED = [...Tokens.OPERATORS, ...Object.keys(OPPOSITES), "=", ":="];
+const OPPOSITES = new Map([["<", ">="], [">", "=<"], ["=<", ">"], [">=", "<"], ["=:=", "=\\="], ["=\\=", "=:="]]);
+const SPACED = [...Tokens.OPERATORS, ...Tokens.COMPARISONS, "=", ":="];
 
 /** Tokens of a term or a goal as a text; undefined where it is too long for a cure. */
 function textOf(tokens) {
@@ -21,56 +21,19 @@ function newName(name, clause) {
   return letters + number;
 }
 
-/** How many brackets stand open around each token; a bracket stands outside of itself. */
-function levelsOf(tokens) {
-  let level = 0;
-  return tokens.map((token) => {
-    const depth = Tokens.depthOf([token]);
-    level += depth;
-    return depth > 0 ? level - 1 : level;
-  });
-}
-
-/** The tokens around some, up to marks at a level of brackets or a bracket outside: from where to where. */
-function rangeAt(tokens, around, level, marks) {
-  const levels = levelsOf(tokens);
-  const isWithin = (at) => levels[at] > level || (levels[at] === level && !marks.includes(tokens[at].text));
-  let { from, to } = around;
-  while (from > 0 && isWithin(from - 1)) from -= 1;
-  while (to < tokens.length && isWithin(to)) to += 1;
-  return { from, to };
-}
-
 const PARTS = new Set([...Tokens.OPERATORS, "(", ")"]);
 const isOfExpression = ({ kind, text }) => ["variable", "integer"].includes(kind) || PARTS.has(text);
 
-/** An assignment of the expression at a place, and the goal in which that stands; undefined where it is none. */
-function assigned(clause, place) {
-  const at = { from: place, to: place + 1 }, level = Tokens.depthOf(clause.slice(0, place));
-  const inner = rangeAt(clause, at, level, [",", "|"]);
-  const goal = rangeAt(clause, at, 0, [",", "|", ":-"]), expression = clause.slice(inner.from, inner.to);
-  if (Tokens.depthOf(clause) !== 0 || !expression.every(isOfExpression)) return undefined;
-  const name = newName(expression.find(({ kind }) => kind === "variable")?.text ?? "N", clause);
-  const changed = [...clause.slice(goal.from, inner.from), { text: name }, ...clause.slice(inner.to, goal.to)];
-  const value = textOf(expression), text = textOf(changed);
-  return value === undefined || text === undefined ? undefined : `${name} := ${value}, ${text}`;
-}
-
 /** How an argument of a clause's goal is computed first; the place is one of the argument. */
 function computeFirst(clause, place) {
-  const goals = assigned(clause, place);
-  return goals === undefined ? "compute it first, by :=, and hand on the variable" : `compute it first: ${goals}`;
-}
-
-/** The arguments of the call that begins a clause, each as its tokens. */
-function argumentsOf(clause) {
-  const found = [];
-  for (let place = 2; Tokens.depthOf(clause.slice(0, place)) > 0;) {
-    const { from, to } = rangeAt(clause, { from: place, to: place + 1 }, 1, [","]);
-    found.push(clause.slice(from, to));
-    place = to + 1;
-  }
-  return found;
+  const at = { from: place, to: place + 1 }, level = Tokens.depthOf(clause.slice(0, place));
+  const inner = Tokens.rangeAt(clause, at, level, [",", "|"]), expression = clause.slice(inner.from, inner.to);
+  const goal = Tokens.rangeAt(clause, at, 0, [",", "|", ":-"]), isWhole = Tokens.depthOf(clause) === 0;
+  const name = newName(expression.find(({ kind }) => kind === "variable")?.text ?? "N", clause);
+  const changed = [...clause.slice(goal.from, inner.from), { text: name }, ...clause.slice(inner.to, goal.to)];
+  const value = isWhole && expression.every(isOfExpression) ? textOf(expression) : undefined, text = textOf(changed);
+  if (value === undefined || text === undefined) return "compute it first, by :=, and hand on the variable";
+  return `compute it first: ${name} := ${value}, ${text}`;
 }
 
 /** A goal of a program's first predicate, to show how one is written. */
@@ -82,8 +45,8 @@ function exampleOf(program) {
 
 /** A comparison that says yes where another one says no; undefined of other tokens. */
 function oppositeOf(test) {
-  const text = textOf(test.map((token) => ({ text: OPPOSITES[token.text] ?? token.text })));
-  return test.filter((token) => token.text in OPPOSITES).length === 1 ? text : undefined;
+  const opposite = textOf(test.map(({ text }) => ({ text: OPPOSITES.get(text) ?? text })));
+  return test.filter(({ text }) => OPPOSITES.has(text)).length === 1 ? opposite : undefined;
 }
 
-export { textOf, newName, computeFirst, argumentsOf, exampleOf, rangeAt, oppositeOf };
+export { textOf, newName, computeFirst, exampleOf, oppositeOf };

@@ -1,4 +1,4 @@
-// What a hint leaves open, filled in from the text that it is about, so that it shows the reader's own goal. Pure.
+// What a hint leaves open, and what it says to write instead, in the words of the text that it is about. Pure.
 //
 // A hint may hold {X} and {Y}, the two sides of the mark at the place; {N} and {N1}, the variable before it and a new
 // name; {B}, what stands before it, {R}, the variable to which it is assigned, {POWER} and {TWOS}, that power of it and
@@ -26,9 +26,8 @@ function markAt(clause, place) {
 }
 
 /** Where the goal around a place begins and ends; a bracket that is opened before the place ends it too. */
-function goalAt(clause, { from, to }) {
-  return Cures.rangeAt(clause, { from, to }, Tokens.depthOf(clause.slice(0, from)), ENDS);
-}
+const goalAt = (clause, around) =>
+  Tokens.rangeAt(clause, around, Tokens.depthOf(clause.slice(0, around.from)), ENDS);
 
 const isTerm = (tokens) => tokens.length > 0 && tokens.every(({ kind }) => kind !== "wrong" && kind !== "end");
 
@@ -90,4 +89,89 @@ function fill(hint, clause, place, more = {}) {
   return hint.replace(/\{([A-Z]+1?)\}/g, (all, name) => known[name] ?? ANY[name]);
 }
 
-export { fill, goalAt, sidesOf, headOf };
+// What follows tells what to write instead of a goal, a test or a head that is refused. What is given is a place of a
+// `clause`: the tokens `here` stand before it.
+const isVariable = (text) => /^[A-Z_]\w*$/.test(text ?? "");
+const headIn = (clause, otherwise) => Cures.textOf(headOf(clause) ?? []) || otherwise;
+
+/** The two sides of a mark in the goal around the place, as texts; none where the mark is not there. */
+function sidesAt({ clause, here }, mark) {
+  const at = Math.min(here.length, clause.length - 1);
+  const { from, to } = goalAt(clause, { from: at, to: at });
+  const place = clause.findIndex(({ text }, number) => number >= from && number < to && text === mark);
+  return place < 0 ? [] : sidesOf(clause, { from: place, to: place + 1 });
+}
+
+/** An if-then-else as two clauses, with the clause's head and the condition. */
+function twoClauses({ clause }) {
+  const named = headIn(clause, "p(X,Y)"), arrow = clause.findIndex(Tokens.isArrow);
+  const { from } = goalAt(clause, { from: arrow, to: arrow + 2 }), condition = clause.slice(from, arrow);
+  const other = Cures.oppositeOf(condition), start = "write two clauses, each with its guard: ";
+  if (other === undefined) return `${start}${named} :- .. | ..`;
+  return `${start}${named} :- ${Cures.textOf(condition)} | ..   ${named} :- ${other} | ..`;
+}
+
+/** An expression beside `=`: what computes it. */
+function computed(where) {
+  const sides = sidesAt(where, "="), [left, right] = isVariable(sides[0]) ? sides : [...sides].reverse();
+  return `to compute write :=, as ${isVariable(left) && right !== undefined ? `${left} := ${right}` : "Y := X + 1"}`;
+}
+
+/** A number before `:=`: turned round where that makes sense. */
+function turnedRound(where) {
+  const [left, right] = sidesAt(where, ":="), isWhole = left !== undefined && isVariable(right);
+  return `turn it round, as ${isWhole ? `${right} := ${left}` : "X := 3"}, or compare numbers by =:= in the guard`;
+}
+
+/** `=` between numbers in a guard. */
+function comparedSides(where) {
+  const [left = "X mod 2", right = "0"] = sidesAt(where, "=");
+  return `to compare numbers write =:=, as ${left} =:= ${right}`;
+}
+
+/** A term other than a number in a comparison: the head tests for it. */
+function comparedTerm({ clause, here }) {
+  const unequal = "for \"not equal\" write a clause for each case";
+  const mark = here.findLastIndex(({ text }) => Tokens.COMPARISONS.has(text));
+  const isBefore = mark < here.findLastIndex(({ text }) => [",", "|", ":-"].includes(text));
+  const at = isBefore || mark < 0 ? here.length : mark;
+  if (clause[at].text === "=\\=") return unequal;
+  return `the head tests for a term, as ${fill("{VALUE}", clause, at)} :- ..; ${unequal}`;
+}
+
+/** The expression that ends before the place, compared. */
+function comparedGoal({ clause, here: { length: place } }) {
+  const { from } = goalAt(clause, { from: place, to: place }), goal = clause.slice(from, place);
+  const variable = clause.find(({ kind }) => kind === "variable")?.text ?? "X";
+  if (goal.length === 1) return `compare it, as ${variable} =:= ${goal[0].text}`;
+  return `compare it, as ${Cures.textOf(goal) ?? `${variable} mod 2`} =:= 0`;
+}
+
+/** A comparison of three sides, of which the place is the second mark, as two of them. */
+function twoComparisons({ clause, here: { length: place } }) {
+  const first = place - 2, { from, to } = goalAt(clause, { from: first, to: place + 1 });
+  const [one, two] = [clause.slice(from, place), clause.slice(first + 1, to)].map(Cures.textOf);
+  return `write two: ${one ?? "X < Y"}, ${two ?? "Y < Z"}`;
+}
+
+/** A comparison in a clause's body, by its mark, moved before the bar. */
+function beforeBar({ clause }, mark) {
+  const place = clause.indexOf(mark), named = headIn(clause, "head");
+  const { from, to } = goalAt(clause, { from: place, to: place + 1 });
+  return `tests stand before the bar: ${named} :- ${Cures.textOf(clause.slice(from, to)) ?? "X > Y"} | ..`;
+}
+
+/** A sum or difference in a head: a new variable stands there, of which the body computes the old one. */
+function computedInBody({ clause, here }) {
+  const [name, sign, number] = clause.slice(here.length - 1);
+  const isSigned = sign.kind === "integer", isSum = ["+", "-"].includes(sign.text) && number?.kind === "integer";
+  if (name.kind !== "variable" || !(isSigned || isSum)) return "take a variable there, and compute in the body";
+  const other = Cures.newName(name.text, clause), amount = isSigned ? sign.text.slice(1) : number.text;
+  const back = `${name.text} := ${other} ${sign.text === "+" ? "-" : "+"} ${amount}`;
+  return `take a variable ${other} there, and compute in the body: ${back}`;
+}
+
+export {
+  fill, sidesOf, twoClauses, computed, turnedRound, comparedSides, comparedTerm, comparedGoal, twoComparisons,
+  beforeBar, computedInBody,
+};

@@ -117,17 +117,11 @@ class Reading {
     return { sort: "comparison", operator, left, right: this.expression() };
   }
 
-  /** Does a bar stand, outside of all brackets, before the clause's full stop? */
-  hasBar() {
-    const stop = this.tokens.findIndex(({ text }, place) => place >= this.at && text === ".");
-    return Tokens.barOutside(this.tokens.slice(this.at, stop < 0 ? undefined : stop)) >= 0;
-  }
-
   clause(number) {
     const first = this.next, head = this.term();
     let tests = [], body = [];
     if (this.takes(":-")) {
-      if (this.hasBar()) {
+      if (Tokens.barOutside(this.tokens, this.at) >= 0) {
         tests = this.row(this.test);
         this.take("|");
       }
@@ -175,11 +169,7 @@ function fold(given, leaf, node) {
 const termsOf = (goal) => (goal.sort === "call" ? [goal.call] : goal.sort === "true" ? [] : goal.sort === "stream" ? [goal.tail] : [goal.left, goal.right]);
 
 /** The names of the variables of goals, by first occurrence. */
-function variablesOfGoals(goals) {
-  const names = new Set();
-  for (const goal of goals) addVariables(names, ...termsOf(goal));
-  return [...names];
-}
+const variablesOfGoals = (goals) => [...addVariables(new Set(), ...goals.flatMap(termsOf))];
 
 /** A clause with what is asked of it often: its predicate, the goals that a step by it makes, the variables that it makes. */
 function finished(clause) {

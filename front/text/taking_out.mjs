@@ -8,7 +8,6 @@ const TRUE = "true";
 const GO_ON = new Set([",", "|", ":-", "(", "[", "=", ":=", ";"]); // after these no clause begins
 
 const isNeck = ({ text }) => text === ":-";
-const placeOf = (tokens, at) => tokens.findIndex(({ line, column }) => line === at.line && column === at.column);
 const isWord = ({ kind }) => kind === "name" || kind === "variable";
 const nameOf = ({ text }) => text[0].toLowerCase() + text.slice(1); // of a predicate, written with a large letter or not
 const bytesOf = (text) => new TextEncoder().encode(text).length;
@@ -17,9 +16,7 @@ const bytesOf = (text) => new TextEncoder().encode(text).length;
 const blanked = (text) => text.replace(/[^\n]/gu, (letter) => " ".repeat(bytesOf(letter)));
 
 /** A clause that any call of its predicate can take. */
-function clauseFor(name, arity) {
-  return arity === 0 ? `${name}.` : `${name}(${Array(arity).fill("_").join(",")}).`;
-}
+const clauseFor = (name, arity) => (arity === 0 ? `${name}.` : `${name}(${Array(arity).fill("_").join(",")}).`);
 
 /** May a clause begin at a token? It begins a line, and a head stands there. */
 function beginsClause(tokens, place, column) {
@@ -45,13 +42,6 @@ function clauseAround(tokens, place) {
   return { from, to: endsLine(tokens, to) ? to + 1 : to };
 }
 
-/** A comment of another language around the token at a place, from letter to letter; undefined where none is. */
-function commentAround(text, tokens, place) {
-  const first = Tokens.commentBefore(tokens, place), end = first && text.indexOf("*/", first.end + 1);
-  if (first === undefined || (end >= 0 && end + 1 < tokens[place].at)) return undefined;
-  return { from: first.at, to: end < 0 ? text.length : end + 2 };
-}
-
 /** What stands in the place of some letters of a text: a clause, and blanks. */
 function replaced(text, { from, to }, clause = "") {
   const rest = blanked(text.slice(from, to)), [line] = rest.split("\n");
@@ -68,17 +58,11 @@ const BEYOND = new Set([..."\"'`“”„‘’{};", "if", "then", "else", "when
  * Undefined where brackets are not closed, or more may be wrong.
  */
 function goalAround(tokens, place, { from, to }) {
-  const part = tokens.slice(from, to), start = tokens.slice(from, place).findLastIndex(isNeck);
+  const part = tokens.slice(from, to), start = from + tokens.slice(from, place).findLastIndex(isNeck) + 1;
   if (part.some(({ text }) => BEYOND.has(text)) || part.some(Tokens.isArrow)) return undefined;
-  let depth = 0, first = from + start + 1, end = to;
-  for (let at = first; at < to; at += 1) {
-    depth += Tokens.depthOf([tokens[at]]);
-    if (depth < 0) return undefined;
-    const isEnd = end === to && depth === 0 && (tokens[at].text === "," || tokens[at].text === "|");
-    if (isEnd && at >= place) end = at;
-    else if (isEnd) first = at + 1;
-  }
-  return depth === 0 ? { from: first, to: end } : undefined;
+  const row = tokens.slice(start, to), at = place - start;
+  const goal = Tokens.rangeAt(row, { from: at, to: at }, 0, [",", "|"]);
+  return Tokens.isBalanced(row) ? { from: start + goal.from, to: start + goal.to } : undefined;
 }
 
 /** The letters of a goal that are taken out, and what stands there: with a short one its comma goes. */
@@ -94,7 +78,7 @@ function takenFor(tokens, { from, to }) {
  * place is in a head, or more has to go.
  */
 function withoutGoal(text, at, isQuery = false) {
-  const tokens = Tokens.tokensOf(text), place = placeOf(tokens, at);
+  const tokens = Tokens.tokensOf(text), place = Tokens.placeOf(tokens, at);
   if (place < 0) return undefined;
   const around = isQuery ? { from: 0, to: tokens.length - 1 } : clauseAround(tokens, place), { from, to } = around;
   const end = !isQuery && to > from && endsLine(tokens, to - 1) ? to - 1 : to;
@@ -111,10 +95,12 @@ function mayDefine(tokens) {
   return words.map(nameOf);
 }
 
-/** A comment of another language, or what nobody sees, at a place; undefined where neither is. */
+/** A comment of another language, or what nobody sees, at a place: its letters; undefined where neither is. */
 function strangeAt(text, tokens, place) {
-  const { at, end, text: letters } = tokens[place];
-  return commentAround(text, tokens, place) ?? (INVISIBLE.test(letters) ? { from: at, to: end } : undefined);
+  const comment = Tokens.commentAround(text, tokens, place), token = tokens[place];
+  if (comment === undefined) return INVISIBLE.test(token.text) ? { from: token.at, to: token.end } : undefined;
+  const close = text.indexOf("*/", comment.end + 1);
+  return { from: comment.at, to: close < 0 ? text.length : close + 2 };
 }
 
 /**
@@ -124,7 +110,7 @@ function strangeAt(text, tokens, place) {
  * @returns {import("../types").Without | undefined}
  */
 function withoutPlace(text, at, isWhole = false) {
-  const tokens = Tokens.tokensOf(text), place = placeOf(tokens, at);
+  const tokens = Tokens.tokensOf(text), place = Tokens.placeOf(tokens, at);
   if (place < 0) return undefined;
   const strange = strangeAt(text, tokens, place);
   if (strange !== undefined) return { text: replaced(text, strange), names: [] };

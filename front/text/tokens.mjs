@@ -65,104 +65,126 @@ function tokensOf(text) {
   return tokens;
 }
 
-const OPENING = new Set(["(", "["]), CLOSING = new Set([")", "]"]);
+const BRACKETS = new Map([["(", 1], ["[", 1], [")", -1], ["]", -1]]); // with what each does to how many are open
 const OPERATORS = new Set(["+", "-", "*", "/", "mod"]), COMPARISONS = new Set(["<", ">", "=<", ">=", "=:=", "=\\="]);
 
 const touches = (left, right) => left !== undefined && left.end === right?.at;
 
 /** How many brackets are open after these tokens; a closing one takes one off. */
-function depthOf(tokens) {
-  let depth = 0;
-  for (const { text } of tokens) depth += OPENING.has(text) ? 1 : CLOSING.has(text) ? -1 : 0;
-  return depth;
-}
+const depthOf = (tokens) => tokens.reduce((depth, { text }) => depth + (BRACKETS.get(text) ?? 0), 0);
 
-/** The brackets that are open after these tokens, the outermost first. */
-function openBrackets(tokens) {
+/** The brackets that are open after these tokens, or others that have texts, the outermost first. */
+function openBrackets(tokens, textOf = ({ text }) => text) {
   const open = [];
   for (const token of tokens) {
-    if (OPENING.has(token.text)) open.push(token);
-    if (CLOSING.has(token.text)) open.pop();
+    const depth = BRACKETS.get(textOf(token));
+    if (depth > 0) open.push(token);
+    else if (depth < 0) open.pop();
   }
   return open;
 }
 
-/** The place of the first bar, from a place on, that stands outside of all brackets opened there; -1 where there is none. */
+/**
+ * The place of the first bar, from a place on, that stands outside of all brackets opened there and before the next
+ * full stop; -1 where there is none.
+ */
 function barOutside(tokens, start = 0) {
   let depth = 0;
-  for (let place = start; place < tokens.length; place += 1) {
-    const { text } = tokens[place];
-    if (depth === 0 && text === "|") return place;
-    depth += OPENING.has(text) ? 1 : CLOSING.has(text) ? -1 : 0;
+  for (let place = start; place < tokens.length && tokens[place].text !== "."; place += 1) {
+    if (depth === 0 && tokens[place].text === "|") return place;
+    depth += depthOf([tokens[place]]);
   }
   return -1;
 }
 
-/** The tokens of each clause, its full stop included; what stands after the last full stop is a clause of its own. */
-function clausesOf(tokens) {
-  const clauses = [];
-  let clause = [];
-  for (const token of tokens) {
-    if (token.kind === "end") break;
-    clause.push(token);
-    if (token.text !== ".") continue;
-    clauses.push(clause);
-    clause = [];
-  }
-  return clause.length > 0 ? [...clauses, clause] : clauses;
+/** How many brackets stand open around each token; a bracket stands outside of itself. */
+function levelsOf(tokens) {
+  let level = 0;
+  return tokens.map((token) => {
+    const depth = depthOf([token]);
+    level += depth;
+    return depth > 0 ? level - 1 : level;
+  });
 }
 
-/** The first token of the last comment of another language that is opened up to a place; undefined where none is. */
-const commentBefore = (tokens, place) => tokens.slice(0, place + 1).findLast((token, at) =>
-  token.text === "/" && tokens[at + 1]?.text === "*" && touches(token, tokens[at + 1]));
+/** Is each bracket closed that is opened in tokens, and opened that is closed? */
+const isBalanced = (tokens) => depthOf(tokens) === 0 && levelsOf(tokens).every((level) => level >= 0);
+
+/** The tokens around some, up to marks at a level of brackets or a bracket outside: from where to where. */
+function rangeAt(tokens, around, level, marks) {
+  const levels = levelsOf(tokens);
+  const isWithin = (at) => levels[at] > level || (levels[at] === level && !marks.includes(tokens[at].text));
+  let { from, to } = around;
+  while (from > 0 && isWithin(from - 1)) from -= 1;
+  while (to < tokens.length && isWithin(to)) to += 1;
+  return { from, to };
+}
+
+/** The tokens of each clause, its full stop included; what stands after the last full stop is a clause of its own. */
+function clausesOf(tokens) {
+  const clauses = [[]];
+  for (const token of tokens.filter(({ kind }) => kind !== "end")) {
+    clauses.at(-1).push(token);
+    if (token.text === ".") clauses.push([]);
+  }
+  return clauses.filter((clause) => clause.length > 0);
+}
+
+/** The place of the token that begins at a line and a column; -1 where none does. */
+const placeOf = (tokens, at) => tokens.findIndex(({ line, column }) => line === at.line && column === at.column);
+
+/** The first token of a comment of another language that begins up to a place, and does not end before it; or none. */
+function commentAround(text, tokens, place) {
+  const opens = (token, next) => token.text === "/" && next?.text === "*" && touches(token, next);
+  const first = tokens.slice(0, place + 1).findLast((token, at) => opens(token, tokens[at + 1]));
+  return first && !text.slice(first.end + 1, tokens[place].at).includes("*/") ? first : undefined;
+}
 
 /** Does an arrow, `->`, begin at a token, the one at a place of tokens? */
 const isArrow = (token, place, tokens) => token.text === "-" && tokens[place + 1]?.text === ">";
 
-/** How many arguments the call has whose name is the token at a place. */
-function arityAt(tokens, place) {
-  if (tokens[place + 1]?.text !== "(") return 0;
-  let depth = 0, commas = 0;
-  for (const { text } of tokens.slice(place + 1)) {
-    depth += OPENING.has(text) ? 1 : CLOSING.has(text) ? -1 : 0;
-    if (depth === 0) break;
-    if (text === "," && depth === 1) commas += 1;
-  }
-  return commas + 1;
-}
-
 /** The tokens of each clause of a text. */
 const clausesIn = (text) => clausesOf(tokensOf(text));
-
-/** The predicate of the call at a place, as `append/3`. */
-const predicateAt = (tokens, place) => `${tokens[place].text}/${arityAt(tokens, place)}`;
-
-/** The place of the name of the call that ends before a place. */
-function callBefore(tokens, place) {
-  if (tokens[place - 1]?.text !== ")") return place - 1;
-  let at = place - 1;
-  for (let depth = 0; at > 0; at -= 1) {
-    depth += depthOf([tokens[at]]);
-    if (depth === 0) break;
-  }
-  return at - 1;
-}
 
 /** The place of the last token of the call that begins at a place. */
 function endOfCall(tokens, place) {
   if (tokens[place + 1]?.text !== "(") return place;
-  let at = place + 1;
-  for (let depth = 0; at < tokens.length - 1; at += 1) {
+  let at = place + 1, depth = 1;
+  while (depth > 0 && at < tokens.length - 1) {
+    at += 1;
     depth += depthOf([tokens[at]]);
-    if (depth === 0) break;
   }
   return at;
 }
 
-/** The tokens of the call that begins a clause. */
-const headOf = (clause) => clause.slice(0, endOfCall(clause, 0) + 1);
+/** The place of the name of the call that ends before a place. */
+const callBefore = (tokens, place) => tokens.slice(0, place).findLastIndex(({ text }, at) =>
+  text !== ")" && endOfCall(tokens, at) === place - 1);
+
+/** The tokens of the call that begins a clause, or stands at a place. */
+const headOf = (clause, place = 0) => clause.slice(place, endOfCall(clause, place) + 1);
+
+/** The parts of tokens between the commas that stand outside of all brackets. */
+function partsOf(tokens) {
+  const levels = levelsOf(tokens), isEnd = (place) => levels[place] === 0 && tokens[place].text === ",";
+  const commas = [...tokens.keys()].filter(isEnd);
+  return [...commas, tokens.length].map((end, place) => tokens.slice(place === 0 ? 0 : commas[place - 1] + 1, end));
+}
+
+/** The arguments of the call that begins a clause, or stands at a place, each as its tokens. */
+function argumentsOf(clause, place = 0) {
+  const call = headOf(clause, place), isClosed = depthOf(call) === 0;
+  return call.length < 2 ? [] : partsOf(call.slice(2, isClosed ? -1 : undefined));
+}
+
+/** How many arguments the call has whose name is the token at a place. */
+const arityAt = (tokens, place) => argumentsOf(tokens, place).length;
+
+/** The predicate of the call at a place, as `append/3`. */
+const predicateAt = (tokens, place) => `${tokens[place].text}/${arityAt(tokens, place)}`;
 
 export {
-  tokensOf, clausesOf, clausesIn, commentBefore, isArrow, arityAt, predicateAt, headOf, callBefore, endOfCall, depthOf, openBrackets,
-  barOutside, touches, OPERATORS, COMPARISONS,
+  tokensOf, clausesOf, clausesIn, placeOf, commentAround, isArrow, arityAt, argumentsOf, predicateAt, headOf,
+  callBefore, endOfCall, partsOf, levelsOf, rangeAt, isBalanced, depthOf, openBrackets, barOutside, touches,
+  OPERATORS, COMPARISONS,
 };

@@ -5,7 +5,7 @@ import test from "node:test";
 import { fileURLToPath } from "node:url";
 import { Patterns, fits } from "../../front/run/patterns.mjs";
 import * as Reader from "../../front/text/reader.mjs";
-import * as Histories from "../../front/protocol/histories.mjs";
+import * as Replies from "../../front/protocol/replies.mjs";
 import { begin, endAll, played } from "./lib/fronts.mjs";
 
 const BILL = path.join(path.dirname(fileURLToPath(import.meta.url)), "..", "..", "examples", "bill.ghc");
@@ -121,5 +121,5 @@ test("a predicate without patterns meets all its goals", () => {
 
 test("what a history spies", () => {
   const cases = [[["ghc-history 2", "opening 0 1", "entries 0", "spies 2", "a/0", "spies/2", "end 1"], ["a/0", "spies/2"]], [["ghc-history 2", "spies 0", "end 1"], []], [["ghc-history 1", "steps 0", "end 1"], []]];
-  for (const [lines, wanted] of cases) assert.deepStrictEqual(Histories.spiesIn(lines), wanted);
+  for (const [lines, wanted] of cases) assert.deepStrictEqual(Replies.spiesIn(lines), wanted);
 });

@@ -8,7 +8,7 @@ import MISTAKES from "../../front/tests/lib/mistakes.mjs";
 import { scriptOf, PAGE } from "../../front/session/engine_of_page.mjs";
 
 const SCRIPTS = ["../front/session/worker_side.mjs", "page.mjs"]; // what both need stands in the first
-const TEXTS = ["plural", "tokens", "clauses", "habits", "cures", "own_words", "own_goals", "nearest", "reader", "syntax_causes",
+const TEXTS = ["plural", "tokens", "clauses", "habits", "cures", "own_words", "nearest", "reader", "syntax_causes",
   "checker_causes", "causes"];
 
 /** The text of a module as `web/build` put it into the script of a page. */
