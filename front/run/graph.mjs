@@ -68,56 +68,35 @@ class PartedMap {
   }
 }
 
-const MOST_DENSE = 0x400000; // numbers that have a place of their own
+const PIECE = 64; // numbers whose indexes stand side by side
 
-/** The indexes of steps by their numbers: a list of places, and a map for the numbers beyond it. */
+/** The indexes of steps by their numbers, in pieces: numbers far apart take no room between them, and none is copied. */
 class Indexes {
   constructor() {
-    this.places = new Int32Array(1024).fill(NONE);
-    this.beyond = new PartedMap();
+    this.pieces = new Map();
   }
 
-  get(number) {
-    if (number >= MOST_DENSE) return this.beyond.get(number);
-    const index = number < this.places.length ? this.places[number] : NONE;
-    return index === NONE ? undefined : index;
-  }
-
-  has(number) {
-    return this.get(number) !== undefined;
+  /** The index of the step of a number; NONE where there is none. */
+  of(number) {
+    const piece = this.pieces.get(Math.floor(number / PIECE));
+    return piece === undefined ? NONE : piece[number % PIECE];
   }
 
   set(number, index) {
-    if (number >= MOST_DENSE) {
-      this.beyond.set(number, index);
-      return;
-    }
-    if (number >= this.places.length) {
-      const larger = new Int32Array(Math.max(number + 1, this.places.length * 2)).fill(NONE);
-      larger.set(this.places);
-      this.places = larger;
-    }
-    this.places[number] = index;
-  }
-
-  delete(number) {
-    if (number >= MOST_DENSE) this.beyond.delete(number);
-    else if (number < this.places.length) this.places[number] = NONE;
+    const place = Math.floor(number / PIECE);
+    if (!this.pieces.has(place)) this.pieces.set(place, new Int32Array(PIECE).fill(NONE));
+    this.pieces.get(place)[number % PIECE] = index;
   }
 }
 
 /** A few things by their indexes, which are forgotten when they are too many. */
-class Known {
-  constructor() {
-    this.map = new Map();
-  }
-
-  get(index, make) {
-    if (!this.map.has(index)) {
-      if (this.map.size >= MOST_KEPT) this.map.clear();
-      this.map.set(index, make());
-    }
-    return this.map.get(index);
+class Known extends Map {
+  /** The thing of an index, which is made where it is not known. */
+  of(index, make) {
+    if (this.has(index)) return this.get(index);
+    if (this.size >= MOST_KEPT) this.clear();
+    this.set(index, make());
+    return this.get(index);
   }
 }
 
@@ -160,7 +139,8 @@ class RunGraph {
     this.effectBefore = new Numbers(Int32Array);
     this.hows = new Numbers(Uint8Array); // made, read or named, and whether it woke
     this.forget();
-    const accessor = (of) => ({ get: (number) => (this.indexes.has(number) ? of(this.indexes.get(number)) : undefined), has: (number) => this.indexes.has(number) });
+    const has = (number) => this.indexOf(number) !== NONE;
+    const accessor = (of) => ({ get: (number) => (has(number) ? of(this.indexOf(number)) : undefined), has });
     this.byNumber = accessor((index) => this.stepAt(index));
     this.causes = accessor((index) => this.causesAt(index));
     this.effects = accessor((index) => this.effectsAt(index));
@@ -184,23 +164,17 @@ class RunGraph {
   }
 
   indexOf(number) {
-    return this.indexes.has(number) ? this.indexes.get(number) : NONE;
+    return this.indexes.of(number);
   }
 
   stepAt(index) {
     const told = this.told[index];
-    return typeof told === "string" ? this.knownSteps.get(index, () => readRecord(told)) : told;
-  }
-
-  slice(from, to) {
-    const steps = [];
-    for (let index = from; index < Math.min(to, this.count); index++) steps.push(this.stepAt(index));
-    return steps;
+    return typeof told === "string" ? this.knownSteps.of(index, () => readRecord(told)) : told;
   }
 
   /** All steps. It reads each of them: for a run that is not long. */
   get steps() {
-    this.listed = this.listed || this.slice(0, this.count);
+    this.listed = this.listed || this.told.map((told, index) => this.stepAt(index));
     return this.listed;
   }
 
@@ -229,7 +203,7 @@ class RunGraph {
   }
 
   consumerAt(maker, place) {
-    if (maker === 0) return this.queryConsumers.has(place) ? this.queryConsumers.get(place) : NONE;
+    if (maker === 0) return this.queryConsumers.get(place) ?? NONE;
     const at = this.madeAt(maker, place);
     return at === NONE ? undefined : this.consumers.at(at);
   }
@@ -273,10 +247,8 @@ class RunGraph {
 
   /** Adds that a step depends on another one; of several ways the first counts: made, then read, then named. */
   addCause(causes, from, how) {
-    if (from === undefined || !this.indexes.has(from)) return;
-    const index = this.indexes.get(from), cause = causes.find((one) => one.index === index);
-    if (cause === undefined) causes.push({ index, how });
-    else cause.how = Math.min(cause.how & WAYS, how & WAYS) | ((cause.how | how) & WOKE);
+    const index = this.indexOf(from);
+    if (index !== NONE && causes.every((cause) => cause.index !== index)) causes.push({ index, how });
   }
 
   /** On what a step depends, as another graph knows it: the numbers of causes, and how. */
@@ -292,7 +264,7 @@ class RunGraph {
   }
 
   causesAt(index) {
-    return this.knownCauses.get(index, () => {
+    return this.knownCauses.of(index, () => {
       const step = this.stepAt(index), causes = [];
       for (let edge = this.firstCause.at(index); edge < this.causeEnd(index); edge++) {
         const from = this.numbers.at(this.from.at(edge)), how = this.hows.at(edge);
@@ -397,7 +369,7 @@ class RunGraph {
     const step = this.stepAt(index);
     for (const binding of step.binds) this.binders.delete(keyOfVariable(binding.variable));
     this.setConsumer(step, NONE);
-    this.indexes.delete(step.number);
+    this.indexes.set(step.number, NONE);
   }
 
   moveEdge(at, edge, from, to) {
@@ -429,8 +401,8 @@ class RunGraph {
     const index = this.count - 1, first = this.firstCause.at(index);
     for (let edge = this.from.length - 1; edge >= first; edge--) this.lastEffect.all[this.from.at(edge)] = this.effectBefore.at(edge);
     this.forgetStep(index);
-    this.knownSteps.map.delete(index);
-    this.knownCauses.map.delete(index);
+    this.knownSteps.delete(index);
+    this.knownCauses.delete(index);
     this.shorten(index, this.firstMade.at(index), first);
   }
 
@@ -456,7 +428,7 @@ function markWoke(step, causes) {
 function markImplied(graph) {
   const words = (graph.count >> 5) + 1, before = [];
   for (let index = 0; index < graph.count; index++) {
-    const all = new Uint32Array(words), edges = graph.causesAt(index), at = (edge) => graph.indexes.get(edge.from);
+    const all = new Uint32Array(words), edges = graph.causesAt(index), at = (edge) => graph.indexOf(edge.from);
     for (const edge of edges) before[at(edge)].forEach((word, part) => { all[part] |= word; });
     for (const edge of edges) edge.implied = ((all[at(edge) >> 5] >>> (at(edge) & 31)) & 1) === 1;
     for (const edge of edges) all[at(edge) >> 5] |= 1 << (at(edge) & 31);
@@ -471,10 +443,12 @@ function graphOf(steps) {
   return graph;
 }
 
-/** The graph of some steps of another graph alone, from one index up to another. */
-function partOf(whole, from, to) {
+/** The graph of some steps of another graph alone, from one index up to another: all of them, or those that are wanted. */
+function partOf(whole, from, to, isWanted = (index) => true) {
   const graph = new RunGraph();
-  for (let index = from; index < Math.min(to, whole.count); index++) graph.push(whole.stepAt(index), whole.waysAt(index));
+  for (let index = from; index < Math.min(to, whole.count); index++) {
+    if (isWanted(index)) graph.push(whole.stepAt(index), whole.waysAt(index));
+  }
   return graph;
 }
 
@@ -534,7 +508,4 @@ function tidyOrder(graph, laneOf) {
   return order;
 }
 
-export {
-  graphOf, partOf, MADE, NAMED, tidyOrder, RunGraph, causesReached, dependents, effectsReached, keyOfGoal, PartedMap,
-  NONE,
-};
+export { graphOf, partOf, tidyOrder, RunGraph, causesReached, dependents, effectsReached, keyOfGoal, PartedMap, NONE };
