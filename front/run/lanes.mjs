@@ -6,7 +6,7 @@ import { NO_WAITS } from "./arcs.mjs";
 
 const between = (least, value, most) => Math.max(least, Math.min(value, most));
 const MOST_CLEAR_ROWS = 5;
-const MANY = 1024; // steps between two places where one may pause
+const PART = 64, MANY = 1024; // what is put in, and what is moved, between two places where one may pause
 const MOST_ARC_COLUMNS = 6; // columns of arcs for which room is kept
 const NARROW = 600; // the room below which names are short, and stand above their lanes where the picture is not made to fit
 const LEAST_LEFT = 22; // points beside the first step where names stand above
@@ -20,12 +20,12 @@ const keyOfName = (name) => Graph.keyOfGoal(...Printed.nameParts(name));
 
 const named = new WeakMap();
 
-/** Finds goals by their names, once for each list of goals; yields after each goal. */
+/** Finds goals by their names, once for each list of goals; yields now and then. */
 function* gatherNames(goals) {
   const byKey = new Graph.PartedMap();
-  for (const goal of goals) {
+  for (const [at, goal] of goals.entries()) {
+    if (at % PART === 0) yield at;
     byKey.set(keyOfName(goal.name), goal);
-    yield 0;
   }
   named.set(goals, byKey);
 }
@@ -41,7 +41,6 @@ class GoalKinds {
   constructor(run) {
     this.run = run;
     this.there = new Graph.PartedMap();
-    this.consumed = new Map();
   }
 
   /** The kind of a goal that is there, by its key. */
@@ -54,9 +53,8 @@ class GoalKinds {
 
   /** The kind of the goal that a step consumed. */
   ofConsumer(index) {
-    const { graph, clauses } = this.run, kind = graph.kinds.at(index), clause = graph.clauses.at(index), key = kind === 0 ? clause : -kind;
-    if (!this.consumed.has(key)) this.consumed.set(key, { sort: SORTS[kind], predicate: kind === 0 ? (clauses[clause - 1] || { predicate: "?" }).predicate : null });
-    return this.consumed.get(key);
+    const { graph, clauses } = this.run, kind = graph.kinds.at(index);
+    return { sort: SORTS[kind], predicate: kind === 0 ? clauses[graph.clauses.at(index) - 1]?.predicate ?? "?" : null };
   }
 
   at(maker, place) {
@@ -100,7 +98,7 @@ class Ring {
 }
 
 function notePredicate(lane, kind, index) {
-  if (!kind || !kind.predicate || lane.predicates.includes(kind.predicate)) return;
+  if (!kind?.predicate || lane.predicates.includes(kind.predicate)) return;
   lane.predicates.push(kind.predicate);
   lane.since.push(index);
 }
@@ -129,13 +127,26 @@ class RunLanes {
 
   /** The lane of a goal that is there or was; undefined where nothing is known of it. */
   ofGoal(graph, name) {
-    const [maker, place] = Printed.nameParts(name);
+    return this.at(graph, ...Printed.nameParts(name));
+  }
+
+  at(graph, maker, place) {
     return maker === 0 ? this.ofQuery.get(place) : this.ofMade[graph.madeAt(maker, place)];
+  }
+
+  /** Puts what a run has more of into lanes, the query's goals first of all, and numbers them; yields now and then. */
+  *follow(run) {
+    const { graph } = run, kinds = new GoalKinds(run);
+    if (this.lanes.length === 0) this.beginQuery(queryPlaces(run));
+    while (this.ofStep.length < graph.count) {
+      this.add(graph, kinds);
+      if (this.ofStep.length % PART === 0) yield graph.count;
+    }
+    yield* this.number();
   }
 
   /** The lanes of the query's goals, from the top. */
   beginQuery(places) {
-    if (this.lanes.length > 0) return;
     for (const place of places) this.ofQuery.set(place, this.begin(`0.${place}`, this.ring, -1, null, null));
   }
 
@@ -214,12 +225,12 @@ class RunLanes {
 
   /** Gives the next step its lane, and the goals that it made theirs: its own process goes on, small goals stay with it, other calls begin lanes beside it. */
   add(graph, kinds) {
-    const index = this.ofStep.length, maker = graph.makers.at(index);
-    const known = maker === Graph.NONE ? undefined : maker === 0 ? this.ofQuery.get(graph.places.at(index)) : this.ofMade[graph.madeAt(maker, graph.places.at(index))];
-    const lane = known || this.begin(maker === Graph.NONE ? String(graph.numbers.at(index)) : `${maker}.${graph.places.at(index)}`, this.ring, index, null, maker === Graph.NONE ? index : null);
+    const index = this.ofStep.length, maker = graph.makers.at(index), place = graph.places.at(index);
+    const asked = maker === Graph.NONE ? index : null, known = this.at(graph, maker, place);
+    const lane = known || this.begin(keyOf(graph.stepAt(index)), this.ring, index, null, asked);
     this.ofStep.push(lane);
     lane.count += 1;
-    const own = maker === Graph.NONE ? undefined : kinds.ofConsumer(index);
+    const own = asked === null ? kinds.ofConsumer(index) : undefined;
     notePredicate(lane, own, index);
     this.placeMade(graph, kinds, index, lane, own);
   }
@@ -283,10 +294,8 @@ function queryPlaces(run) {
 
 /** The lanes of a run that was not put into lanes yet. */
 function runLanes(run) {
-  const lanes = new RunLanes(), kinds = new GoalKinds(run);
-  lanes.beginQuery(queryPlaces(run));
-  while (lanes.ofStep.length < run.graph.count) lanes.add(run.graph, kinds);
-  finish(lanes.number());
+  const lanes = new RunLanes();
+  finish(lanes.follow(run));
   return lanes;
 }
 
@@ -311,13 +320,16 @@ function foldsOf(whole, folded) {
 }
 
 /**
- * The lanes of some steps of a run, from one index up to another, each with its steps and the goals that are there, of all lanes of the
- * run, which are numbered. `foldOf` gives the lane that a lane is folded into, or null.
+ * The lanes of some steps of a run, from one index up to another, each with its steps and the goals that are there, of
+ * all lanes of the run, which are numbered. `foldOf` gives the lane that a lane is folded into, or null; of lanes that
+ * are not shown nothing is there.
  * @param {(lane: any) => any} foldOf
+ * @param {(lane: any) => boolean} isShown
  */
-function lanesIn(run, whole, from, to, goals, foldOf = () => null) {
+function lanesIn(run, whole, from, to, goals, foldOf = () => null, isShown = () => true) {
   const { graph } = run, kinds = new GoalKinds(run), parts = new Map(), laneOf = new Map();
-  const kept = (index) => (index !== null && index >= from && index < to ? graph.stepAt(index) : null);
+  const isIn = (index) => index !== null && index >= from && index < to && isShown(whole.ofStep[index]);
+  const kept = (index) => (isIn(index) ? graph.stepAt(index) : null);
   const partOf = (own) => {
     const into = foldOf(own), lane = into || own;
     if (!parts.has(lane)) {
@@ -327,19 +339,20 @@ function lanesIn(run, whole, from, to, goals, foldOf = () => null) {
     }
     return parts.get(lane);
   };
-  if (from === 0) for (const lane of whole.ofQuery.values()) partOf(lane);
+  if (from === 0) for (const lane of whole.ofQuery.values()) if (isShown(lane)) partOf(lane);
   for (let index = from; index < to; index++) {
+    if (!isIn(index)) continue;
     const part = partOf(whole.ofStep[index]), step = graph.stepAt(index);
     part.steps.push(step);
     laneOf.set(keyOf(step), part);
   }
   for (const goal of goals) {
     const lane = whole.ofGoal(graph, goal.name), kind = kinds.get(goal.name);
-    if (lane === undefined) continue;
+    if (lane === undefined || !isShown(lane)) continue;
     const part = partOf(lane);
     part.goals.push(goal);
     laneOf.set(goal.name, part);
-    if (kind && kind.predicate && !part.predicates.includes(kind.predicate)) part.predicates.push(kind.predicate);
+    if (kind?.predicate && !part.predicates.includes(kind.predicate)) part.predicates.push(kind.predicate);
   }
   return { lanes: [...parts.values()].sort((one, other) => one.index - other.index), laneOf, kinds };
 }
@@ -465,16 +478,15 @@ const arcWidth = (run, edges) => 10 + Math.max(0, ...edges.map((edge) => shownIn
 const MOST_TAKEN = 3; // steps that are shown beside their goal
 const taken = new WeakMap(); // by lists of steps that were taken back: those of each goal that is there
 
-/** Finds the steps that were taken back from each of some goals; yields after each step. */
+/** Finds the steps that were taken back from each of some goals; yields now and then. */
 function* gatherTaken(shelf, goals) {
   const there = goalsByKey(goals), byGoal = new Graph.PartedMap();
-  for (const step of shelf) {
+  for (const [at, step] of shelf.entries()) {
+    if (at % PART === 0) yield at;
     const key = step.goal === null ? null : keyOfName(step.goal);
-    if (key !== null && there.has(key)) {
-      if (!byGoal.has(key)) byGoal.set(key, []);
-      byGoal.get(key).push(step);
-    }
-    yield 0;
+    if (key === null || !there.has(key)) continue;
+    if (!byGoal.has(key)) byGoal.set(key, []);
+    byGoal.get(key).push(step);
   }
   taken.set(shelf, byGoal);
 }
