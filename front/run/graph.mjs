@@ -138,7 +138,9 @@ class RunGraph {
     this.to = new Numbers(Int32Array);
     this.effectBefore = new Numbers(Int32Array);
     this.hows = new Numbers(Uint8Array); // made, read or named, and whether it woke
-    this.forget();
+    this.knownSteps = new Known();
+    this.knownCauses = new Known();
+    this.changed();
     const has = (number) => this.indexOf(number) !== NONE;
     const accessor = (of) => ({ get: (number) => (has(number) ? of(this.indexOf(number)) : undefined), has });
     this.byNumber = accessor((index) => this.stepAt(index));
@@ -146,12 +148,6 @@ class RunGraph {
     this.effects = accessor((index) => this.effectsAt(index));
     this.depth = accessor((index) => this.depths.at(index));
     this.store = { has: (variable) => this.binderOf(variable) !== undefined, get: (variable) => this.termOf(variable) };
-  }
-
-  forget() {
-    this.knownSteps = new Known();
-    this.knownCauses = new Known();
-    this.listed = null;
   }
 
   get count() {
@@ -226,14 +222,10 @@ class RunGraph {
 
   setConsumer(step, index) {
     if (step.goal === null) return;
-    const [maker, place] = nameParts(step.goal);
-    if (maker === 0) {
-      if (index === NONE) this.queryConsumers.delete(place);
-      else this.queryConsumers.set(place, index);
-    } else {
-      const at = this.madeAt(maker, place);
-      if (at !== NONE) this.consumers.all[at] = index;
-    }
+    const [maker, place] = nameParts(step.goal), at = this.madeAt(maker, place);
+    if (at !== NONE) this.consumers.all[at] = index;
+    if (maker === 0 && index === NONE) this.queryConsumers.delete(place);
+    else if (maker === 0) this.queryConsumers.set(place, index);
   }
 
   /** On what a step depends, found in the record: who made its goal, who bound what it read, who made what it names, in recorded order. */
@@ -332,7 +324,8 @@ class RunGraph {
       if (index % MOVED === 0) yield index;
       if (to[index] === NONE) this.forgetStep(index);
     }
-    this.forget();
+    this.knownSteps.clear();
+    this.knownCauses.clear();
     const end = this.count, perStep = [this.numbers, this.kinds, this.clauses, this.makers, this.places, this.depths];
     let step = first, made = this.firstMade.at(first), edge = this.firstCause.at(first);
     for (let index = first; index < end; index++) {
@@ -345,7 +338,11 @@ class RunGraph {
       this.firstMade.all[step] = made;
       for (let at = madeFrom; at < madeTo; at++) this.consumers.all[made++] = this.consumers.at(at);
       this.firstCause.all[step] = edge;
-      for (let at = edgeFrom; at < edgeTo; at++) this.moveEdge(at, edge++, to[this.from.at(at)], step);
+      for (let at = edgeFrom; at < edgeTo; at++, edge++) {
+        this.from.all[edge] = to[this.from.at(at)];
+        this.to.all[edge] = step;
+        this.hows.all[edge] = this.hows.at(at);
+      }
       this.deepest.all[step] = Math.max(this.depths.at(step), step > 0 ? this.deepest.at(step - 1) : 0);
       step += 1;
     }
@@ -370,12 +367,6 @@ class RunGraph {
     for (const binding of step.binds) this.binders.delete(keyOfVariable(binding.variable));
     this.setConsumer(step, NONE);
     this.indexes.set(step.number, NONE);
-  }
-
-  moveEdge(at, edge, from, to) {
-    this.from.all[edge] = from;
-    this.to.all[edge] = to;
-    this.hows.all[edge] = this.hows.at(at);
   }
 
   shorten(steps, made, edges) {

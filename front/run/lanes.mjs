@@ -65,10 +65,6 @@ class GoalKinds {
   get(name) {
     return name === null ? undefined : this.at(...Printed.nameParts(name));
   }
-
-  has(name) {
-    return this.get(name) !== undefined;
-  }
 }
 
 const isSmall = (kind) => kind !== undefined && (kind.sort === "unification" || kind.sort === "assignment");
@@ -601,8 +597,7 @@ function shrink(view, options) {
  */
 function layout(run, options) {
   const { lanes, laneOf, kinds } = run.placed || lanesOf(run);
-  const place = new Map(run.graph.steps.map((step, index) => [step.number, index]));
-  const columnOf = options.by === "depth" ? (step) => run.graph.depth.get(step.number) : (step) => place.get(step.number);
+  const columnOf = ({ number }) => (options.by === "depth" ? run.graph.depth.get(number) : run.graph.indexOf(number));
   const columns = run.graph.steps.reduce((most, step) => Math.max(most, columnOf(step) + 1), options.leastColumns || 0);
   const rows = new Map(), store = run.store || run.graph.store;
   const makerOf = new Map(run.graph.steps.flatMap((step) => step.makes.map((goal) => [goal, step])));
