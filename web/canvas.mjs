@@ -162,10 +162,7 @@ function forget() {
 }
 
 /** The clause by which a chosen step went. */
-function clauseOf(chosen) {
-  const step = chosen && chosen.step !== undefined ? State.run.graph.byNumber.get(chosen.step) : undefined;
-  return (step && step.clause && State.run.clauses[step.clause - 1]) || null;
-}
+const clauseOf = (chosen) => State.run.clauses[State.run.graph.byNumber.get(chosen?.step)?.clause - 1] ?? null;
 
 function choose(chosen) {
   Shown.chosen = chosen;

@@ -225,9 +225,7 @@ function tellStep(run, step) {
   if (run.texts.has(step.goal)) lines.push(Terms.cut(run.texts.get(step.goal), 300));
   if (step.clause && run.clauses[step.clause - 1]) lines.push(run.clauses[step.clause - 1].text);
   for (const binding of step.binds) lines.push(`binds ${binding.variable} = ${Terms.cut(binding.term, 200)}`);
-  if (step.reads.length > 0) lines.push(`reads ${step.reads.join(", ")}`);
-  if (step.names.length > 0) lines.push(`names ${step.names.join(", ")}`);
-  if (step.makes.length > 0) lines.push(`makes ${step.makes.join(", ")}`);
+  for (const key of ["reads", "names", "makes"]) if (step[key].length > 0) lines.push(`${key} ${step[key].join(", ")}`);
   const lost = WhyWords.lostBy(run).get(step.number);
   if (lost !== undefined) lines.push(`lets ${lost.join(", ")} go, which nobody binds`);
   return lines.join("\n");
