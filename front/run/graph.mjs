@@ -163,6 +163,7 @@ class RunGraph {
     return this.indexes.of(number);
   }
 
+  /** The step at a place; undefined where there is none. */
   stepAt(index) {
     const told = this.told[index];
     return typeof told === "string" ? this.knownSteps.of(index, () => readRecord(told)) : told;
@@ -243,11 +244,9 @@ class RunGraph {
     if (index !== NONE && causes.every((cause) => cause.index !== index)) causes.push({ index, how });
   }
 
-  /** On what a step depends, as another graph knows it: the numbers of causes, and how. */
-  toldCauses({ from, hows }) {
-    const causes = [];
-    from.forEach((number, at) => this.addCause(causes, number, hows[at]));
-    return inOrder(causes);
+  /** On what a step depends, as another graph knows it, of what is here. */
+  toldCauses(ways) {
+    return ways.map(({ from, how }) => ({ index: this.indexOf(from), how })).filter(({ index }) => index !== NONE);
   }
 
   /** The variables by which a step depends on another one: those that it read and that one bound, and those that it names and that one made. */
@@ -257,12 +256,11 @@ class RunGraph {
 
   causesAt(index) {
     return this.knownCauses.of(index, () => {
-      const step = this.stepAt(index), causes = [];
-      for (let edge = this.firstCause.at(index); edge < this.causeEnd(index); edge++) {
-        const from = this.numbers.at(this.from.at(edge)), how = this.hows.at(edge);
-        causes.push({ from, to: step.number, kind: WORDS[how & WAYS], variables: this.variablesBetween(step, from), woke: (how & WOKE) !== 0, implied: false });
-      }
-      return causes;
+      const step = this.stepAt(index), to = step.number;
+      return this.waysAt(index).map(({ from, how }) => {
+        const kind = WORDS[how & WAYS], variables = this.variablesBetween(step, from);
+        return { from, to, kind, variables, woke: (how & WOKE) !== 0, implied: false };
+      });
     });
   }
 
@@ -274,7 +272,7 @@ class RunGraph {
     return effects.reverse();
   }
 
-  /** Puts a step, or the line that tells it, at the end. `causes` has the numbers and ways of its causes, where another graph knows them. */
+  /** Puts a step, or the line that tells it, at the end. `causes` are the ways that another graph knows. */
   push(told, causes = null) {
     const step = typeof told === "string" ? readRecord(told) : told;
     if (step === null) return;
@@ -308,11 +306,13 @@ class RunGraph {
     this.hows.push(how);
   }
 
-  /** The numbers of a step's causes, and how it depends on each. */
+  /** The numbers of a step's causes, each with how it depends on that. */
   waysAt(index) {
-    const first = this.firstCause.at(index), end = this.causeEnd(index), from = [];
-    for (let edge = first; edge < end; edge++) from.push(this.numbers.at(this.from.at(edge)));
-    return { from, hows: this.hows.all.slice(first, end) };
+    const ways = [];
+    for (let edge = this.firstCause.at(index); edge < this.causeEnd(index); edge++) {
+      ways.push({ from: this.numbers.at(this.from.at(edge)), how: this.hows.at(edge) });
+    }
+    return ways;
   }
 
   /**

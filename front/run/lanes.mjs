@@ -100,8 +100,8 @@ function notePredicate(lane, kind, index) {
 }
 
 /**
- * The lanes of a run, which grow and shrink with its graph: a step that comes or goes at the end costs what that step alone costs. A
- * lane begins where a step (`parent`, by its index) made its first goal, or with an ask (`asked`), which nothing made, or at the left.
+ * The lanes of a run, which grow and shrink with its graph: a step that comes or goes at the end costs what that step
+ * alone costs. A lane begins with the step at `bornAt`, which made its first goal or is an ask; or at the left.
  */
 class RunLanes {
   constructor() {
@@ -113,8 +113,8 @@ class RunLanes {
     this.isNumbered = true; // whether each lane has its index from the top
   }
 
-  begin(name, before, index, parent, asked) {
-    const lane = { name, parent, asked, bornAt: index, count: 0, predicates: [], since: [], index: 0 };
+  begin(name, before, bornAt, { isMade = false, isAsked = false } = {}) {
+    const lane = { name, bornAt, isMade, isAsked, count: 0, predicates: [], since: [], index: 0 };
     this.lanes.push(lane);
     this.ring.put(lane, before);
     this.isNumbered = false;
@@ -143,7 +143,7 @@ class RunLanes {
 
   /** The lanes of the query's goals, from the top. */
   beginQuery(places) {
-    for (const place of places) this.ofQuery.set(place, this.begin(`0.${place}`, this.ring, -1, null, null));
+    for (const place of places) this.ofQuery.set(place, this.begin(`0.${place}`, this.ring, -1));
   }
 
   /** Takes away what came with the steps from an index on; yields now and then. */
@@ -222,11 +222,11 @@ class RunLanes {
   /** Gives the next step its lane, and the goals that it made theirs: its own process goes on, small goals stay with it, other calls begin lanes beside it. */
   add(graph, kinds) {
     const index = this.ofStep.length, maker = graph.makers.at(index), place = graph.places.at(index);
-    const asked = maker === Graph.NONE ? index : null, known = this.at(graph, maker, place);
-    const lane = known || this.begin(keyOf(graph.stepAt(index)), this.ring, index, null, asked);
+    const isAsked = maker === Graph.NONE, known = this.at(graph, maker, place);
+    const lane = known || this.begin(keyOf(graph.stepAt(index)), this.ring, index, { isAsked });
     this.ofStep.push(lane);
     lane.count += 1;
-    const own = asked === null ? kinds.ofConsumer(index) : undefined;
+    const own = isAsked ? undefined : kinds.ofConsumer(index);
     notePredicate(lane, own, index);
     this.placeMade(graph, kinds, index, lane, own);
   }
@@ -240,7 +240,8 @@ class RunLanes {
         this.ofMade.push(lane);
         return;
       }
-      const before = goesOn >= 0 && place < goesOn ? lane : last.next, child = this.begin(`${number}.${place + 1}`, before, index, index, null);
+      const before = goesOn >= 0 && place < goesOn ? lane : last.next;
+      const child = this.begin(`${number}.${place + 1}`, before, index, { isMade: true });
       this.ofMade.push(child);
       if (before !== lane) last = child;
     });
@@ -258,13 +259,9 @@ class RunLanes {
   }
 }
 
-const movedIn = (to, index) => (index === null || index < 0 ? index : to[index]);
-
 /** Puts the places where steps stand now into a lane. */
 function moveUp(lane, to) {
-  lane.bornAt = movedIn(to, lane.bornAt);
-  lane.parent = movedIn(to, lane.parent);
-  lane.asked = movedIn(to, lane.asked);
+  if (lane.bornAt >= 0) lane.bornAt = to[lane.bornAt];
   for (let at = 0; at < lane.since.length; at++) lane.since[at] = to[lane.since[at]];
 }
 
@@ -298,7 +295,7 @@ function runLanes(run) {
 /** Which lane a lane is folded into, with all that came of it: the highest of its ancestors that is to be folded, by name; null where none is. */
 function foldsOf(whole, folded) {
   const known = new Map();
-  const parentOf = (lane) => (lane.parent === null ? null : whole.ofStep[lane.parent]);
+  const parentOf = (lane) => (lane.isMade ? whole.ofStep[lane.bornAt] : null);
   return (lane) => {
     const way = [];
     let at = lane;
@@ -324,13 +321,13 @@ function foldsOf(whole, folded) {
  */
 function lanesIn(run, whole, from, to, goals, foldOf = () => null, isShown = () => true) {
   const { graph } = run, kinds = new GoalKinds(run), parts = new Map(), laneOf = new Map();
-  const isIn = (index) => index !== null && index >= from && index < to && isShown(whole.ofStep[index]);
-  const kept = (index) => (isIn(index) ? graph.stepAt(index) : null);
+  const isIn = (index) => index >= from && index < to && isShown(whole.ofStep[index]);
   const partOf = (own) => {
     const into = foldOf(own), lane = into || own;
     if (!parts.has(lane)) {
       const predicates = lane.predicates.filter((none, at) => lane.since[at] < graph.count);
-      const fresh = { isFolded: into !== null, parent: kept(lane.parent), asked: kept(lane.asked), predicates };
+      const isFolded = into !== null, born = isIn(lane.bornAt) ? graph.stepAt(lane.bornAt) : null;
+      const fresh = { isFolded, parent: lane.isMade ? born : null, asked: lane.isAsked ? born : null, predicates };
       parts.set(lane, { ...lane, ...fresh, steps: [], goals: [] });
     }
     return parts.get(lane);
