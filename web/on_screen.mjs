@@ -47,10 +47,8 @@ function goalsAfter(steps) {
 /** The dependences of the steps that are shown on steps that are not. */
 function incoming(from, to) {
   const { graph } = run(), edges = [];
-  for (let index = from; index < to; index++) {
-    if (graph.causeEnd(index) === graph.firstCause.at(index)) continue;
-    for (const edge of graph.causesAt(index)) if (graph.indexOf(edge.from) < from) edges.push(edge);
-  }
+  const isBefore = (edge) => graph.indexOf(edge.from) < from;
+  for (let index = from; index < to; index++) edges.push(...graph.causesAt(index).filter(isBefore));
   return edges;
 }
 
@@ -118,10 +116,7 @@ function laneOf(chosen) {
 }
 
 /** The step that took a goal; undefined where none did. */
-function takerOf(goal) {
-  const { graph } = State.run, index = graph.consumerOf(goal);
-  return index === undefined || index === Graph.NONE ? undefined : graph.stepAt(index);
-}
+const takerOf = (goal) => State.run.graph.stepAt(State.run.graph.consumerOf(goal));
 
 /** What a roll of a step takes back, with the step itself: how many, and whether a number is one of them. */
 function goneWith(number) {
