@@ -217,6 +217,11 @@ class RunGraph {
     return index + 1 < this.count ? this.firstMade.at(index + 1) : this.consumers.length;
   }
 
+  /** Adds to a list the places of the steps that took the goals which a step made; NONE where no step did. */
+  addTakers(index, list) {
+    for (let made = this.firstMade.at(index); made < this.madeEnd(index); made++) list.push(this.consumers.at(made));
+  }
+
   causeEnd(index) {
     return index + 1 < this.count ? this.firstCause.at(index + 1) : this.from.length;
   }
