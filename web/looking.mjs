@@ -126,7 +126,6 @@ function follow(what) {
 }
 
 function fold(name, isFolded) {
-  OnScreen.folded = new Set(OnScreen.folded);
   OnScreen.folded[isFolded ? "add" : "delete"](name);
   Deeds.choose(null);
   Deeds.draw();

@@ -1,6 +1,6 @@
 // Pauses in long work, in which the browser can draw and take clicks.
 
-/** A pause in which the browser can draw and take clicks. */
+/** One pause, which ends when the browser has had its turn. */
 const pause = () => new Promise((done) => {
   const { port1, port2 } = new MessageChannel();
   port1.onmessage = () => { port1.close(); done(); };

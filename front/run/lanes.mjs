@@ -153,12 +153,12 @@ class RunLanes {
       if (this.ofStep.length % MANY === 0) yield this.ofStep.length;
       const lane = this.ofStep.pop();
       lane.count -= 1;
-      while (lane.since.length > 0 && lane.since[lane.since.length - 1] >= count) {
+      while (lane.since.at(-1) >= count) {
         lane.since.pop();
         lane.predicates.pop();
       }
     }
-    while (this.lanes.length > 0 && this.lanes[this.lanes.length - 1].bornAt >= count) {
+    while (this.lanes.at(-1)?.bornAt >= count) {
       if (this.lanes.length % MANY === 0) yield this.lanes.length;
       this.ring.takeOut(this.lanes.pop());
       this.isNumbered = false;
