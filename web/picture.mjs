@@ -200,8 +200,9 @@ function pathOf(curve) {
 function tellArrow(run, { from, to, kind, variables, woke }) {
   if (kind === "named") return `step ${to} named ${variables.join(", ")}, which step ${from} made`;
   const bound = run.graph.byNumber.get(from).binds.filter(({ variable }) => variables.includes(variable));
-  const woken = woke ? ", and was woken by it" : "", read = variables.join(", ");
-  return [`step ${to} read ${read}, which step ${from} bound${woken}`, ...bound.map(({ variable, term }) => `${variable} = ${Terms.cut(term, 200)}`)].join("\n");
+  const woken = woke ? ", and was woken by it" : "";
+  const values = bound.map(({ variable, term }) => `${variable} = ${Terms.cut(term, 200)}`);
+  return [`step ${to} read ${variables.join(", ")}, which step ${from} bound${woken}`, ...values].join("\n");
 }
 
 /** An arrow to a step that read what another bound, or that named what another made. */

@@ -70,7 +70,7 @@ class PartedMap {
 
 const PIECE = 64; // numbers whose indexes stand side by side
 
-/** The indexes of steps by their numbers, in pieces: numbers far apart take no room between them, and none is copied. */
+/** The indexes of steps by their numbers, in pieces: numbers far apart take no room between them. */
 class Indexes {
   constructor() {
     this.pieces = new Map();
@@ -439,7 +439,7 @@ function graphOf(steps) {
   return graph;
 }
 
-/** The graph of some steps of another graph alone, from one index up to another: all of them, or those that are wanted. */
+/** The graph of some steps of another graph alone, from one index up to another: all, or those that are wanted. */
 function partOf(whole, from, to, isWanted = (index) => true) {
   const graph = new RunGraph();
   for (let index = from; index < Math.min(to, whole.count); index++) {
