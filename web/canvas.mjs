@@ -18,7 +18,12 @@ const TICK_LETTER = 3.2; // points, half the width of a letter of the axis
 const OWN_SCROLL = 250; // milliseconds in which the browser tells of a scrolling that the page did
 let scrolledAt = -OWN_SCROLL;
 
-const marks = () => find("canvas").querySelectorAll(".mark");
+/** Gives what a selector finds in the picture the classes that it is to have, by its step's number and all its data. */
+function mark(selector, classes) {
+  for (const { classList, dataset } of find("canvas").querySelectorAll(selector)) {
+    for (const [name, has] of Object.entries(classes)) classList.toggle(name, has(Number(dataset.step), dataset));
+  }
+}
 
 /**
  * The height into which a picture is to fit, as one of some lanes alone is; undefined where it is as high as it is. Two
@@ -50,22 +55,14 @@ function draw() {
   if (Shown.chosen || Shown.slice || Shown.asked || canvas.way.size > 0 || OnScreen.hits.length > 0) showChosen();
 }
 
-const isGoalThere = (name) => OnScreen.run().goals.some((goal) => goal.name === name);
-const isThere = ({ step, goal }) => (step !== undefined ? State.run.graph.byNumber.has(step) : isGoalThere(goal));
+const isGoal = (goal) => OnScreen.run().goals.some(({ name }) => name === goal);
+const isThere = ({ step, goal }) => (step !== undefined ? State.run.graph.byNumber.has(step) : isGoal(goal));
 const placeOf = (chosen) => (chosen.step !== undefined ? canvas.view.marks.get(chosen.step) : canvas.view.goals.get(chosen.goal));
 
 /** The element of a step or goal in the picture. */
 function elementOf(chosen) {
   if (!chosen) return null;
   return find("canvas").querySelector(chosen.step !== undefined ? `[data-step="${chosen.step}"]` : `[data-goal="${chosen.goal}"]`);
-}
-
-function markEdges(causes, effects) {
-  for (const edge of find("canvas").querySelectorAll(".edge,.fork")) {
-    const from = Number(edge.dataset.from), to = edge.dataset.to === undefined ? NaN : Number(edge.dataset.to);
-    const isLit = (causes.has(from) && causes.has(to)) || (effects.has(from) && effects.has(to));
-    edge.classList.toggle("cause", isLit);
-  }
 }
 
 /** Lights up the chosen step with all its causes and effects, or a slice; all else is faint. */
@@ -77,18 +74,18 @@ function showChosen() {
   const lit = reach ? reach.causes : Shown.slice, causes = lit ? amongst(lit) : new Set(), effects = reach ? amongst(reach.effects) : new Set();
   const hits = OnScreen.hitFlags();
   svg.classList.toggle("looking", Boolean(lit));
-  for (const mark of marks()) {
-    const number = Number(mark.dataset.step);
-    mark.classList.toggle("chosen", number === step || number === Shown.visited);
-    mark.classList.toggle("cause", causes.has(number) && number !== step);
-    mark.classList.toggle("effect", effects.has(number) && number !== step);
-    mark.classList.toggle("way", canvas.way.has(number));
-    mark.classList.toggle("or", canvas.others.has(number));
-    mark.classList.toggle("hit", hits[graph.indexOf(number)] === 1);
-    mark.classList.remove("going");
-  }
-  for (const goal of svg.querySelectorAll(".goal")) goal.classList.toggle("chosen", Boolean(chosen) && goal.dataset.goal === chosen.goal);
-  markEdges(causes, effects);
+  mark(".mark", {
+    chosen: (number) => number === step || number === Shown.visited,
+    cause: (number) => causes.has(number) && number !== step,
+    effect: (number) => effects.has(number) && number !== step,
+    way: (number) => canvas.way.has(number),
+    or: (number) => canvas.others.has(number),
+    hit: (number) => hits[graph.indexOf(number)] === 1,
+    going: () => false,
+  });
+  mark(".goal", { chosen: (none, { goal }) => goal === chosen?.goal });
+  const isLit = ({ from, to }) => [causes, effects].some((all) => all.has(Number(from)) && all.has(Number(to)));
+  mark(".edge, .fork", { cause: (none, ends) => isLit(ends) });
   markAsked(svg, graph);
   Deeds.markLit(lit ? clausesIn(lit, graph) : []);
 }
@@ -103,44 +100,40 @@ function clausesIn({ isIn }, graph) {
 
 /** Lights the part of the call that is asked about, and dims what was told right. */
 function markAsked(svg, graph) {
-  const { asked } = Shown, has = (flags, number) => asked !== null && flags[graph.indexOf(number)] === 1;
+  const { asked } = Shown, isRight = (number) => asked?.isRight[graph.indexOf(number)] === 1;
   svg.classList.toggle("asking", asked !== null);
-  for (const mark of marks()) {
-    const number = Number(mark.dataset.step), isRight = has(asked?.isRight, number);
-    mark.classList.toggle("right", isRight);
-    mark.classList.toggle("asked", !isRight && has(asked?.isIn, number));
-  }
-  for (const goal of svg.querySelectorAll(".goal")) goal.classList.toggle("asked", asked !== null && goal.dataset.goal === asked.goal);
+  mark(".mark", { right: isRight, asked: (number) => !isRight(number) && asked?.isIn[graph.indexOf(number)] === 1 });
+  mark(".goal", { asked: (none, { goal }) => goal === asked?.goal });
 }
 
 /** Rings the steps that a roll would take back. */
-function ring(numbers) {
-  for (const mark of marks()) mark.classList.toggle("going", numbers.has(Number(mark.dataset.step)));
-}
+const ring = (numbers) => mark(".mark", { going: (number) => numbers.has(number) });
 
 /** Rings the steps on the way to a part of a value. */
 function markWay(numbers) {
   canvas.way = new Set(numbers);
-  for (const mark of marks()) mark.classList.toggle("way", canvas.way.has(Number(mark.dataset.step)));
+  mark(".mark", { way: (number) => canvas.way.has(number) });
 }
 
-/** Lights the steps of a slice, also in the strip, and rings those of them at which another clause could be chosen. */
+/** Shows what is chosen or lit, also in the strip. */
+function showLight() {
+  showChosen();
+  Deeds.drawStrip();
+}
+
+/** Lights the steps of a slice, and rings those of them at which another clause could be chosen. */
 function showSlice(numbers, others) {
   const { graph } = State.run, isIn = new Uint8Array(graph.count);
-  choose(null);
   for (const number of numbers) if (graph.indexOf(number) !== Graph.NONE) isIn[graph.indexOf(number)] = 1;
-  Shown.slice = { isIn, count: numbers.length };
-  canvas.others = new Set(others);
-  showChosen();
-  Deeds.drawStrip();
+  showFlags(isIn, numbers.length, others);
 }
 
-/** Lights the flagged steps. */
-function showFlags(isIn, count) {
+/** Lights the flagged steps, and rings others. */
+function showFlags(isIn, count, others = []) {
   choose(null);
   Shown.slice = { isIn, count };
-  showChosen();
-  Deeds.drawStrip();
+  canvas.others = new Set(others);
+  showLight();
 }
 
 /** Goes to one of the steps that are lit, tells of it, and keeps the light. */
@@ -153,11 +146,10 @@ function visit(step) {
   Deeds.markClause(clauseOf({ step }));
 }
 
-/** Lights the part of a call, also in the strip. */
+/** Lights the part of a call. */
 function showAsked(asked) {
   Shown.asked = asked;
-  showChosen();
-  Deeds.drawStrip();
+  showLight();
 }
 
 /** Forgets what was lit beside a chosen step. */
@@ -170,31 +162,25 @@ function forget() {
 }
 
 /** The clause by which a chosen step went. */
-function clauseOf(chosen) {
-  const step = chosen && chosen.step !== undefined ? State.run.graph.byNumber.get(chosen.step) : undefined;
-  return (step && step.clause && State.run.clauses[step.clause - 1]) || null;
-}
+const clauseOf = (chosen) => State.run.clauses[State.run.graph.byNumber.get(chosen?.step)?.clause - 1] ?? null;
 
 function choose(chosen) {
   Shown.chosen = chosen;
   forget();
-  showChosen();
-  Deeds.drawStrip();
+  showLight();
   Deeds.showDetail(chosen);
   Deeds.markClause(clauseOf(chosen));
-  if (chosen === null) Deeds.markLit([]);
 }
 
 /** Lane names, the axis and what all stands for stay where one sees them while the picture is scrolled. */
 function stayInSight() {
-  const area = find("canvas"), svg = area.querySelector("svg");
+  const area = find("canvas"), svg = area.querySelector("svg"), across = `translate(${area.scrollLeft} 0)`;
   if (!svg) return;
-  svg.querySelector(".names").setAttribute("transform", `translate(${area.scrollLeft} 0)`);
-  if (svg.querySelector(".legend")) svg.querySelector(".legend").setAttribute("transform", `translate(${area.scrollLeft} 0)`);
+  for (const part of svg.querySelectorAll(".names, .legend")) part.setAttribute("transform", across);
   svg.querySelector(".axis").setAttribute("transform", `translate(0 ${area.scrollTop})`);
   const { left, ticks } = canvas.view, words = [...svg.querySelectorAll(".axis text")], name = words.pop();
   words.forEach((word, at) => { word.style.display = area.scrollLeft > 0 && ticks[at].x - ticks[at].text.length * TICK_LETTER - area.scrollLeft < left - 6 ? "none" : ""; });
-  name.setAttribute("transform", `translate(${area.scrollLeft} 0)`);
+  name.setAttribute("transform", across);
 }
 
 /** Scrolls the picture; that closes no menu. */

@@ -5,9 +5,9 @@ import * as Earlier from "./earlier.mjs";
 import { find } from "./elements.mjs";
 import * as Names from "./names.mjs";
 import OnScreen from "./on_screen.mjs";
+import { pause } from "./pausing.mjs";
 import Shown from "./shown.mjs";
 import State from "./state.mjs";
-import * as Talk from "./talk.mjs";
 
 const PLAY = 350, MOST_PLAYED = 300; // milliseconds a picture, pictures of a whole run
 let at = -1, sought = 0, timer = null;
@@ -36,12 +36,12 @@ async function seek() {
   OnScreen.hits = hits;
   showHits(false);
   for (const count of Search.find(State.run, text, hits)) {
-    if (count % 4096 === 0) await Talk.pause();
+    if (count % 4096 === 0) await pause();
     if (own !== sought || version !== State.run.version) return;
   }
   OnScreen.hits = hits.slice();
   OnScreen.hitFlags();
-  await Talk.pause();
+  await pause();
   if (own !== sought) return;
   if (hits.length > 0) goTo(0);
   else Deeds.draw();
@@ -126,7 +126,6 @@ function follow(what) {
 }
 
 function fold(name, isFolded) {
-  OnScreen.folded = new Set(OnScreen.folded);
   OnScreen.folded[isFolded ? "add" : "delete"](name);
   Deeds.choose(null);
   Deeds.draw();

@@ -47,10 +47,8 @@ function goalsAfter(steps) {
 /** The dependences of the steps that are shown on steps that are not. */
 function incoming(from, to) {
   const { graph } = run(), edges = [];
-  for (let index = from; index < to; index++) {
-    if (graph.causeEnd(index) === graph.firstCause.at(index)) continue;
-    for (const edge of graph.causesAt(index)) if (graph.indexOf(edge.from) < from) edges.push(edge);
-  }
+  const isBefore = (edge) => graph.indexOf(edge.from) < from;
+  for (let index = from; index < to; index++) edges.push(...graph.causesAt(index).filter(isBefore));
   return edges;
 }
 
@@ -69,41 +67,18 @@ function fewOf(goals, hasLane) {
 
 /** What the picture shows: the whole run, or the steps in the window, with the goals that are there where it reaches the end. */
 function shownRun() {
-  const whole = run(), { graph } = whole;
-  const isAll = onScreen.until === null && onScreen.folded.size === 0 && onScreen.only === null;
-  if (!isOn() && isAll && whole.goals.length <= MOST_GOALS) return whole;
+  const whole = run(), { graph, lanes } = whole, isNow = onScreen.until === null, isAlone = onScreen.only !== null;
+  if (!isOn() && isNow && onScreen.folded.size === 0 && !isAlone && whole.goals.length <= MOST_GOALS) return whole;
   setFrom(onScreen.from);
   const from = isOn() ? onScreen.from : 0, to = isOn() ? Math.min(count(), from + size()) : count();
-  const foldOf = Lanes.foldsOf(whole.lanes, onScreen.folded), laneOf = (goal) => whole.lanes.ofGoal(graph, goal.name);
-  const hasLane = (goal) => laneOf(goal) !== undefined && foldOf(laneOf(goal)) === null;
-  const goals = to >= count() ? fewOf(goalsAfter(count()), hasLane) : [];
-  const isNow = onScreen.until === null, shelf = isNow && to >= graph.count ? whole.shelf : [];
-  const placed = Lanes.lanesIn(whole, whole.lanes, from, to, goals, foldOf), coming = incoming(from, to);
-  const steps = { graph: Graph.partOf(graph, from, to), store: graph.store, before: from, incoming: coming };
-  const shown = { ...whole, ...steps, goals, shelf, placed, isPart: isOn() || isNow };
-  return onScreen.only === null ? shown : lanesAlone(shown, from, to);
-}
-
-/** The graph of those steps of a part of the run that are in some lanes. */
-function graphOfLanes(only, from, to) {
-  const { graph, lanes } = run(), part = new Graph.RunGraph();
-  for (let index = from; index < to; index++) {
-    if (only.has(lanes.ofStep[index])) part.push(graph.stepAt(index), graph.waysAt(index));
-  }
-  return part;
-}
-
-/** Of what is to be shown the lanes of some goals alone, with their steps. */
-function lanesAlone(shown, from, to) {
-  const { graph, lanes } = run(), laneOfGoal = (goal) => lanes.ofGoal(graph, goal);
-  const only = new Set([...onScreen.only].map(laneOfGoal).filter(Boolean));
-  const names = new Set([...only].map((lane) => lane.name)), part = graphOfLanes(only, from, to);
-  const parentOf = ({ parent }) => (parent !== null && part.indexOf(parent.number) >= 0 ? parent : null);
-  const kept = shown.placed.lanes.filter((lane) => names.has(lane.name)).map((lane) => ({ ...lane, parent: parentOf(lane) }));
-  const byName = new Map(kept.map((lane) => [lane.name, lane]));
-  const laneOf = new Map([...shown.placed.laneOf].map(([key, lane]) => [key, byName.get(lane.name)]));
-  const goals = shown.goals.filter((goal) => only.has(laneOfGoal(goal.name))), placed = { ...shown.placed, lanes: kept, laneOf };
-  return { ...shown, graph: part, goals, shelf: [], incoming: [], placed };
+  const foldOf = Lanes.foldsOf(lanes, onScreen.folded), laneOfGoal = (goal) => lanes.ofGoal(graph, goal);
+  const only = new Set([...onScreen.only ?? []].map(laneOfGoal)), isShown = (lane) => !isAlone || only.has(lane);
+  const isOpen = (lane) => lane !== undefined && isShown(lane) && foldOf(lane) === null;
+  const goals = to >= count() ? fewOf(goalsAfter(count()), ({ name }) => isOpen(laneOfGoal(name))) : [];
+  const placed = Lanes.lanesIn(whole, lanes, from, to, goals, foldOf, isShown), isPart = isOn() || isNow;
+  const shelf = isNow && to >= graph.count && !isAlone ? whole.shelf : [], coming = isAlone ? [] : incoming(from, to);
+  const part = Graph.partOf(graph, from, to, (index) => isShown(lanes.ofStep[index]));
+  return { ...whole, graph: part, store: graph.store, before: from, incoming: coming, goals, shelf, placed, isPart };
 }
 
 /** After lines: where steps came, or the window stands beyond the end, it goes to the end. */
@@ -141,10 +116,7 @@ function laneOf(chosen) {
 }
 
 /** The step that took a goal; undefined where none did. */
-function takerOf(goal) {
-  const { graph } = State.run, index = graph.consumerOf(goal);
-  return index === undefined || index === Graph.NONE ? undefined : graph.stepAt(index);
-}
+const takerOf = (goal) => State.run.graph.stepAt(State.run.graph.consumerOf(goal));
 
 /** What a roll of a step takes back, with the step itself: how many, and whether a number is one of them. */
 function goneWith(number) {

@@ -1,6 +1,7 @@
 // What came of a run: whether it is done, has failed, is stuck or goes on, and who waits for whom in a circle, by names
 // of processes. Pure.
 import * as Printed from "../front/text/printed.mjs";
+import { argumentsOf } from "../front/run/explain.mjs";
 import * as Graph from "../front/run/graph.mjs";
 import * as Lanes from "../front/run/lanes.mjs";
 import * as WhyWords from "./why_words.mjs";
@@ -42,8 +43,8 @@ function partings(ways, depth = 0) {
 
 /** The goals that were made with one: by the same step, or in the query. */
 function madeWith(run, name) {
-  const [maker] = Printed.nameParts(name), index = maker === 0 ? Graph.NONE : run.graph.indexOf(maker);
-  return maker === 0 ? Lanes.queryPlaces(run).map((place) => `0.${place}`) : run.graph.stepAt(index).makes;
+  const [maker] = Printed.nameParts(name);
+  return maker === 0 ? Lanes.queryPlaces(run).map((place) => `0.${place}`) : run.graph.byNumber.get(maker).makes;
 }
 
 /** The name of a process by the goal with which it began: its predicate, and which of several that are alike. */
@@ -65,14 +66,8 @@ function processNames(run, goals) {
   return new Map(goals.map((goal, at) => [goal, isAlone(words[at]) ? words[at] : `${words[at]} (${goal})`]));
 }
 
-/**
- * Is a variable an argument of a call itself, and does not stand within one, as in a request that is not served yet?
- */
-function isHeld(goal, variable) {
-  const open = goal.text.indexOf("(");
-  if (goal.sort !== "call" || open < 0) return false;
-  return Printed.splitOutside(goal.text.slice(open + 1, -1), ",").includes(variable);
-}
+/** Is a variable an argument of a call itself, and not within one, as in a request that is not served yet? */
+const isHeld = ({ sort, text }, variable) => sort === "call" && argumentsOf(text).includes(variable);
 
 /**
  * The waits of goals for each other in a circle where a run is stuck; none where one variable is waited for by all

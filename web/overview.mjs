@@ -29,13 +29,12 @@ function paints(theme, part) {
 
 /** The strip as pixels, where the dot of more weight is seen: those of a chosen step's causes and consequences above the others. */
 class Dots {
-  constructor(wide, high, lanes) {
+  constructor(wide, high) {
     this.wide = wide;
     this.high = high;
     this.image = new ImageData(wide, high);
     this.pixels = new Uint32Array(this.image.data.buffer);
     this.levels = new Uint8Array(wide * high);
-    this.lanes = lanes;
   }
 
   put(x, y, dot, tall, colour, level) {

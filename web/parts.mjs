@@ -3,11 +3,6 @@ import * as Graph from "../front/run/graph.mjs";
 
 const MANY = 4096; // steps between two places where the caller may pause
 
-/** Adds to a list the places of the steps that took the goals which a step made; NONE where no step did. */
-function addTakers(graph, index, left) {
-  for (let made = graph.firstMade.at(index); made < graph.madeEnd(index); made++) left.push(graph.consumers.at(made));
-}
-
 /**
  * Puts 1 into `flags`, by the steps' places in a graph, for each step of the part of a goal; gives how many it found. What is flagged
  * already is not looked at again. It costs what the part has, and yields now and then.
@@ -21,7 +16,7 @@ function* mark(graph, goal, flags) {
     flags[index] = 1;
     count += 1;
     if (count % MANY === 0) yield count;
-    addTakers(graph, index, left);
+    graph.addTakers(index, left);
   }
   return count;
 }

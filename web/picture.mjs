@@ -190,27 +190,20 @@ function curveOf(view, from, to) {
   return curves[counts.indexOf(Math.min(...counts))];
 }
 
-/**
- * A curve as the path of an SVG.
- * @param {number[][]} points
- */
-function pathOf([start, ...others]) {
-  const point = (place) => place.map(round).join(" ");
-  return `M${point(start)} C${others.map(point).join(" ")}`;
+/** A curve as the path of an SVG. */
+function pathOf(curve) {
+  const [start, ...others] = curve.map((place) => place.map(round).join(" "));
+  return `M${start} C${others.join(" ")}`;
 }
 
-/** What is said of a read where one points at its arrow. */
-function tellRead(run, edge) {
-  const bound = run.graph.byNumber.get(edge.from).binds.filter((binding) => edge.variables.includes(binding.variable));
-  const woken = edge.woke ? ", and was woken by it" : "";
-  return [`step ${edge.to} read ${edge.variables.join(", ")}, which step ${edge.from} bound${woken}`,
-    ...bound.map((binding) => `${binding.variable} = ${Terms.cut(binding.term, 200)}`)].join("\n");
+/** What is said of an arrow where one points at it: who named what another made, or read what that bound. */
+function tellArrow(run, { from, to, kind, variables, woke }) {
+  if (kind === "named") return `step ${to} named ${variables.join(", ")}, which step ${from} made`;
+  const bound = run.graph.byNumber.get(from).binds.filter(({ variable }) => variables.includes(variable));
+  const woken = woke ? ", and was woken by it" : "";
+  const values = bound.map(({ variable, term }) => `${variable} = ${Terms.cut(term, 200)}`);
+  return [`step ${to} read ${variables.join(", ")}, which step ${from} bound${woken}`, ...values].join("\n");
 }
-
-const tellNamed = (edge) => `step ${edge.to} named ${edge.variables.join(", ")}, which step ${edge.from} made`;
-
-/** What is said of an arrow where one points at it. */
-const tellArrow = (run, edge) => (edge.kind === "named" ? tellNamed(edge) : tellRead(run, edge));
 
 /** An arrow to a step that read what another bound, or that named what another made. */
 function drawArrow(view, run, edge) {
@@ -233,9 +226,7 @@ function tellStep(run, step) {
   if (run.texts.has(step.goal)) lines.push(Terms.cut(run.texts.get(step.goal), 300));
   if (step.clause && run.clauses[step.clause - 1]) lines.push(run.clauses[step.clause - 1].text);
   for (const binding of step.binds) lines.push(`binds ${binding.variable} = ${Terms.cut(binding.term, 200)}`);
-  if (step.reads.length > 0) lines.push(`reads ${step.reads.join(", ")}`);
-  if (step.names.length > 0) lines.push(`names ${step.names.join(", ")}`);
-  if (step.makes.length > 0) lines.push(`makes ${step.makes.join(", ")}`);
+  for (const key of ["reads", "names", "makes"]) if (step[key].length > 0) lines.push(`${key} ${step[key].join(", ")}`);
   const lost = WhyWords.lostBy(run).get(step.number);
   if (lost !== undefined) lines.push(`lets ${lost.join(", ")} go, which nobody binds`);
   return lines.join("\n");
@@ -325,19 +316,11 @@ function drawSmallNumbers(view, theme) {
 /** Below a binding or a sum: what was bound, as much of it as there is room for before the next one. */
 function drawBindings(view, theme) {
   if (view.sizes.kind !== "roomy") return "";
-  const rows = new Map();
-  for (const mark of view.marks.values()) {
-    if (mark.isLeaf && !mark.isFolded && mark.step.binds.length > 0) {
-      const row = Math.round(mark.y);
-      rows.set(row, [...(rows.get(row) || []), mark]);
-    }
-  }
-  const texts = [];
-  for (const marks of rows.values()) {
-    marks.sort((one, other) => one.x - other.x);
-    marks.forEach((mark, index) => texts.push(drawBinding(view, mark, marks[index + 1], theme)));
-  }
-  return texts.join("");
+  const leaves = [...view.marks.values()].filter((mark) => mark.isLeaf && !mark.isFolded && mark.step.binds.length > 0);
+  const rows = new Map(leaves.map((mark) => [Math.round(mark.y), []]));
+  for (const mark of leaves.sort((one, other) => one.x - other.x)) rows.get(Math.round(mark.y)).push(mark);
+  const drawn = (mark, index, row) => drawBinding(view, mark, row[index + 1], theme);
+  return [...rows.values()].flatMap((row) => row.map(drawn)).join("");
 }
 
 function drawBinding(view, mark, next, theme) {
@@ -430,29 +413,27 @@ function drawLeader(view, lane, theme) {
  * of what it shows.
  */
 function draw(given, options) {
-  const run = options.shown === undefined ? given : { ...given, shown: options.shown };
-  const theme = THEMES[options.theme || "light"], colour = coloursOf(run, theme), top = options.title ? 62 : 34, first = top + ((run.incoming || []).length > 0 ? ROOM_OF_COMING : 0);
-  const room = options.room || 1100;
-  const scope = options.scope || "run", { high, leastColumns, isWhole } = options;
-  const how = { by: options.by || "record", room, top: first, high, leastColumns, isWhole };
-  const laid = /** @type {any} */ (Lanes.layout(run, how)), shown = options.shown || ((text) => text);
+  const { by = "record", scope = "run", title, shown = (text) => text, ...how } = options, room = options.room || 1100;
+  const run = { ...given, shown }, theme = THEMES[options.theme || "light"], colour = coloursOf(run, theme);
+  const coming = run.incoming ?? [], top = title ? 62 : 34, first = top + (coming.length > 0 ? ROOM_OF_COMING : 0);
+  const laid = /** @type {any} */ (Lanes.layout(run, { ...how, by, room, top: first }));
   const view = { ...laid, top, hasTitles: options.titles !== false, shown };
   const showsImplied = view.sizes.kind !== "tiny" && run.graph.steps.length <= 500;
   const edges = run.graph.edges.filter((edge) => showsImplied || edge.kind === "made" || !edge.implied || edge.woke);
   const legend = options.legend ? drawLegend(view, run, room, theme, colour) : { text: "", bottom: view.bottom + 12, width: 0 };
-  view.width = Math.max(view.width, legend.width, options.title ? 28 + options.title.length * 10 : 0);
+  view.width = Math.max(view.width, legend.width, title ? 28 + title.length * 10 : 0);
   const width = Math.ceil(view.width), height = Math.ceil(legend.bottom);
   const parts = [
     `<svg xmlns="http://www.w3.org/2000/svg" class="${scope}" viewBox="0 0 ${width} ${height}" width="${width}" height="${height}" role="img" aria-label="${describe(run)}">`,
     style(view, theme, scope), heads(view, theme), `<rect width="${width}" height="${height}" fill="${theme.ground}"/>`, drawGrid(view, theme),
     ...view.lanes.map((lane) => drawLeader(view, lane, theme) + drawLane(view, lane, colour) + drawFork(view, lane)),
     ...view.lanes.map((lane) => drawBar(view, lane, theme, colour)),
-    ...edges.filter((edge) => !isInside(view, edge)).map((edge) => drawEdge(view, run, edge)), drawComing(view, run.incoming || [], theme), ...[...view.goals.values()].map((place) => drawMadeGoal(view, place)),
+    ...edges.filter((edge) => !isInside(view, edge)).map((edge) => drawEdge(view, run, edge)), drawComing(view, coming, theme), ...[...view.goals.values()].map((place) => drawMadeGoal(view, place)),
     ...[...view.marks.values()].map((mark) => drawMark(view, run, mark, theme, colour)), drawLost(view, run, theme), drawBindings(view, theme), drawSmallNumbers(view, theme),
     ...[...view.goals.values()].map((place) => drawGoal(view, place, theme)), ...view.taken.map((place) => drawTaken(view, place, theme)),
     ...view.waits.map((wait) => drawWait(view, wait, theme)),
     drawNames(view, theme, colour), drawAxis(view, theme), legend.text,
-    options.title ? `<text x="14" y="27" font-size="17" font-weight="600" fill="${theme.ink}">${escaped(options.title)}</text>` : "", "</svg>",
+    title ? `<text x="14" y="27" font-size="17" font-weight="600" fill="${theme.ink}">${escaped(title)}</text>` : "", "</svg>",
   ];
   return { svg: parts.filter(Boolean).join("\n"), view };
 }

@@ -2,7 +2,6 @@
 // is kept alone by `keep` when one has seen what would go.
 import * as Asking from "../front/protocol/asking.mjs";
 import * as GoalTree from "../front/run/goal_tree.mjs";
-import * as Graph from "../front/run/graph.mjs";
 import * as Terms from "../front/run/terms.mjs";
 import Deeds from "./deeds.mjs";
 import { find, make, lineButton, joined, link, goTo, linkedLine } from "./elements.mjs";
@@ -28,18 +27,14 @@ function rootsIn(graph, isIn) {
   return roots;
 }
 
-/** Adds to a row the places of the steps that took what a step made, among those that are flagged. */
-function addTakers(graph, isIn, index, row) {
-  for (let made = graph.firstMade.at(index); made < graph.madeEnd(index); made++) {
-    const taker = graph.consumers.at(made);
-    if (taker !== Graph.NONE && isIn[taker] === 1) row.push(taker);
-  }
-}
-
 /** The upper steps of a long explanation, in recorded order. */
 function upperOf(graph, isIn, most) {
   const row = rootsIn(graph, isIn);
-  for (let at = 0; at < row.length && row.length < most; at++) addTakers(graph, isIn, row[at], row);
+  for (let at = 0; at < row.length && row.length < most; at++) {
+    const takers = [];
+    graph.addTakers(row[at], takers);
+    row.push(...takers.filter((taker) => isIn[taker] === 1));
+  }
   return row.slice(0, most).sort((one, other) => one - other).map((index) => graph.stepAt(index));
 }
 

@@ -4,6 +4,7 @@ import * as Asking from "../front/protocol/asking.mjs";
 import { NO_WAITS, arcsAmong } from "../front/run/arcs.mjs";
 import { whyAtEnd } from "../front/run/waits.mjs";
 import RunModel from "../front/run/run_model.mjs";
+import { pauses } from "./pausing.mjs";
 import * as Service from "./service.mjs";
 import State from "./state.mjs";
 
@@ -28,25 +29,6 @@ async function changed(what) {
   if (what !== "busy" && what !== "idle") State.showing = new Promise((done) => { isShown = done; });
   for (const listener of listeners) await Promise.resolve(what).then(listener).catch(noteFault);
   isShown();
-}
-
-/** A pause in which the browser can draw and take clicks. */
-const pause = () => new Promise((done) => {
-  const { port1, port2 } = new MessageChannel();
-  port1.onmessage = () => { port1.close(); done(); };
-  port2.postMessage(0);
-});
-
-/** Does what yields how far it is, with a pause after each slice of time. */
-async function inSlices(work, tell) {
-  let until = performance.now() + SLICE;
-  for (const at of work) {
-    if (performance.now() < until) continue;
-    tell(at);
-    await pause();
-    if (isStopped) throw Service.STOPPED;
-    until = performance.now() + SLICE;
-  }
 }
 
 /** The lines of bytes, a part at a time, so that no part takes long. */
@@ -79,13 +61,15 @@ async function askWaits(run) {
   run.waits = run.goalsRefused ? NO_WAITS : await arcsAmong(session, run.goals, run.why);
 }
 
-/** Takes up what a line led to, and asks what follows of it. */
+/** Takes up what a line led to, in slices of time, and asks what follows of it. */
 async function take(look, hasEnded = false) {
-  const isLong = look.come.length > 0x10000, parts = State.run.change({ ...look, goals: linesOf(look.goals), shelf: linesOf(look.shelf) }, linesOf(look.come));
-  await inSlices(parts, (count) => {
-    if (isLong && State.busy) State.busy.read = count;
-  });
-  if (!hasEnded) await askWaits(State.run);
+  const { run } = State, isLong = look.come.length > 0x10000, pause = pauses(SLICE);
+  const parts = { ...look, goals: linesOf(look.goals), shelf: linesOf(look.shelf) };
+  for (const part of run.change(parts, linesOf(look.come))) {
+    if (isLong && State.busy) State.busy.read = run.graph.count;
+    if (await pause() && isStopped) throw Service.STOPPED;
+  }
+  if (!hasEnded) await askWaits(run);
 }
 
 /** Does one thing after another; while one takes long, the page hears of it. */
@@ -319,6 +303,6 @@ function stop() {
 const settled = () => last;
 
 export {
-  pause, listen, start, reload, send, sendAll, ask, askSlice, askWithout, sessionAt, canAsk, stop, again, typedLines,
+  listen, start, reload, send, sendAll, ask, askSlice, askWithout, sessionAt, canAsk, stop, again, typedLines,
   settled,
 };

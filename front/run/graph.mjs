@@ -68,56 +68,35 @@ class PartedMap {
   }
 }
 
-const MOST_DENSE = 0x400000; // numbers that have a place of their own
+const PIECE = 64; // numbers whose indexes stand side by side
 
-/** The indexes of steps by their numbers: a list of places, and a map for the numbers beyond it. */
+/** The indexes of steps by their numbers, in pieces: numbers far apart take no room between them. */
 class Indexes {
   constructor() {
-    this.places = new Int32Array(1024).fill(NONE);
-    this.beyond = new PartedMap();
+    this.pieces = new Map();
   }
 
-  get(number) {
-    if (number >= MOST_DENSE) return this.beyond.get(number);
-    const index = number < this.places.length ? this.places[number] : NONE;
-    return index === NONE ? undefined : index;
-  }
-
-  has(number) {
-    return this.get(number) !== undefined;
+  /** The index of the step of a number; NONE where there is none. */
+  of(number) {
+    const piece = this.pieces.get(Math.floor(number / PIECE));
+    return piece === undefined ? NONE : piece[number % PIECE];
   }
 
   set(number, index) {
-    if (number >= MOST_DENSE) {
-      this.beyond.set(number, index);
-      return;
-    }
-    if (number >= this.places.length) {
-      const larger = new Int32Array(Math.max(number + 1, this.places.length * 2)).fill(NONE);
-      larger.set(this.places);
-      this.places = larger;
-    }
-    this.places[number] = index;
-  }
-
-  delete(number) {
-    if (number >= MOST_DENSE) this.beyond.delete(number);
-    else if (number < this.places.length) this.places[number] = NONE;
+    const place = Math.floor(number / PIECE);
+    if (!this.pieces.has(place)) this.pieces.set(place, new Int32Array(PIECE).fill(NONE));
+    this.pieces.get(place)[number % PIECE] = index;
   }
 }
 
 /** A few things by their indexes, which are forgotten when they are too many. */
-class Known {
-  constructor() {
-    this.map = new Map();
-  }
-
-  get(index, make) {
-    if (!this.map.has(index)) {
-      if (this.map.size >= MOST_KEPT) this.map.clear();
-      this.map.set(index, make());
-    }
-    return this.map.get(index);
+class Known extends Map {
+  /** The thing of an index, which is made where it is not known. */
+  of(index, make) {
+    if (this.has(index)) return this.get(index);
+    if (this.size >= MOST_KEPT) this.clear();
+    this.set(index, make());
+    return this.get(index);
   }
 }
 
@@ -159,19 +138,16 @@ class RunGraph {
     this.to = new Numbers(Int32Array);
     this.effectBefore = new Numbers(Int32Array);
     this.hows = new Numbers(Uint8Array); // made, read or named, and whether it woke
-    this.forget();
-    const accessor = (of) => ({ get: (number) => (this.indexes.has(number) ? of(this.indexes.get(number)) : undefined), has: (number) => this.indexes.has(number) });
+    this.knownSteps = new Known();
+    this.knownCauses = new Known();
+    this.changed();
+    const has = (number) => this.indexOf(number) !== NONE;
+    const accessor = (of) => ({ get: (number) => (has(number) ? of(this.indexOf(number)) : undefined), has });
     this.byNumber = accessor((index) => this.stepAt(index));
     this.causes = accessor((index) => this.causesAt(index));
     this.effects = accessor((index) => this.effectsAt(index));
     this.depth = accessor((index) => this.depths.at(index));
     this.store = { has: (variable) => this.binderOf(variable) !== undefined, get: (variable) => this.termOf(variable) };
-  }
-
-  forget() {
-    this.knownSteps = new Known();
-    this.knownCauses = new Known();
-    this.listed = null;
   }
 
   get count() {
@@ -184,23 +160,18 @@ class RunGraph {
   }
 
   indexOf(number) {
-    return this.indexes.has(number) ? this.indexes.get(number) : NONE;
+    return this.indexes.of(number);
   }
 
+  /** The step at a place; undefined where there is none. */
   stepAt(index) {
     const told = this.told[index];
-    return typeof told === "string" ? this.knownSteps.get(index, () => readRecord(told)) : told;
-  }
-
-  slice(from, to) {
-    const steps = [];
-    for (let index = from; index < Math.min(to, this.count); index++) steps.push(this.stepAt(index));
-    return steps;
+    return typeof told === "string" ? this.knownSteps.of(index, () => readRecord(told)) : told;
   }
 
   /** All steps. It reads each of them: for a run that is not long. */
   get steps() {
-    this.listed = this.listed || this.slice(0, this.count);
+    this.listed = this.listed || this.told.map((told, index) => this.stepAt(index));
     return this.listed;
   }
 
@@ -229,7 +200,7 @@ class RunGraph {
   }
 
   consumerAt(maker, place) {
-    if (maker === 0) return this.queryConsumers.has(place) ? this.queryConsumers.get(place) : NONE;
+    if (maker === 0) return this.queryConsumers.get(place) ?? NONE;
     const at = this.madeAt(maker, place);
     return at === NONE ? undefined : this.consumers.at(at);
   }
@@ -246,20 +217,21 @@ class RunGraph {
     return index + 1 < this.count ? this.firstMade.at(index + 1) : this.consumers.length;
   }
 
+  /** Adds to a list the places of the steps that took the goals which a step made; NONE where no step did. */
+  addTakers(index, list) {
+    for (let made = this.firstMade.at(index); made < this.madeEnd(index); made++) list.push(this.consumers.at(made));
+  }
+
   causeEnd(index) {
     return index + 1 < this.count ? this.firstCause.at(index + 1) : this.from.length;
   }
 
   setConsumer(step, index) {
     if (step.goal === null) return;
-    const [maker, place] = nameParts(step.goal);
-    if (maker === 0) {
-      if (index === NONE) this.queryConsumers.delete(place);
-      else this.queryConsumers.set(place, index);
-    } else {
-      const at = this.madeAt(maker, place);
-      if (at !== NONE) this.consumers.all[at] = index;
-    }
+    const [maker, place] = nameParts(step.goal), at = this.madeAt(maker, place);
+    if (at !== NONE) this.consumers.all[at] = index;
+    if (maker === 0 && index === NONE) this.queryConsumers.delete(place);
+    else if (maker === 0) this.queryConsumers.set(place, index);
   }
 
   /** On what a step depends, found in the record: who made its goal, who bound what it read, who made what it names, in recorded order. */
@@ -273,17 +245,13 @@ class RunGraph {
 
   /** Adds that a step depends on another one; of several ways the first counts: made, then read, then named. */
   addCause(causes, from, how) {
-    if (from === undefined || !this.indexes.has(from)) return;
-    const index = this.indexes.get(from), cause = causes.find((one) => one.index === index);
-    if (cause === undefined) causes.push({ index, how });
-    else cause.how = Math.min(cause.how & WAYS, how & WAYS) | ((cause.how | how) & WOKE);
+    const index = this.indexOf(from);
+    if (index !== NONE && causes.every((cause) => cause.index !== index)) causes.push({ index, how });
   }
 
-  /** On what a step depends, as another graph knows it: the numbers of causes, and how. */
-  toldCauses({ from, hows }) {
-    const causes = [];
-    from.forEach((number, at) => this.addCause(causes, number, hows[at]));
-    return inOrder(causes);
+  /** On what a step depends, as another graph knows it, of what is here. */
+  toldCauses(ways) {
+    return ways.map(({ from, how }) => ({ index: this.indexOf(from), how })).filter(({ index }) => index !== NONE);
   }
 
   /** The variables by which a step depends on another one: those that it read and that one bound, and those that it names and that one made. */
@@ -292,13 +260,12 @@ class RunGraph {
   }
 
   causesAt(index) {
-    return this.knownCauses.get(index, () => {
-      const step = this.stepAt(index), causes = [];
-      for (let edge = this.firstCause.at(index); edge < this.causeEnd(index); edge++) {
-        const from = this.numbers.at(this.from.at(edge)), how = this.hows.at(edge);
-        causes.push({ from, to: step.number, kind: WORDS[how & WAYS], variables: this.variablesBetween(step, from), woke: (how & WOKE) !== 0, implied: false });
-      }
-      return causes;
+    return this.knownCauses.of(index, () => {
+      const step = this.stepAt(index), to = step.number;
+      return this.waysAt(index).map(({ from, how }) => {
+        const kind = WORDS[how & WAYS], variables = this.variablesBetween(step, from);
+        return { from, to, kind, variables, woke: (how & WOKE) !== 0, implied: false };
+      });
     });
   }
 
@@ -310,7 +277,7 @@ class RunGraph {
     return effects.reverse();
   }
 
-  /** Puts a step, or the line that tells it, at the end. `causes` has the numbers and ways of its causes, where another graph knows them. */
+  /** Puts a step, or the line that tells it, at the end. `causes` are the ways that another graph knows. */
   push(told, causes = null) {
     const step = typeof told === "string" ? readRecord(told) : told;
     if (step === null) return;
@@ -344,11 +311,13 @@ class RunGraph {
     this.hows.push(how);
   }
 
-  /** The numbers of a step's causes, and how it depends on each. */
+  /** The numbers of a step's causes, each with how it depends on that. */
   waysAt(index) {
-    const first = this.firstCause.at(index), end = this.causeEnd(index), from = [];
-    for (let edge = first; edge < end; edge++) from.push(this.numbers.at(this.from.at(edge)));
-    return { from, hows: this.hows.all.slice(first, end) };
+    const ways = [];
+    for (let edge = this.firstCause.at(index); edge < this.causeEnd(index); edge++) {
+      ways.push({ from: this.numbers.at(this.from.at(edge)), how: this.hows.at(edge) });
+    }
+    return ways;
   }
 
   /**
@@ -360,7 +329,8 @@ class RunGraph {
       if (index % MOVED === 0) yield index;
       if (to[index] === NONE) this.forgetStep(index);
     }
-    this.forget();
+    this.knownSteps.clear();
+    this.knownCauses.clear();
     const end = this.count, perStep = [this.numbers, this.kinds, this.clauses, this.makers, this.places, this.depths];
     let step = first, made = this.firstMade.at(first), edge = this.firstCause.at(first);
     for (let index = first; index < end; index++) {
@@ -373,7 +343,11 @@ class RunGraph {
       this.firstMade.all[step] = made;
       for (let at = madeFrom; at < madeTo; at++) this.consumers.all[made++] = this.consumers.at(at);
       this.firstCause.all[step] = edge;
-      for (let at = edgeFrom; at < edgeTo; at++) this.moveEdge(at, edge++, to[this.from.at(at)], step);
+      for (let at = edgeFrom; at < edgeTo; at++, edge++) {
+        this.from.all[edge] = to[this.from.at(at)];
+        this.to.all[edge] = step;
+        this.hows.all[edge] = this.hows.at(at);
+      }
       this.deepest.all[step] = Math.max(this.depths.at(step), step > 0 ? this.deepest.at(step - 1) : 0);
       step += 1;
     }
@@ -397,13 +371,7 @@ class RunGraph {
     const step = this.stepAt(index);
     for (const binding of step.binds) this.binders.delete(keyOfVariable(binding.variable));
     this.setConsumer(step, NONE);
-    this.indexes.delete(step.number);
-  }
-
-  moveEdge(at, edge, from, to) {
-    this.from.all[edge] = from;
-    this.to.all[edge] = to;
-    this.hows.all[edge] = this.hows.at(at);
+    this.indexes.set(step.number, NONE);
   }
 
   shorten(steps, made, edges) {
@@ -429,8 +397,8 @@ class RunGraph {
     const index = this.count - 1, first = this.firstCause.at(index);
     for (let edge = this.from.length - 1; edge >= first; edge--) this.lastEffect.all[this.from.at(edge)] = this.effectBefore.at(edge);
     this.forgetStep(index);
-    this.knownSteps.map.delete(index);
-    this.knownCauses.map.delete(index);
+    this.knownSteps.delete(index);
+    this.knownCauses.delete(index);
     this.shorten(index, this.firstMade.at(index), first);
   }
 
@@ -456,7 +424,7 @@ function markWoke(step, causes) {
 function markImplied(graph) {
   const words = (graph.count >> 5) + 1, before = [];
   for (let index = 0; index < graph.count; index++) {
-    const all = new Uint32Array(words), edges = graph.causesAt(index), at = (edge) => graph.indexes.get(edge.from);
+    const all = new Uint32Array(words), edges = graph.causesAt(index), at = (edge) => graph.indexOf(edge.from);
     for (const edge of edges) before[at(edge)].forEach((word, part) => { all[part] |= word; });
     for (const edge of edges) edge.implied = ((all[at(edge) >> 5] >>> (at(edge) & 31)) & 1) === 1;
     for (const edge of edges) all[at(edge) >> 5] |= 1 << (at(edge) & 31);
@@ -471,10 +439,12 @@ function graphOf(steps) {
   return graph;
 }
 
-/** The graph of some steps of another graph alone, from one index up to another. */
-function partOf(whole, from, to) {
+/** The graph of some steps of another graph alone, from one index up to another: all, or those that are wanted. */
+function partOf(whole, from, to, isWanted = (index) => true) {
   const graph = new RunGraph();
-  for (let index = from; index < Math.min(to, whole.count); index++) graph.push(whole.stepAt(index), whole.waysAt(index));
+  for (let index = from; index < Math.min(to, whole.count); index++) {
+    if (isWanted(index)) graph.push(whole.stepAt(index), whole.waysAt(index));
+  }
   return graph;
 }
 
@@ -534,7 +504,4 @@ function tidyOrder(graph, laneOf) {
   return order;
 }
 
-export {
-  graphOf, partOf, MADE, NAMED, tidyOrder, RunGraph, causesReached, dependents, effectsReached, keyOfGoal, PartedMap,
-  NONE,
-};
+export { graphOf, partOf, tidyOrder, RunGraph, causesReached, dependents, effectsReached, keyOfGoal, PartedMap, NONE };

@@ -6,7 +6,7 @@ import { NO_WAITS } from "./arcs.mjs";
 
 const between = (least, value, most) => Math.max(least, Math.min(value, most));
 const MOST_CLEAR_ROWS = 5;
-const MANY = 1024; // steps between two places where one may pause
+const PART = 64, MANY = 1024; // what is put in, and what is moved, between two places where one may pause
 const MOST_ARC_COLUMNS = 6; // columns of arcs for which room is kept
 const NARROW = 600; // the room below which names are short, and stand above their lanes where the picture is not made to fit
 const LEAST_LEFT = 22; // points beside the first step where names stand above
@@ -20,12 +20,12 @@ const keyOfName = (name) => Graph.keyOfGoal(...Printed.nameParts(name));
 
 const named = new WeakMap();
 
-/** Finds goals by their names, once for each list of goals; yields after each goal. */
+/** Finds goals by their names, once for each list of goals; yields now and then. */
 function* gatherNames(goals) {
   const byKey = new Graph.PartedMap();
-  for (const goal of goals) {
+  for (const [at, goal] of goals.entries()) {
+    if (at % PART === 0) yield at;
     byKey.set(keyOfName(goal.name), goal);
-    yield 0;
   }
   named.set(goals, byKey);
 }
@@ -41,7 +41,6 @@ class GoalKinds {
   constructor(run) {
     this.run = run;
     this.there = new Graph.PartedMap();
-    this.consumed = new Map();
   }
 
   /** The kind of a goal that is there, by its key. */
@@ -54,9 +53,8 @@ class GoalKinds {
 
   /** The kind of the goal that a step consumed. */
   ofConsumer(index) {
-    const { graph, clauses } = this.run, kind = graph.kinds.at(index), clause = graph.clauses.at(index), key = kind === 0 ? clause : -kind;
-    if (!this.consumed.has(key)) this.consumed.set(key, { sort: SORTS[kind], predicate: kind === 0 ? (clauses[clause - 1] || { predicate: "?" }).predicate : null });
-    return this.consumed.get(key);
+    const { graph, clauses } = this.run, kind = graph.kinds.at(index);
+    return { sort: SORTS[kind], predicate: kind === 0 ? clauses[graph.clauses.at(index) - 1]?.predicate ?? "?" : null };
   }
 
   at(maker, place) {
@@ -66,10 +64,6 @@ class GoalKinds {
 
   get(name) {
     return name === null ? undefined : this.at(...Printed.nameParts(name));
-  }
-
-  has(name) {
-    return this.get(name) !== undefined;
   }
 }
 
@@ -100,14 +94,14 @@ class Ring {
 }
 
 function notePredicate(lane, kind, index) {
-  if (!kind || !kind.predicate || lane.predicates.includes(kind.predicate)) return;
+  if (!kind?.predicate || lane.predicates.includes(kind.predicate)) return;
   lane.predicates.push(kind.predicate);
   lane.since.push(index);
 }
 
 /**
- * The lanes of a run, which grow and shrink with its graph: a step that comes or goes at the end costs what that step alone costs. A
- * lane begins where a step (`parent`, by its index) made its first goal, or with an ask (`asked`), which nothing made, or at the left.
+ * The lanes of a run, which grow and shrink with its graph: a step that comes or goes at the end costs what that step
+ * alone costs. A lane begins with the step at `bornAt`, which made its first goal or is an ask; or at the left.
  */
 class RunLanes {
   constructor() {
@@ -119,8 +113,8 @@ class RunLanes {
     this.isNumbered = true; // whether each lane has its index from the top
   }
 
-  begin(name, before, index, parent, asked) {
-    const lane = { name, parent, asked, bornAt: index, count: 0, predicates: [], since: [], index: 0 };
+  begin(name, before, bornAt, { isMade = false, isAsked = false } = {}) {
+    const lane = { name, bornAt, isMade, isAsked, count: 0, predicates: [], since: [], index: 0 };
     this.lanes.push(lane);
     this.ring.put(lane, before);
     this.isNumbered = false;
@@ -129,14 +123,27 @@ class RunLanes {
 
   /** The lane of a goal that is there or was; undefined where nothing is known of it. */
   ofGoal(graph, name) {
-    const [maker, place] = Printed.nameParts(name);
+    return this.at(graph, ...Printed.nameParts(name));
+  }
+
+  at(graph, maker, place) {
     return maker === 0 ? this.ofQuery.get(place) : this.ofMade[graph.madeAt(maker, place)];
+  }
+
+  /** Puts what a run has more of into lanes, the query's goals first of all, and numbers them; yields now and then. */
+  *follow(run) {
+    const { graph } = run, kinds = new GoalKinds(run);
+    if (this.lanes.length === 0) this.beginQuery(queryPlaces(run));
+    while (this.ofStep.length < graph.count) {
+      this.add(graph, kinds);
+      if (this.ofStep.length % PART === 0) yield graph.count;
+    }
+    yield* this.number();
   }
 
   /** The lanes of the query's goals, from the top. */
   beginQuery(places) {
-    if (this.lanes.length > 0) return;
-    for (const place of places) this.ofQuery.set(place, this.begin(`0.${place}`, this.ring, -1, null, null));
+    for (const place of places) this.ofQuery.set(place, this.begin(`0.${place}`, this.ring, -1));
   }
 
   /** Takes away what came with the steps from an index on; yields now and then. */
@@ -146,12 +153,12 @@ class RunLanes {
       if (this.ofStep.length % MANY === 0) yield this.ofStep.length;
       const lane = this.ofStep.pop();
       lane.count -= 1;
-      while (lane.since.length > 0 && lane.since[lane.since.length - 1] >= count) {
+      while (lane.since.at(-1) >= count) {
         lane.since.pop();
         lane.predicates.pop();
       }
     }
-    while (this.lanes.length > 0 && this.lanes[this.lanes.length - 1].bornAt >= count) {
+    while (this.lanes.at(-1)?.bornAt >= count) {
       if (this.lanes.length % MANY === 0) yield this.lanes.length;
       this.ring.takeOut(this.lanes.pop());
       this.isNumbered = false;
@@ -214,12 +221,12 @@ class RunLanes {
 
   /** Gives the next step its lane, and the goals that it made theirs: its own process goes on, small goals stay with it, other calls begin lanes beside it. */
   add(graph, kinds) {
-    const index = this.ofStep.length, maker = graph.makers.at(index);
-    const known = maker === Graph.NONE ? undefined : maker === 0 ? this.ofQuery.get(graph.places.at(index)) : this.ofMade[graph.madeAt(maker, graph.places.at(index))];
-    const lane = known || this.begin(maker === Graph.NONE ? String(graph.numbers.at(index)) : `${maker}.${graph.places.at(index)}`, this.ring, index, null, maker === Graph.NONE ? index : null);
+    const index = this.ofStep.length, maker = graph.makers.at(index), place = graph.places.at(index);
+    const isAsked = maker === Graph.NONE, known = this.at(graph, maker, place);
+    const lane = known || this.begin(keyOf(graph.stepAt(index)), this.ring, index, { isAsked });
     this.ofStep.push(lane);
     lane.count += 1;
-    const own = maker === Graph.NONE ? undefined : kinds.ofConsumer(index);
+    const own = isAsked ? undefined : kinds.ofConsumer(index);
     notePredicate(lane, own, index);
     this.placeMade(graph, kinds, index, lane, own);
   }
@@ -233,7 +240,8 @@ class RunLanes {
         this.ofMade.push(lane);
         return;
       }
-      const before = goesOn >= 0 && place < goesOn ? lane : last.next, child = this.begin(`${number}.${place + 1}`, before, index, index, null);
+      const before = goesOn >= 0 && place < goesOn ? lane : last.next;
+      const child = this.begin(`${number}.${place + 1}`, before, index, { isMade: true });
       this.ofMade.push(child);
       if (before !== lane) last = child;
     });
@@ -251,13 +259,9 @@ class RunLanes {
   }
 }
 
-const movedIn = (to, index) => (index === null || index < 0 ? index : to[index]);
-
 /** Puts the places where steps stand now into a lane. */
 function moveUp(lane, to) {
-  lane.bornAt = movedIn(to, lane.bornAt);
-  lane.parent = movedIn(to, lane.parent);
-  lane.asked = movedIn(to, lane.asked);
+  if (lane.bornAt >= 0) lane.bornAt = to[lane.bornAt];
   for (let at = 0; at < lane.since.length; at++) lane.since[at] = to[lane.since[at]];
 }
 
@@ -283,17 +287,15 @@ function queryPlaces(run) {
 
 /** The lanes of a run that was not put into lanes yet. */
 function runLanes(run) {
-  const lanes = new RunLanes(), kinds = new GoalKinds(run);
-  lanes.beginQuery(queryPlaces(run));
-  while (lanes.ofStep.length < run.graph.count) lanes.add(run.graph, kinds);
-  finish(lanes.number());
+  const lanes = new RunLanes();
+  finish(lanes.follow(run));
   return lanes;
 }
 
 /** Which lane a lane is folded into, with all that came of it: the highest of its ancestors that is to be folded, by name; null where none is. */
 function foldsOf(whole, folded) {
   const known = new Map();
-  const parentOf = (lane) => (lane.parent === null ? null : whole.ofStep[lane.parent]);
+  const parentOf = (lane) => (lane.isMade ? whole.ofStep[lane.bornAt] : null);
   return (lane) => {
     const way = [];
     let at = lane;
@@ -311,35 +313,39 @@ function foldsOf(whole, folded) {
 }
 
 /**
- * The lanes of some steps of a run, from one index up to another, each with its steps and the goals that are there, of all lanes of the
- * run, which are numbered. `foldOf` gives the lane that a lane is folded into, or null.
+ * The lanes of some steps of a run, from one index up to another, each with its steps and the goals that are there, of
+ * all lanes of the run, which are numbered. `foldOf` gives the lane that a lane is folded into, or null; of lanes that
+ * are not shown nothing is there.
  * @param {(lane: any) => any} foldOf
+ * @param {(lane: any) => boolean} isShown
  */
-function lanesIn(run, whole, from, to, goals, foldOf = () => null) {
+function lanesIn(run, whole, from, to, goals, foldOf = () => null, isShown = () => true) {
   const { graph } = run, kinds = new GoalKinds(run), parts = new Map(), laneOf = new Map();
-  const kept = (index) => (index !== null && index >= from && index < to ? graph.stepAt(index) : null);
+  const isIn = (index) => index >= from && index < to && isShown(whole.ofStep[index]);
   const partOf = (own) => {
     const into = foldOf(own), lane = into || own;
     if (!parts.has(lane)) {
       const predicates = lane.predicates.filter((none, at) => lane.since[at] < graph.count);
-      const fresh = { isFolded: into !== null, parent: kept(lane.parent), asked: kept(lane.asked), predicates };
+      const isFolded = into !== null, born = isIn(lane.bornAt) ? graph.stepAt(lane.bornAt) : null;
+      const fresh = { isFolded, parent: lane.isMade ? born : null, asked: lane.isAsked ? born : null, predicates };
       parts.set(lane, { ...lane, ...fresh, steps: [], goals: [] });
     }
     return parts.get(lane);
   };
-  if (from === 0) for (const lane of whole.ofQuery.values()) partOf(lane);
+  if (from === 0) for (const lane of whole.ofQuery.values()) if (isShown(lane)) partOf(lane);
   for (let index = from; index < to; index++) {
+    if (!isIn(index)) continue;
     const part = partOf(whole.ofStep[index]), step = graph.stepAt(index);
     part.steps.push(step);
     laneOf.set(keyOf(step), part);
   }
   for (const goal of goals) {
     const lane = whole.ofGoal(graph, goal.name), kind = kinds.get(goal.name);
-    if (lane === undefined) continue;
+    if (lane === undefined || !isShown(lane)) continue;
     const part = partOf(lane);
     part.goals.push(goal);
     laneOf.set(goal.name, part);
-    if (kind && kind.predicate && !part.predicates.includes(kind.predicate)) part.predicates.push(kind.predicate);
+    if (kind?.predicate && !part.predicates.includes(kind.predicate)) part.predicates.push(kind.predicate);
   }
   return { lanes: [...parts.values()].sort((one, other) => one.index - other.index), laneOf, kinds };
 }
@@ -465,16 +471,15 @@ const arcWidth = (run, edges) => 10 + Math.max(0, ...edges.map((edge) => shownIn
 const MOST_TAKEN = 3; // steps that are shown beside their goal
 const taken = new WeakMap(); // by lists of steps that were taken back: those of each goal that is there
 
-/** Finds the steps that were taken back from each of some goals; yields after each step. */
+/** Finds the steps that were taken back from each of some goals; yields now and then. */
 function* gatherTaken(shelf, goals) {
   const there = goalsByKey(goals), byGoal = new Graph.PartedMap();
-  for (const step of shelf) {
+  for (const [at, step] of shelf.entries()) {
+    if (at % PART === 0) yield at;
     const key = step.goal === null ? null : keyOfName(step.goal);
-    if (key !== null && there.has(key)) {
-      if (!byGoal.has(key)) byGoal.set(key, []);
-      byGoal.get(key).push(step);
-    }
-    yield 0;
+    if (key === null || !there.has(key)) continue;
+    if (!byGoal.has(key)) byGoal.set(key, []);
+    byGoal.get(key).push(step);
   }
   taken.set(shelf, byGoal);
 }
@@ -589,8 +594,7 @@ function shrink(view, options) {
  */
 function layout(run, options) {
   const { lanes, laneOf, kinds } = run.placed || lanesOf(run);
-  const place = new Map(run.graph.steps.map((step, index) => [step.number, index]));
-  const columnOf = options.by === "depth" ? (step) => run.graph.depth.get(step.number) : (step) => place.get(step.number);
+  const columnOf = ({ number }) => (options.by === "depth" ? run.graph.depth.get(number) : run.graph.indexOf(number));
   const columns = run.graph.steps.reduce((most, step) => Math.max(most, columnOf(step) + 1), options.leastColumns || 0);
   const rows = new Map(), store = run.store || run.graph.store;
   const makerOf = new Map(run.graph.steps.flatMap((step) => step.makes.map((goal) => [goal, step])));

@@ -24,9 +24,9 @@ class RunModel {
   }
 
   /**
-   * Follows what the worker tells. Steps have gone (`gone`, their numbers); or the first `kept` steps stay, all later ones go, and those of
-   * `lines` come. Beside it stand the lines of `goals` and `shelf`, one after the other, and texts. It yields how many steps
-   * are read, each time that it may pause; `isWhole` is false until it has ended.
+   * Follows what the worker tells. Steps have gone (`gone`, their numbers); or the first `kept` steps stay, all later
+   * ones go, and those of `lines` come. Beside it stand the lines of `goals` and `shelf`, one after another, and texts.
+   * It yields each time that it may pause; `isWhole` is false until it has ended.
    */
   *change(look, lines) {
     this.version += 1;
@@ -37,30 +37,22 @@ class RunModel {
       yield* this.add(lines);
     }
     this.goals = yield* this.inParts(look.goals, Replies.readGoals);
-    yield* this.often(Lanes.gatherNames(this.goals));
+    yield* Lanes.gatherNames(this.goals);
     this.goalsRefused = look.goalsRefused;
-    yield* this.addLanes();
-    yield* this.lanes.number();
+    yield* this.lanes.follow(this);
     for (const [name, text] of look.texts) this.texts.set(name, text);
     this.shelf = yield* this.inParts(look.shelf, Replies.readShelf);
-    yield* this.often(Lanes.gatherTaken(this.shelf, this.goals));
+    yield* Lanes.gatherTaken(this.shelf, this.goals);
     this.version += 1;
     this.isWhole = true;
-  }
-
-  /** Does what yields after each goal or step; yields now and then. */
-  *often(parts) {
-    for (let count = 1; !parts.next().done; count++) if (count % PART === 0) yield this.graph.count;
   }
 
   /** What lines tell, read one by one. */
   *inParts(lines, read) {
     const all = [];
-    let count = 0;
     for (const line of lines) {
       all.push(...read([line]));
-      count += 1;
-      if (count % PART === 0) yield this.graph.count;
+      if (all.length % PART === 0) yield this.graph.count;
     }
     return all;
   }
@@ -109,15 +101,6 @@ class RunModel {
       first = Math.min(first, index);
     }
     return first;
-  }
-
-  *addLanes() {
-    const { graph, lanes } = this, kinds = new Lanes.GoalKinds(this);
-    if (lanes.lanes.length === 0) lanes.beginQuery(Lanes.queryPlaces(this));
-    while (lanes.ofStep.length < graph.count) {
-      lanes.add(graph, kinds);
-      if (lanes.ofStep.length % PART === 0) yield graph.count;
-    }
   }
 }
 
