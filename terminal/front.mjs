@@ -161,7 +161,7 @@ class Front {
     this.question = undefined;
     if (question !== undefined && isYes(typed)) return question();
     if (question !== undefined && isNo(typed)) return this.note("the session stands");
-    if (this.blaming.isAnswer(typed.trim())) return this.answerQuestion(typed.trim());
+    if (this.blaming.isAnswer(typed.trim())) return this.judge(typed.trim(), [], typed.trim());
     const meaning = meaningOf(typed, this.session.variables);
     return meaning.name === undefined ? this.passOn(meaning, typed) : this.act(meaning, typed);
   }
@@ -275,7 +275,9 @@ class Front {
   }
 
   async on_undo({ words }) {
-    return words.length > 0 ? false : this.takeBack();
+    if (words.length > 0) return false;
+    await this.takeBack();
+    return true;
   }
 
   async on_back({ words: [word = "1"] }) {

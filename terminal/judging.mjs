@@ -3,7 +3,6 @@
 // told whether one could.
 import { meant, usageOf } from "../front/protocol/commands.mjs";
 import * as Replies from "../front/protocol/replies.mjs";
-import { afterBlame } from "../front/run/blame_words.mjs";
 import { linesOf } from "../front/run/other_choices.mjs";
 import * as Own from "../front/run/own.mjs";
 import { plural } from "../front/run/reasons.mjs";
@@ -15,29 +14,24 @@ const NO_MEMORY = "memory was refused for the history, so that no other choice c
 
 const Judging = part({
   /** Alone it asks the open question again. */
-  async on_blame({ words }, typed) {
-    return this.blame(this.blaming.lineOf(words), typed);
+  on_blame({ words }, typed) {
+    return this.judge("blame", words, typed);
   },
 
-  async answerQuestion(word) {
-    const line = this.blaming.lineWith(word);
-    return line === undefined ? this.note(this.blaming.whyNoLine(word)) : this.blame(line, word);
+  on_trust({ words }) {
+    return this.judge("trust", words, "");
   },
 
-  async blame(given, typed) {
+  /** Tells what `blame`, `trust` or an answer means, and asks what is to be asked then. */
+  async judge(name, words, typed) {
+    const { told, line: given } = this.blaming.asked(name, words);
+    this.note(...told);
+    if (given === undefined) return;
     const { line, reply, notes } = await this.blaming.ask(given, () => this.isInterrupted);
     this.note(...notes);
     this.echo(line, typed);
     await this.show(reply);
-    if (reply[0] === "F25 command") return this.note(usageOf("blame"));
-    const meaning = meant("blame", ...line.split(" ").slice(1));
-    const added = Replies.isRefused(reply) ? notesAfter(this.session, meaning, reply) : afterBlame(this.session, line, reply);
-    return this.note(...await added);
-  },
-
-  async on_trust({ words: [word] }) {
-    this.note(...this.blaming.trustLines(word));
-    return this.blaming.isTrusted ? this.blame(this.blaming.line, "") : undefined;
+    this.note(...await this.blaming.wordsAfter(line, reply));
   },
 
   async on_choices({ words: [word, ...more] }) {

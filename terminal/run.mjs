@@ -13,13 +13,6 @@ import { addLines, endWith, statusOfGoals, withSession, write, STATUS } from "./
 const LEAP = meant("leap");
 const TOO_LONG = "the run has taken as many steps as a run may, and goals are ready still";
 
-/** The line that tells the value of each variable of the query, or the refusal, by the variable's name. */
-async function answersOf(session) {
-  const answers = new Map();
-  for (const name of session.variables) answers.set(name, (await session.ask(`show ${name}`))[0]);
-  return answers;
-}
-
 /** The status of values that are not told. */
 function statusOfAnswers(answers) {
   const refusals = [...answers.values()].filter(Replies.isRefusal);
@@ -63,7 +56,7 @@ async function notesOnAll(session, stop, answers, status) {
 /** Runs a session to its end, and tells the values of the query's variables. The status. */
 async function runToEnd(session, expected, errors) {
   const stop = (await session.ask(LEAP.line, async () => {})).at(-1), ofGoals = await statusOfGoals(session);
-  const answers = await answersOf(session), lines = [...answers.values()].filter((line) => !Replies.isRefusal(line));
+  const answers = await session.answers(), lines = [...answers.values()].filter((line) => !Replies.isRefusal(line));
   await write(lines.map((line) => `${line}\n`).join(""), "latin1");
   const others = expected.map((one) => whyOther(one, answers.get(one.name))).filter((why) => why !== undefined);
   addLines(errors, [...await notesOnAll(session, stop, answers, ofGoals), ...others]);

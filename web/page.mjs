@@ -2,7 +2,6 @@
 import * as Replies from "../front/protocol/replies.mjs";
 import * as SessionText from "../front/protocol/session_text.mjs";
 import * as Graph from "../front/run/graph.mjs";
-import * as Lanes from "../front/run/lanes.mjs";
 import * as Answers from "./answers.mjs";
 import Beside from "./beside.mjs";
 import * as Blaming from "./blaming.mjs";
@@ -195,9 +194,8 @@ function setTheme(theme) {
 
 /** Puts the record into another lawful order, in which each process goes on as far as it can. */
 function tidy() {
-  const { laneOf: ofGoal } = Lanes.lanesOf(State.run), { byNumber } = State.run.graph;
-  const laneOf = (number) => ofGoal.get(byNumber.get(number).goal === null ? String(number) : byNumber.get(number).goal);
-  Talk.send(`arrange ${Graph.tidyOrder(State.run.graph, laneOf).join(" ")}`).then(() => setOrder("record"));
+  const { graph, lanes } = State.run, laneOf = (number) => lanes.ofStep[graph.indexOf(number)];
+  Talk.send(`arrange ${Graph.tidyOrder(graph, laneOf).join(" ")}`).then(() => setOrder("record"));
 }
 
 const showHelp = () => find("help").showModal();

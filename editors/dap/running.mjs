@@ -117,14 +117,8 @@ export default requests({
       return [this.breakpoints.reasonOf("stuck"), text];
     }
     if (goals.length > 0) return ["pause", "the input streams are open: `in 1 TERM` feeds one"];
-    this.tell(["all is done", ...await this.answers()], "important");
+    this.tell(["all is done", ...(await this.session.answers()).values()], "important");
     return ["pause", "all is done: step back, or end"];
-  },
-
-  async answers() {
-    const lines = [];
-    for (const name of this.session.variables) lines.push(...await this.session.ask(`show ${name}`));
-    return lines;
   },
 
   /** Runs what comes of a goal. Such a run cannot be cut into slices: a pause ends it, and the session is as before it. */

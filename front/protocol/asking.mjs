@@ -29,7 +29,7 @@ function whereItStands(session, query) {
 function addCalls(texts, lines) {
   for (const line of lines) {
     const call = Replies.readCall(line);
-    if (call !== null) texts.set(call.name, Short.term(call.text));
+    if (call !== null) texts.set(call.name, Short.goalText(call.text));
   }
 }
 
@@ -44,7 +44,7 @@ function completeTexts(texts, steps, session) {
     const text = textOfGoal(session.line(`goal ${step.number}`));
     if (text === undefined) continue;
     letters += text.length;
-    texts.set(step.goal, Short.term(text));
+    texts.set(step.goal, Short.goalText(text));
   }
   return true;
 }

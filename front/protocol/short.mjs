@@ -1,5 +1,6 @@
 // Shortens terms that are too long to be shown, before the worker hands them over: `…` stands for what is left out. Pure.
 import { joined } from "../text/bytes.mjs";
+import * as Printed from "../text/printed.mjs";
 import { openBrackets } from "../text/tokens.mjs";
 import * as Replies from "./replies.mjs";
 
@@ -18,6 +19,15 @@ function term(text, most = MOST) {
   return `${isRest ? `${text.slice(0, end - 1)}|` : text.slice(0, end)}…${open.reverse().map((bracket) => CLOSING[bracket]).join("")}`;
 }
 
+const arityOf = (call) => Number(Printed.predicateOf(call).split("/")[1]);
+
+/** The same of a goal's text: of a call each later argument is `…`, too, so that its predicate is the same. */
+function goalText(text, most = MOST) {
+  const short = term(text, most), isCall = Printed.sortOfText(text) === "call" && short.endsWith(")");
+  if (short === text || !isCall) return short;
+  return `${short.slice(0, -1)}${",…".repeat(arityOf(text) - arityOf(short))})`;
+}
+
 /** A line of `records`, with the terms that its step bound shortened. */
 const record = (line, most = MOST) => (line.length <= most ? line : Replies.withTerms(line, (bound) => term(bound, most)));
 
@@ -25,7 +35,7 @@ const record = (line, most = MOST) => (line.length <= most ? line : Replies.with
 function goal(line, most = MOST) {
   if (line.length <= most) return line;
   const before = Replies.beforeGoal(line);
-  return before + term(line.slice(before.length), most);
+  return before + goalText(line.slice(before.length), most);
 }
 
 /** A line of any reply, with its terms shortened; the same where it is short, or tells none. */
@@ -50,4 +60,4 @@ function lines(bytes, shorten, most = MOST) {
   return parts.length === 0 ? bytes : joined([...parts, bytes.subarray(taken)]);
 }
 
-export { term, record, goal, line, lines, MOST };
+export { term, goalText, record, goal, line, lines, MOST };

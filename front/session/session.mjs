@@ -150,6 +150,13 @@ class Session {
     });
   }
 
+  /** The line that tells the value of each variable of the query, or the refusal, by the variable's name. */
+  async answers() {
+    const answers = new Map();
+    for (const name of this.variables) answers.set(name, (await this.ask(`show ${name}`))[0]);
+    return answers;
+  }
+
   async goalNamed(name) {
     return (await this.goals()).find((goal) => goal.name === name);
   }

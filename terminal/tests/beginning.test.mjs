@@ -29,6 +29,7 @@ test("another query begins anew on the same program, and what is not saved is as
   const rows = [
     ["query", "% the query is price(2,P)", "% usage: query GOALS      begin anew with another query, on the same program"],
     ["query price(3, Q), true", "% begun anew with the query price(3, Q), true"],
+    ["undo", "% no step is kept"],
     ["goals", "0.1 ready price(3,_0_1)"],
     ["leap 2", "REDU 1 0.1 by 1", "REDU 2 1.1 is", "stopped quiet", "% all is done"],
     ["query price(5,R).", ASKS],

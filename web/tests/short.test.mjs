@@ -24,7 +24,7 @@ test("a record's step, and a goal, are read from their shortened lines as from t
   assert.equal(short, "3 0.1 by 12 reads _0_1,_0_2 binds _0_1=_0_2;_0_2=[a,f(…)];_0_3=1 makes 3.1,3.2");
   const [whole, read] = Replies.readRecords([line, short]);
   assert.deepEqual({ ...read, binds: [] }, { ...whole, binds: [] });
-  assert.equal(Short.goal("1.2 waits _1_1,_1_2 p(f(a,b,c),_1_1)", 8), "1.2 waits _1_1,_1_2 p(f(a,b,…))");
+  assert.equal(Short.goal("1.2 waits _1_1,_1_2 p(f(a,b,c),_1_1)", 8), "1.2 waits _1_1,_1_2 p(f(a,b,…),…)", "it has as many arguments");
   const bytes = new TextEncoder().encode(`${line}\n1 0.1 eq reads - binds - makes -\n`);
   assert.equal(Short.lines(bytes, Short.record), bytes, "the same bytes where nothing is long");
   assert.equal(new TextDecoder().decode(Short.lines(bytes, (one) => one.slice(0, 5), 40)), "3 0.1\n1 0.1 eq reads - binds - makes -\n");
