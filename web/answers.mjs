@@ -7,17 +7,13 @@ import Deeds from "./deeds.mjs";
 import { find, make, joined, linkedLine } from "./elements.mjs";
 import * as Names from "./names.mjs";
 import State from "./state.mjs";
+import { HOLE, AGAIN, isBroken } from "./whole_texts.mjs";
 
 const MOST_SHOWN = 8; // lines
 const MOST_NOTED = 200000; // letters: of a longer program no notes are made, and no cause of a refusal is looked for
 const TOO_LONG = "The program is so long that the page does not look for the cause.";
-const HOLE = "memory was refused for a line of it (F1 no memory)";
-const AGAIN = "Undo or roll some steps, then type save again";
 
 const wordsOf = (line) => line.trim().replace(/ +/g, " ");
-
-/** Is the entry a history with a hole? It changes nothing where it is played again, and it is none. */
-const isBroken = (entry) => entry.line.trim().startsWith("save") && Replies.hasHole(entry.reply.join("\n"));
 
 /** Says something above the picture: `isBad` where something was refused. */
 function put(isBad, ...parts) {
@@ -127,4 +123,4 @@ function show(what, fresh) {
   }
 }
 
-export { HOLE, AGAIN, isBroken, show, hide, put, showRefusal, notesOn };
+export { show, hide, put, showRefusal, notesOn };

@@ -7,12 +7,12 @@ import Deeds from "./deeds.mjs";
 import { find, make, goTo } from "./elements.mjs";
 import Naming from "./naming.mjs";
 import * as Picture from "./picture.mjs";
+import Shown from "./shown.mjs";
 import * as StepWords from "./step_words.mjs";
 import State from "./state.mjs";
 import * as Talk from "./talk.mjs";
 
 const MOST_STEPS = 600; // of a run that is kept beside
-const beside = { kept: null };
 
 /** The run as it is now, which goes on no more. */
 function frozen() {
@@ -30,14 +30,14 @@ function keep() {
     Deeds.tell(true, `This run has more than ${MOST_STEPS} steps: too many to be seen beside another one. Save keeps it as a file.`);
     return false;
   }
-  beside.kept = frozen();
+  Shown.kept = frozen();
   Deeds.setOrder("depth");
   Deeds.showNote();
   return true;
 }
 
 function drop() {
-  beside.kept = null;
+  Shown.kept = null;
   Deeds.draw();
   Deeds.showNote();
 }
@@ -50,19 +50,19 @@ function tryClause(number, clause) {
 
 /** The run that was kept goes on, and this one is kept. */
 function swap() {
-  const { kept } = beside, now = frozen();
+  const { kept } = Shown, now = frozen();
   Deeds.begin(kept.given, kept.lines);
-  beside.kept = now;
+  Shown.kept = now;
 }
 
-const isOn = () => beside.kept !== null;
+const isOn = () => Shown.kept !== null;
 
 /** A session of another program or query drops what was kept. */
 function follow() {
-  if (isOn() && (beside.kept.given.program !== State.given.program || beside.kept.given.query !== State.given.query)) beside.kept = null;
+  if (isOn() && (Shown.kept.given.program !== State.given.program || Shown.kept.given.query !== State.given.query)) Shown.kept = null;
 }
 
-const told = () => Compare.compare(beside.kept.graph, State.run.graph);
+const told = () => Compare.compare(Shown.kept.graph, State.run.graph);
 
 /** Rings the steps that the other run has not. */
 function ringAlone(area, name, isAlone) {
@@ -77,9 +77,9 @@ function draw(options) {
     area.textContent = "";
     return;
   }
-  const drawn = Picture.draw(beside.kept, { ...options, by: "depth", scope: "kept", leastColumns: columns(), legend: false, shown: beside.kept.shown });
+  const drawn = Picture.draw(Shown.kept, { ...options, by: "depth", scope: "kept", leastColumns: columns(), legend: false, shown: Shown.kept.shown });
   const picture = drawn.svg.replace(/ data-step="/g, ' data-kept="').replace(/ data-(goal|taken|goto|unfold|from-goal|to-goal)="/g, ' data-kept-$1="');
-  area.replaceChildren(Deeds.resultOf(beside.kept));
+  area.replaceChildren(Deeds.resultOf(Shown.kept));
   area.insertAdjacentHTML("beforeend", picture);
   if (!isComparable()) return;
   const { pairs } = told(), others = new Set(pairs.values());
@@ -88,14 +88,14 @@ function draw(options) {
 }
 
 /** As many columns as the deeper of both runs has. */
-const columns = () => (isOn() ? Math.max(beside.kept.graph.deepestChain, Math.min(State.run.graph.deepestChain, MOST_STEPS)) : 0);
+const columns = () => (isOn() ? Math.max(Shown.kept.graph.deepestChain, Math.min(State.run.graph.deepestChain, MOST_STEPS)) : 0);
 
 /** What is said of both runs. */
 function noteParts() {
   if (!isOn()) return [];
   const drops = make("button", { class: "small", id: "drop-run" }, "Drop it");
   if (!isComparable()) return [`Above is the run that you kept. This one has more than ${MOST_STEPS} steps: too many to be compared. `, drops];
-  const { pairs, alone, otherAlone, first, instead } = told(), step = first === null ? null : beside.kept.graph.byNumber.get(first);
+  const { pairs, alone, otherAlone, first, instead } = told(), step = first === null ? null : Shown.kept.graph.byNumber.get(first);
   const words = first === null ? "" : ` The first that differs: step ${first} above (${StepWords.of(step)})`;
   return [`Above is the run that you kept. ${plural(pairs.size, "step")} in both, ${alone} in that one alone, ${otherAlone} in this one (ringed).${words}`,
     ...(instead === null ? [] : [", here step ", goTo(instead), ` (${StepWords.of(State.run.graph.byNumber.get(instead))})`]), first === null ? "" : ".", " ",
@@ -107,11 +107,7 @@ function onClick(number) {
   const pairs = isComparable() ? told().pairs : new Map();
   if (pairs.has(number)) {
     Deeds.goTo({ step: pairs.get(number) });
-  } else Deeds.tell(false, `Only in the run that was kept: ${Terms.cut(beside.kept.shown(Picture.tellStep(beside.kept, beside.kept.graph.byNumber.get(number))).split("\n").join(", "), 300)}`);
+  } else Deeds.tell(false, `Only in the run that was kept: ${Terms.cut(Shown.kept.shown(Picture.tellStep(Shown.kept, Shown.kept.graph.byNumber.get(number))).split("\n").join(", "), 300)}`);
 }
 
-const Beside = Object.assign(beside, {
-  isComparable, isOn, keep, drop, swap, tryClause, follow, draw, columns, noteParts, onClick,
-});
-
-export default Beside;
+export { isComparable, isOn, keep, drop, swap, tryClause, follow, draw, columns, noteParts, onClick };

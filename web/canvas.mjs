@@ -1,6 +1,5 @@
 // Shows the picture of the run: what is chosen with its causes and effects, keys, and names that stay in sight.
 import * as Graph from "../front/run/graph.mjs";
-import Beside from "./beside.mjs";
 import Deeds from "./deeds.mjs";
 import { find } from "./elements.mjs";
 import * as Names from "./names.mjs";
@@ -9,7 +8,7 @@ import * as Picture from "./picture.mjs";
 import Shown from "./shown.mjs";
 import State from "./state.mjs";
 
-const canvas = { way: new Set(), others: new Set(), view: null, get chosen() { return Shown.chosen; } };
+const canvas = { way: new Set(), others: new Set(), get chosen() { return Shown.chosen; } };
 const LEGEND = 70; // points below the lanes
 const LEAST_OF_TWO = 150; // points that each of two runs is high
 const HALO = 4; // points around a mark, of its halo
@@ -30,7 +29,7 @@ function mark(selector, classes) {
  * runs share what there is.
  */
 function highOf(area) {
-  if (Beside.isOn()) return Math.max(LEAST_OF_TWO, (area.clientHeight + find("beside").offsetHeight) / 2 - LEGEND);
+  if (Shown.kept !== null) return Math.max(LEAST_OF_TWO, (area.clientHeight + find("beside").offsetHeight) / 2 - LEGEND);
   return Shown.fit !== "none" || OnScreen.only !== null ? Math.max(120, area.clientHeight - LEGEND) : undefined;
 }
 
@@ -38,7 +37,7 @@ function highOf(area) {
 function draw() {
   if (State.refusal || !State.session) {
     find("canvas").textContent = "";
-    canvas.view = null;
+    OnScreen.drawn = null;
     return;
   }
   if (!State.run.isWhole) return; // when all of a change is read, it is drawn
@@ -46,10 +45,10 @@ function draw() {
   const room = Math.max(320, area.clientWidth - 8) * (OnScreen.isOn() || Shown.fit !== "none" ? 1 : Shown.zoom);
   const high = highOf(area);
   Deeds.drawStrip();
-  const drawn = Picture.draw(OnScreen.shownRun(), { by: Shown.by, theme: Shown.theme, room, high, leastColumns: Shown.by === "depth" ? Beside.columns() : 0, legend: true, titles: false, isWhole: true, shown: Names.shown });
+  const drawn = Picture.draw(OnScreen.shownRun(), { by: Shown.by, theme: Shown.theme, room, high, leastColumns: Shown.by === "depth" ? Deeds.besideColumns() : 0, legend: true, titles: false, isWhole: true, shown: Names.shown });
   area.innerHTML = drawn.svg;
-  Beside.draw({ theme: Shown.theme, room, high, titles: false });
-  canvas.view = drawn.view;
+  Deeds.drawBeside({ theme: Shown.theme, room, high, titles: false });
+  OnScreen.drawn = drawn.view;
   if (Shown.chosen && !isThere(Shown.chosen)) Shown.chosen = null;
   if (isScrolled) stayInSight();
   if (Shown.chosen || Shown.slice || Shown.asked || canvas.way.size > 0 || OnScreen.hits.length > 0) showChosen();
@@ -57,7 +56,7 @@ function draw() {
 
 const isGoal = (goal) => OnScreen.run().goals.some(({ name }) => name === goal);
 const isThere = ({ step, goal }) => (step !== undefined ? State.run.graph.byNumber.has(step) : isGoal(goal));
-const placeOf = (chosen) => (chosen.step !== undefined ? canvas.view.marks.get(chosen.step) : canvas.view.goals.get(chosen.goal));
+const placeOf = (chosen) => (chosen.step !== undefined ? OnScreen.drawn.marks.get(chosen.step) : OnScreen.drawn.goals.get(chosen.goal));
 
 /** The element of a step or goal in the picture. */
 function elementOf(chosen) {
@@ -178,7 +177,7 @@ function stayInSight() {
   if (!svg) return;
   for (const part of svg.querySelectorAll(".names, .legend")) part.setAttribute("transform", across);
   svg.querySelector(".axis").setAttribute("transform", `translate(0 ${area.scrollTop})`);
-  const { left, ticks } = canvas.view, words = [...svg.querySelectorAll(".axis text")], name = words.pop();
+  const { left, ticks } = OnScreen.drawn, words = [...svg.querySelectorAll(".axis text")], name = words.pop();
   words.forEach((word, at) => { word.style.display = area.scrollLeft > 0 && ticks[at].x - ticks[at].text.length * TICK_LETTER - area.scrollLeft < left - 6 ? "none" : ""; });
   name.setAttribute("transform", across);
 }
@@ -203,14 +202,14 @@ function scrollFor(now, room, covered, low, high) {
 
 /** Where to scroll across to see all steps, if not all words behind the last one; undefined where they have no room. */
 function acrossAll({ clientWidth }) {
-  const { left, sizes, marks: places } = canvas.view, all = [...places.values()].map(({ x }) => x);
+  const { left, sizes, marks: places } = OnScreen.drawn, all = [...places.values()].map(({ x }) => x);
   const around = sizes.radius + HALO;
   return scrollFor(0, clientWidth, left - BESIDE_NAMES, Math.min(...all) - around, Math.max(...all) + around);
 }
 
 /** Where to scroll across to see what is there now, at the right; where no goal is there, to see all steps. */
 function acrossThere(area) {
-  const { thereX, left, goals, marks: places } = canvas.view, { clientWidth } = area;
+  const { thereX, left, goals, marks: places } = OnScreen.drawn, { clientWidth } = area;
   const all = goals.size === 0 && places.size > 0 ? acrossAll(area) : undefined;
   const beyond = thereX - clientWidth + Math.min(clientWidth - left - 40, 260);
   return all ?? Math.max(0, Math.min(beyond, area.scrollWidth - clientWidth));
@@ -218,8 +217,8 @@ function acrossThere(area) {
 
 /** After lines: scrolls to what is there now, the goals at the right, and the first that is ready among them. */
 function showThere() {
-  const area = find("canvas"), places = canvas.view ? [...canvas.view.goals.values()] : [];
-  if (Shown.chosen !== null || !canvas.view) return;
+  const area = find("canvas"), places = OnScreen.drawn ? [...OnScreen.drawn.goals.values()] : [];
+  if (Shown.chosen !== null || !OnScreen.drawn) return;
   const first = places.find((place) => place.goal.status === "ready") || places[0];
   const isAway = first && (first.y < area.scrollTop + 40 || first.y > area.scrollTop + area.clientHeight - 20);
   scroll(acrossThere(area), isAway ? Math.max(0, first.y - area.clientHeight / 2) : area.scrollTop);
@@ -229,9 +228,9 @@ function showThere() {
 function scrollTo(chosen) {
   const hasMoved = chosen.step !== undefined && OnScreen.show(chosen.step);
   if (hasMoved) draw();
-  const area = find("canvas"), place = canvas.view && placeOf(chosen);
+  const area = find("canvas"), place = OnScreen.drawn && placeOf(chosen);
   if (!place) return;
-  const { left } = canvas.view;
+  const { left } = OnScreen.drawn;
   let { scrollLeft: toLeft, scrollTop: toTop } = area;
   if (hasMoved) toLeft = 0;
   if (place.x - left < toLeft) toLeft = Math.max(0, place.x - left - 60);
@@ -243,7 +242,7 @@ function scrollTo(chosen) {
 
 /** Scrolls so far that all steps are in sight that are lit; says whether there is room for them. */
 function scrollToLit() {
-  const area = find("canvas"), { graph } = State.run, { left, top, sizes, marks: places } = canvas.view;
+  const area = find("canvas"), { graph } = State.run, { left, top, sizes, marks: places } = OnScreen.drawn;
   const lit = [...places].filter(([number]) => Shown.slice.isIn[graph.indexOf(number)] === 1);
   const endsOf = (values) => [Math.min(...values) - sizes.radius - HALO, Math.max(...values) + sizes.radius + HALO];
   const across = endsOf(lit.map(([, { x }]) => x)), down = endsOf(lit.map(([, { y }]) => y));
@@ -256,8 +255,8 @@ function scrollToLit() {
 
 /** All that can be chosen of what is shown, in the order of the picture: the steps, then the goals. */
 function choices() {
-  if (canvas.view === null) return [];
-  const { marks: steps, goals } = canvas.view;
+  if (OnScreen.drawn === null) return [];
+  const { marks: steps, goals } = OnScreen.drawn;
   return [...[...steps.keys()].map((step) => ({ step })), ...[...goals.keys()].map((goal) => ({ goal }))];
 }
 

@@ -5,16 +5,15 @@ import * as Graph from "../front/run/graph.mjs";
 import * as Lanes from "../front/run/lanes.mjs";
 import * as Terms from "../front/run/terms.mjs";
 import { queryOf } from "../front/text/query_comment.mjs";
-import { HOLE, AGAIN, isBroken } from "./answers.mjs";
 import Deeds from "./deeds.mjs";
 import { find, make } from "./elements.mjs";
 import * as Names from "./names.mjs";
 import OnScreen from "./on_screen.mjs";
 import * as Picture from "./picture.mjs";
-import * as Program from "./program.mjs";
 import Shown from "./shown.mjs";
 import State from "./state.mjs";
 import * as Talk from "./talk.mjs";
+import { HOLE, AGAIN, isBroken, isTooLong, tellTooLong } from "./whole_texts.mjs";
 
 const MOST_PIXELS = 60e6; // of a PNG
 const ROOM_ON_PAPER = 1100; // points
@@ -89,7 +88,7 @@ function saveSession() {
 
 /** A program that was opened, on the query that its comment names, else on the one that stands here. */
 function readProgram(text) {
-  if (Program.isTooLong(text)) throw new RangeError(Program.tellTooLong(text));
+  if (isTooLong(text)) throw new RangeError(tellTooLong(text));
   return { program: text, query: queryOf(text) || Deeds.typed().query, history: "", ...NO_LINES };
 }
 

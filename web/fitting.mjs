@@ -1,5 +1,5 @@
 // How much of the run the picture shows at once: as much as can be read, all of it, or all that is lit.
-import Canvas from "./canvas.mjs";
+import Deeds from "./deeds.mjs";
 import { find } from "./elements.mjs";
 import OnScreen from "./on_screen.mjs";
 import Shown from "./shown.mjs";
@@ -19,7 +19,7 @@ function set(what) {
 /** All of the run in the window, or as usual again. */
 function toggle() {
   set(Shown.fit === "none" ? "run" : "none");
-  Canvas.draw();
+  Deeds.draw();
 }
 
 /** Draws all larger, or smaller, by a factor; of a long run the window has fewer steps then, or more. */
@@ -27,7 +27,7 @@ function size(by) {
   if (Shown.fit !== "none") set("none");
   if (OnScreen.isOn()) OnScreen.zoom(by);
   else Shown.zoom = Math.max(LEAST_ZOOM, Math.min(Shown.zoom * by, MOST_ZOOM));
-  Canvas.draw();
+  Deeds.draw();
 }
 
 /** With the next line the light goes, and the picture is as usual again. */
@@ -44,7 +44,7 @@ function moveWindow(first, steps) {
   if (!OnScreen.isOn() || (first >= OnScreen.from && first + steps <= OnScreen.from + room)) return false;
   if (steps > room) OnScreen.size = steps;
   OnScreen.from = first - Math.max(0, (room - steps) / 2);
-  Canvas.draw();
+  Deeds.draw();
   return steps > room;
 }
 
@@ -54,16 +54,16 @@ function moveWindow(first, steps) {
  */
 function showLit() {
   const first = Shown.slice === null ? -1 : Shown.slice.isIn.indexOf(1);
-  if (first < 0 || Canvas.view === null) return;
+  if (first < 0 || OnScreen.drawn === null) return;
   const last = Shown.slice.isIn.lastIndexOf(1), steps = last - first + 1;
   if (find("canvas").clientWidth < NARROW || steps > OnScreen.LEAST_STEPS) {
-    Canvas.scrollTo({ step: State.run.graph.numbers.at(last) });
+    Deeds.scrollTo({ step: State.run.graph.numbers.at(last) });
     return;
   }
   const isWider = moveWindow(first, steps);
-  if (!isWider && Canvas.scrollToLit()) return;
+  if (!isWider && Deeds.scrollToLit()) return;
   set("lit");
-  Canvas.draw();
+  Deeds.draw();
 }
 
 export { toggle, size, endLit, showLit };

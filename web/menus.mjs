@@ -211,7 +211,7 @@ function covered(boxes, place, width, height) {
 
 /** Places for a menu beside what it belongs to, the nearest first, and below the picture, all of them within the run's part of the page. */
 function placesFor(box, width, height) {
-  const svg = find("canvas").querySelector("svg"), bottom = svg ? svg.getBoundingClientRect().top + Deeds.lanesBottom() : box.bottom;
+  const svg = find("canvas").querySelector("svg"), bottom = svg ? svg.getBoundingClientRect().top + OnScreen.drawn.bottom : box.bottom;
   const right = box.right + OFFSET, left = box.left - width - OFFSET, below = box.bottom + OFFSET, above = box.top - height - OFFSET;
   const all = [{ x: right, y: below }, { x: right, y: above }, { x: left, y: below }, { x: left, y: above }, { x: box.left, y: bottom + 6 }, { x: right, y: bottom + 6 }];
   const area = find("view").getBoundingClientRect();

@@ -12,8 +12,8 @@ const LEAST_SIZE = 6, MOST_SIZE = 600; // steps in the window
 const MOST_GOALS = 120; // that the picture shows
 // `size` is null until somebody sets it; `until` is how many steps of the record are shown, null for all of them;
 // `earlier` is the run as it was after these, null where the present one stands for it; `only` are goals whose lanes
-// alone are shown, null for all.
-const onScreen = { from: 0, size: null, until: null, earlier: null, only: null, hits: [], folded: new Set(), wasCount: 0 };
+// alone are shown, null for all; `drawn` is where the picture has its marks, goals and lanes, null where it shows none.
+const onScreen = { drawn: null, from: 0, size: null, until: null, earlier: null, only: null, hits: [], folded: new Set(), wasCount: 0 };
 
 /** The run at the time that is on the screen. */
 const run = () => onScreen.earlier || State.run;

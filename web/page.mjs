@@ -3,7 +3,7 @@ import * as Replies from "../front/protocol/replies.mjs";
 import * as SessionText from "../front/protocol/session_text.mjs";
 import * as Graph from "../front/run/graph.mjs";
 import * as Answers from "./answers.mjs";
-import Beside from "./beside.mjs";
+import * as Beside from "./beside.mjs";
 import * as Blaming from "./blaming.mjs";
 import Canvas from "./canvas.mjs";
 import * as Choosing from "./choosing.mjs";
@@ -452,11 +452,11 @@ const doers = {
   showTab, setOrder, showNow: Looking.showNow, showTime: () => PARTS_OF_TIME.forEach((part) => part()), timeRows: Panels.timeRows, showNote: Panels.showNote, showDetail: (chosen) => { Panels.showDetail(chosen); Trail.look(chosen); },
   draw: Canvas.draw, drawStrip: Overview.draw, goToPart: Overview.goTo,
   choose: Canvas.choose, scrollTo: Canvas.scrollTo, goTo, visit: Canvas.visit, markWay: Canvas.markWay, ring: Canvas.ring,
-  showSlice: Canvas.showSlice, showAsked: Canvas.showAsked, lanesBottom: () => Canvas.view.bottom,
+  showSlice: Canvas.showSlice, showAsked: Canvas.showAsked, showFlags: Canvas.showFlags, scrollToLit: Canvas.scrollToLit,
   markClause: Program.markClause, markLit: Program.markLit, showPlace: Program.showPlace, lightClause, size: Fitting.size, selectRange: Selecting.selectRange,
   resultOf: Result.ofKept, tell: Answers.put, hideAnswer: Answers.hide, tellSlice: Resting.tell, openMenu: Menus.open, askFirst: Menus.askFirst,
   showRefusal: Answers.showRefusal, notesOn: Answers.notesOn,
-  whyInShort: Why.inShort, besideParts: Beside.noteParts, canKeepRun: Beside.isComparable, keepRun: Beside.keep,
+  whyInShort: Why.inShort, drawBeside: Beside.draw, besideColumns: Beside.columns, besideParts: Beside.noteParts, canKeepRun: Beside.isComparable, keepRun: Beside.keep,
   looked: Trail.saved, takeUpLooked: Trail.takeUp, isOnTour: Guide.isOn, endTour: Guide.end, pointAgain: Guide.pointAgain, savePicture: Files.savePicture,
 };
 Object.assign(Deeds, doers);

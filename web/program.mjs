@@ -5,9 +5,9 @@ import Deeds from "./deeds.mjs";
 import { find, make } from "./elements.mjs";
 import * as Folding from "./folding.mjs";
 import State from "./state.mjs";
+import { isTooLong, tellTooLong } from "./whole_texts.mjs";
 
 const MOST_LINES = 3000, MOST_LETTERS = 500000; // of a longer program no numbers are shown
-const MOST_BYTES = 1048576; // of a program that ghcdb takes
 const MOST_COLOURED = 1000; // lines
 const LEAST_WIDE = 220, LEAST_VIEW = 420; // points of the column, and of the picture beside it
 let marked = null, lit = "", shown = []; // the clause of the chosen step; those of all that is lit; the lines behind the field
@@ -194,9 +194,6 @@ function setWidth(wide) {
 
 const width = () => find("source").getBoundingClientRect().width;
 
-const isTooLong = (given) => given.length > MOST_BYTES;
-const tellTooLong = (given) => `it has ${given.length.toLocaleString("en")} letters, and ghcdb takes a program of ${MOST_BYTES.toLocaleString("en")} bytes at most`;
-
 /** A text that no program can be is not taken: a browser stands still for seconds to show it. */
 function onPaste(event) {
   const given = event.clipboardData ? event.clipboardData.getData("text/plain") : "";
@@ -224,4 +221,4 @@ function listenToAll() {
   });
 }
 
-export { setText, markClause, markLit, showPlace, showLine, setWrap, isTooLong, tellTooLong, listenToAll, isWrapped };
+export { setText, markClause, markLit, showPlace, showLine, setWrap, listenToAll, isWrapped };

@@ -1,6 +1,5 @@
 // Wheel and drag in the picture: they move and size it, and with Shift a drag selects an area, whose steps are lit and
 // summed by predicate.
-import Canvas from "./canvas.mjs";
 import Deeds from "./deeds.mjs";
 import { find, make } from "./elements.mjs";
 import OnScreen from "./on_screen.mjs";
@@ -21,7 +20,7 @@ function tell(isIn) {
   const count = isIn.reduce((sum, flag) => sum + flag, 0), { numbers } = State.run.graph;
   if (count === 0) return;
   const first = numbers.at(isIn.indexOf(1)), last = numbers.at(isIn.lastIndexOf(1));
-  Canvas.showFlags(isIn, count);
+  Deeds.showFlags(isIn, count);
   const steps = count === 1 ? `1 step, ${first}` : `${count.toLocaleString("en")} steps, from ${first} to ${last}`;
   Deeds.tell(false, `${steps}: `, make("b", null, Summing.words(State.run, isIn)), ".");
 }
@@ -38,7 +37,7 @@ function selectRange(one, other) {
 function selectAcross(one, other) {
   const { graph } = State.run, isIn = new Uint8Array(graph.count);
   const [left, right] = [Math.min(one, other), Math.max(one, other)];
-  for (const [number, { x }] of Canvas.view.marks) if (x >= left && x <= right) isIn[graph.indexOf(number)] = 1;
+  for (const [number, { x }] of OnScreen.drawn.marks) if (x >= left && x <= right) isIn[graph.indexOf(number)] = 1;
   tell(isIn);
 }
 
@@ -46,10 +45,10 @@ function selectAcross(one, other) {
 const acrossAt = (event) => event.clientX - find("canvas").getBoundingClientRect().left + find("canvas").scrollLeft;
 
 /** Whether an area is selected: only of the run as it is now. */
-const canSelect = () => Canvas.view !== null && OnScreen.until === null;
+const canSelect = () => OnScreen.drawn !== null && OnScreen.until === null;
 
 function onDown(event) {
-  if (event.button !== 0 || event.pointerType === "touch" || Canvas.view === null) return;
+  if (event.button !== 0 || event.pointerType === "touch" || OnScreen.drawn === null) return;
   const isSelecting = event.shiftKey && canSelect();
   if (!isSelecting && event.target.closest(OTHERS)) return;
   const area = find("canvas");
@@ -66,7 +65,7 @@ function pan(event) {
   const most = area.scrollWidth - area.clientWidth;
   area.scrollTo(Math.max(0, Math.min(wanted, most)), drag.top - (event.clientY - drag.y));
   const over = wanted < 0 ? wanted : Math.max(0, wanted - most);
-  if (OnScreen.isOn()) Deeds.goToPart(drag.from + over / Canvas.view.sizes.dx);
+  if (OnScreen.isOn()) Deeds.goToPart(drag.from + over / OnScreen.drawn.sizes.dx);
 }
 
 /** Shows the area that is being selected. */

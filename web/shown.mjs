@@ -4,6 +4,7 @@ const Shown = {
   theme: "light",
   zoom: 1,
   fit: "none", // what is made to fit into the window: `none`, the whole `run`, or what is `lit`
+  kept: null, // the run that was kept, above the one that goes on
   chosen: null, // `{ step }` or `{ goal }`
   slice: null, // the steps on which something rests that was explained: `{ isIn, count }`, by their places in the record
   visited: null, // the step that one has come to among those that are lit

@@ -68,7 +68,8 @@ export interface Doers {
   ring(steps: { has(number: number): boolean }): void;
   showSlice(numbers: Iterable<number>, others: number[]): void;
   showAsked(asked: object): void;
-  lanesBottom(): number;
+  showFlags(isIn: Uint8Array, count: number): void;
+  scrollToLit(): boolean;
   markClause(clause: Lines | null): void;
   markLit(clauses: number[]): void;
   showPlace(name: string, line: number, letter: number, length: number, words?: string): void;
@@ -84,6 +85,8 @@ export interface Doers {
   showRefusal(given: Texts, refused: string, ...after: Part[]): boolean;
   notesOn(program: string): Part[];
   whyInShort(why: object): Part[];
+  drawBeside(how: object): void;
+  besideColumns(): number;
   besideParts(): Part[];
   canKeepRun(): boolean;
   keepRun(): boolean;

@@ -55,6 +55,13 @@ test("an arrow goes down, and no view knows another", () => {
   assert.deepStrictEqual(products.flatMap((file) => arrows.get(file).filter((other) => !isLawful(file, other)).map((other) => `${file} imports ${other}`)), []);
 });
 
+test("of the page's views none knows another: page.mjs alone knows them", () => {
+  const common = ["deeds", "elements", "example_notes", "links", "on_screen", "pausing", "shown", "state", "talk", "walking"].map((name) => `web/${name}.mjs`);
+  const page = "web/page.mjs", views = arrows.get(page).filter((file) => file.startsWith("web/") && !common.includes(file));
+  assert.ok(views.length > 15);
+  assert.deepStrictEqual(products.filter((file) => file !== page).flatMap((file) => arrows.get(file).filter((other) => views.includes(other)).map((other) => `${file} imports ${other}`)), []);
+});
+
 test("no modules go in a circle", () => {
   const seen = new Set();
   const visit = (file, way) => {

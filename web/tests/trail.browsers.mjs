@@ -73,10 +73,10 @@ inBrowsers("on a phone the result comes first, names stand above their lanes, an
   assert.deepEqual(await page.value(SMALL), []);
   const tops = await page.value('["result", "step", "canvas"].map((id) => document.getElementById(id).getBoundingClientRect().top)');
   assert.deepEqual([...tops].sort((one, other) => one - other), tops);
-  const above = `[...document.querySelectorAll("#canvas .names text")].map((name, at) => Canvas.view.lanes[at].y - Number(name.getAttribute("y")))`;
+  const above = `[...document.querySelectorAll("#canvas .names text")].map((name, at) => OnScreen.drawn.lanes[at].y - Number(name.getAttribute("y")))`;
   const lifts = await page.value(above);
   assert.ok(lifts.length === 7 && lifts.every((lift) => lift > 10), `${lifts}`);
-  assert.ok((await page.value("Canvas.view.left")) < 30, "steps have the width");
+  assert.ok((await page.value("OnScreen.drawn.left")) < 30, "steps have the width");
   for (const tab of ["program", "console"]) {
     await page.click(`.tabs [data-tab="${tab}"]`);
     assert.deepEqual(await page.value(SMALL), [], tab);
