@@ -141,6 +141,13 @@ inBrowsers("the runs of the example programs are seen from their first step to t
 const cards = '[...document.querySelectorAll("#welcome .card b")].map((one) => one.textContent)';
 const isShown = '!document.getElementById("welcome").hidden';
 
+inBrowsers("a long line of what is noted on a program makes nothing wider than the window", async (page) => {
+  const { program } = PROGRAMS.find(({ name }) => name === "sieve.ghc");
+  await open(page, "#example=quicksort", [1100, 800]);
+  await page.value(begin(program, queryOf(program)));
+  assert.deepEqual(await page.value('(({ scrollWidth, clientWidth }) => [document.getElementById("canvas").getBoundingClientRect().right <= innerWidth, scrollWidth > clientWidth])(document.querySelector("#answer .cause"))'), [true, true]);
+});
+
 inBrowsers("the first open offers the tour, the example and a program of one's own, and says what the language is; later ones do not", async (page) => {
   await open(page, "", WIDE);
   await page.value("(localStorage.clear(), true)");
