@@ -184,7 +184,7 @@ function ofGoal(name) {
   const told = { waits: `It waits for ${goal.waitsFor.join(", ")}.`, failed: `It has failed: ${goal.refusal}.`, ready: "", stream: "" }[goal.status];
   const parts = [title(`Goal ${name}`, goal.status), code(goal.text), told ? make("p", null, told) : null];
   if (goal.status === "stream") return [...parts, streamForm(goal)];
-  if (goal.status === "ready") parts.push(buttons(lineButton("Step", `step ${name}`, { class: "main-button" }), lineButton("Run it and what comes of it", `skip ${name} 1000`)));
+  if (goal.status === "ready") parts.push(buttons(lineButton("Step", `step ${name}`, { class: "main-button" }), lineButton("Run it and what comes of it", `skip ${name}`)));
   const words = goal.status === "ready" ? "or by a clause that you choose:" : "Its clauses:";
   if (isCall && goal.status !== "failed") parts.push(make("p", { class: "dim" }, words), clausesToChoose(goal));
   const isExplained = goal.status !== "ready";

@@ -101,6 +101,31 @@ inBrowsers("the focus stays where a row is made anew; the menu has a name, and T
   }
 });
 
+/** The lines of all buttons that are there, with the menus of all goals, two steps and a variable. */
+const OFFERED = `(async () => {
+  const offered = new Set();
+  for (const one of [...State.run.goals.map(({ name }) => ({ goal: name })), { step: 1 }, { step: 2 }, { variable: "R" }]) {
+    Menus.open(one, document.getElementById("canvas"));
+    await Talk.settled();
+    for (const { dataset } of document.querySelectorAll("[data-line]")) offered.add(dataset.line);
+  }
+  return [...offered];
+})()`;
+
+inBrowsers("each line that stands in a button is a command, and a goal runs with what comes of it", async (page) => {
+  for (const begun of [FAILED, "#example=quicksort&query=quicksort([3,1,2],R)&lines=leap 3;undo 3"]) {
+    await open(page, begun, WIDE);
+    const offered = await page.value(OFFERED);
+    for (const word of ["step", "why", "who", "blame"]) assert.ok(offered.some((line) => line.startsWith(word)), word);
+    await page.value(`Talk.sendAll(${JSON.stringify(offered)})`);
+    assert.deepEqual(await page.value('State.entries.filter(({ reply }) => reply.some((line) => line.startsWith("F25"))).map(({ line }) => line)'), []);
+  }
+  await open(page, "#example=quicksort&query=quicksort([3,1,2],R)", WIDE);
+  await page.click('#canvas [data-goal="0.1"]');
+  await page.click('#menu [data-line^="skip"]');
+  assert.equal(await page.value("State.run.graph.count"), 27);
+});
+
 inBrowsers("a part of a value is explained by a click, who and why light up, a value is kept alone after a ring", async (page) => {
   await open(page, "#example=quicksort&query=quicksort([5,2,8,1,9,3],R)&lines=leap", WIDE);
   assert.equal(await page.value('document.querySelector("#store .row").textContent'), "R = [1,2,3,5,8,9]");
