@@ -1,6 +1,6 @@
 // Whether two terms, two expressions or two goals are the same. What is left to be compared stands in a list, so that
 // no depth takes stack.
-ghost use Rattle.std.specs.Prelude.{◌≡◌, ◌<◌, ◌≤◌, ◌↔◌, suc, length, IfOk, MatchOption, OnOk, IsTrue};
+ghost use Rattle.std.specs.Prelude.{◌≡◌, ◌<◌, ◌≤◌, ◌↔◌, ◌∷◌, ◌++◌, [], true, suc, length, IfOk, MatchOption, OnOk, IsTrue};
 ghost use Rattle.ghc_term.specs.Tree.{variable, integer, atom, trees};
 ghost use Rattle.ghc_term.specs.InputTerm.{nodes, nodes_of_all};
 ghost use Rattle.ghc_term.specs.inner.Equality.{AreAlike, IsAlike, Compared, Adds, left_nodes, all_left_nodes, expression_nodes, goal_nodes};
@@ -103,6 +103,19 @@ pub(crate) fn compare_terms<'a>(
     }
 }
 
+// Leaves two pairs to be compared, and tells that nothing differs so far.
+fn push_two<'a>(
+    first: Pair<'a>,
+    second: Pair<'a>,
+    waiting: &mut Vec<Pair<'a>>,
+) -> Result<bool, AllocError>
+    ensures { IfOk result (λ same. (same ≡ true) × (waiting.new.items ≡ (waiting.old.items ++ first.entry ∷ []) ++ second.entry ∷ [])) }
+{
+    waiting.push(first)?;
+    waiting.push(second)?;
+    Ok(true)
+}
+
 // Compares two expressions at the top. Their right operands come first, so that a long sum leaves one pair at a time.
 pub(crate) fn compare_expressions<'a>(
     left: &'a Expr,
@@ -118,9 +131,11 @@ pub(crate) fn compare_expressions<'a>(
                 if operator != other {
                     return Ok(false);
                 }
-                waiting.push(Pair::Exprs(first, third))?;
-                waiting.push(Pair::Exprs(second, fourth))?;
-                Ok(true)
+                push_two(
+                    Pair::Exprs(first, third),
+                    Pair::Exprs(second, fourth),
+                    waiting,
+                )
             }
         _ => Ok(false),
     }
@@ -179,14 +194,18 @@ fn compare_goals<'a>(
             compare_calls(name, lefts, other, rights, waiting)
         }
         (GoalView::Unify(first, second), GoalView::Unify(third, fourth)) => {
-            waiting.push(Pair::Terms(first, third))?;
-            waiting.push(Pair::Terms(second, fourth))?;
-            Ok(true)
+            push_two(
+                Pair::Terms(first, third),
+                Pair::Terms(second, fourth),
+                waiting,
+            )
         }
         (GoalView::Assign(first, value), GoalView::Assign(other, wanted)) => {
-            waiting.push(Pair::Terms(first, other))?;
-            waiting.push(Pair::Exprs(value, wanted))?;
-            Ok(true)
+            push_two(
+                Pair::Terms(first, other),
+                Pair::Exprs(value, wanted),
+                waiting,
+            )
         }
         (GoalView::Stream(number, tail), GoalView::Stream(other, end)) => {
             Ok(number == other && tail == end)

@@ -57,6 +57,17 @@ fn push_parts<'a>(
     Ok(())
 }
 
+// Goes on with the parts of the term, and then with the term once more where it may keep its variables.
+fn push_inner<'a>(term: &'a Term, waiting: &mut Vec<(&'a Term, bool)>) -> Result<(), AllocError> {
+    let TermView::Struct(_, arguments) = term.view() else {
+        return Ok(());
+    };
+    if term.may_keep() {
+        waiting.push((term, true))?;
+    }
+    push_parts(arguments, waiting)
+}
+
 // Keeps the variables of parts of the term, the inner ones first: of one part after as many steps as the last one has variables, so that
 // the lists cost no more than the steps. A part that keeps its variables is not looked into any more.
 fn keep_in_parts(alloc: Global, term: &Term) -> Result<(), AllocError> {
@@ -72,18 +83,11 @@ fn keep_in_parts(alloc: Global, term: &Term) -> Result<(), AllocError> {
         if part.keeps() {
             continue;
         }
-        if is_gone_through {
-            if steps > last {
-                last = keep_those_of(alloc, part)?;
-                steps = 0;
-            }
-            continue;
-        }
-        if let TermView::Struct(_, arguments) = part.view() {
-            if part.may_keep() {
-                waiting.push((part, true))?;
-            }
-            push_parts(arguments, &mut waiting)?;
+        if !is_gone_through {
+            push_inner(part, &mut waiting)?;
+        } else if steps > last {
+            last = keep_those_of(alloc, part)?;
+            steps = 0;
         }
     }
     Ok(())

@@ -53,6 +53,96 @@ fn apart(alloc: Global, arguments: Vec<Term>) -> Result<Arc<Vec<Term>>, AllocErr
     }
 }
 
+// A call of this name and this argument, with both shared.
+#[inline(always)]
+fn share_one(name: &Name, arguments: &[Term; 1]) -> Result<Goal, AllocError>
+    ensures { IfOk result (λ g. g ≡ call name.now arguments.now) }
+{
+    let [first] = arguments;
+    let first = first.share()?;
+    Ok(Goal::call_of_one(name.share()?, [first]))
+}
+
+// The same of two arguments.
+#[inline(always)]
+fn share_two(name: &Name, arguments: &[Term; 2]) -> Result<Goal, AllocError>
+    ensures { IfOk result (λ g. g ≡ call name.now arguments.now) }
+{
+    let [first, second] = arguments;
+    let arguments = [first.share()?, second.share()?];
+    Ok(Goal::call_of_two(name.share()?, arguments))
+}
+
+// Three terms shared.
+#[inline(always)]
+fn share_three_terms(terms: &[Term; 3]) -> Result<[Term; 3], AllocError>
+    ensures { IfOk result (λ shared. shared ≡ terms.now) }
+{
+    let [first, second, third] = terms;
+    let first = first.share()?;
+    let second = second.share()?;
+    Ok([first, second, third.share()?])
+}
+
+// The same of three arguments.
+#[inline(always)]
+fn share_three(name: &Name, arguments: &[Term; 3]) -> Result<Goal, AllocError>
+    ensures { IfOk result (λ g. g ≡ call name.now arguments.now) }
+{
+    let arguments = share_three_terms(arguments)?;
+    Ok(Goal::call_of_three(name.share()?, arguments))
+}
+
+// Four terms shared.
+#[inline(always)]
+fn share_four_terms(terms: &[Term; 4]) -> Result<[Term; 4], AllocError>
+    ensures { IfOk result (λ shared. shared ≡ terms.now) }
+{
+    let [first, second, third, fourth] = terms;
+    let first = first.share()?;
+    let second = second.share()?;
+    let third = third.share()?;
+    Ok([first, second, third, fourth.share()?])
+}
+
+// The same of four arguments.
+#[inline(always)]
+fn share_four(name: &Name, arguments: &[Term; 4]) -> Result<Goal, AllocError>
+    ensures { IfOk result (λ g. g ≡ call name.now arguments.now) }
+{
+    let arguments = share_four_terms(arguments)?;
+    Ok(Goal::call_of_four(name.share()?, arguments))
+}
+
+// The same of arguments that have memory of their own.
+#[inline(always)]
+fn share_many(name: &Name, arguments: &Arc<Vec<Term>>) -> Result<Goal, AllocError>
+    ensures { IfOk result (λ g. g ≡ call name.now arguments.now.value.items) }
+{
+    let arguments = Arc::try_clone(arguments)?;
+    Ok(Goal {
+        shape: Shape::Many(name.share()?, arguments),
+    })
+}
+
+// The unification of these two, with both shared.
+#[inline(always)]
+fn share_unify(left: &Term, right: &Term) -> Result<Goal, AllocError>
+    ensures { IfOk result (λ g. g ≡ unify left.now right.now) }
+{
+    let left = left.share()?;
+    Ok(Goal::unify(left, right.share()?))
+}
+
+// The assignment of these two, with both shared.
+#[inline(always)]
+fn share_assign(left: &Term, value: &Expr) -> Result<Goal, AllocError>
+    ensures { IfOk result (λ g. g ≡ assign left.now value.now) }
+{
+    let left = left.share()?;
+    Ok(Goal::assign(left, value.share()?))
+}
+
 impl Goal {
     ghost use Rattle.ghc_term.specs.inner.GoalShown.{shown};
 
@@ -164,32 +254,17 @@ impl Goal {
     pub fn share(&self) -> Result<Goal, AllocError>
         ensures { IfOk result (λ g. g ≡ self.now) }
     {
-        let shape = match &self.shape {
-            Shape::Nothing(name) => Shape::Nothing(name.share()?),
-            Shape::One(name, [first]) => Shape::One(name.share()?, [first.share()?]),
-            Shape::Two(name, [first, second]) => {
-                Shape::Two(name.share()?, [first.share()?, second.share()?])
-            }
-            Shape::Three(name, [first, second, third]) => {
-                let name = name.share()?;
-                Shape::Three(name, [first.share()?, second.share()?, third.share()?])
-            }
-            Shape::Four(name, [first, second, third, fourth]) => {
-                let name = name.share()?;
-                let arguments = [
-                    first.share()?,
-                    second.share()?,
-                    third.share()?,
-                    fourth.share()?,
-                ];
-                Shape::Four(name, arguments)
-            }
-            Shape::Many(name, arguments) => Shape::Many(name.share()?, Arc::try_clone(arguments)?),
-            Shape::Unify(left, right) => Shape::Unify(left.share()?, right.share()?),
-            Shape::Assign(left, value) => Shape::Assign(left.share()?, value.share()?),
-            Shape::Stream(number, tail) => Shape::Stream(*number, *tail),
-        };
-        Ok(Goal { shape })
+        match &self.shape {
+            Shape::Nothing(name) => Ok(Goal::call_of_none(name.share()?)),
+            Shape::One(name, arguments) => share_one(name, arguments),
+            Shape::Two(name, arguments) => share_two(name, arguments),
+            Shape::Three(name, arguments) => share_three(name, arguments),
+            Shape::Four(name, arguments) => share_four(name, arguments),
+            Shape::Many(name, arguments) => share_many(name, arguments),
+            Shape::Unify(left, right) => share_unify(left, right),
+            Shape::Assign(left, value) => share_assign(left, value),
+            Shape::Stream(number, tail) => Ok(Goal::stream(*number, *tail)),
+        }
     }
 
     /// The goal lent in parts: one step.
