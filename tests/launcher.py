@@ -20,7 +20,7 @@ from pathlib import Path
 ROOT = Path(__file__).resolve().parent.parent
 SECONDS = 20
 TABLE = (ROOT / "tools" / "proof-seconds.txt").read_text()
-SECONDS_OF = {name: int(seconds) for name, seconds in re.findall(r"^(\w+) (\d+)$", TABLE, re.MULTILINE)}
+SECONDS_OF = {name: int(seconds) for name, seconds in re.findall(r"^(\w+) (\d+) \d+$", TABLE, re.MULTILINE)}
 TOOLS = (
     "bash",
     "basename",
@@ -276,8 +276,7 @@ def proving(copy):
     end = f"ghcdb: proved and built in about 1 minute: {copy.program}\n"
     proved = proved[0], re.sub(r"in about \d+ minutes?:", "in about 1 minute:", proved[1]), proved[2]
     yield "all is proved, crate by crate", proved, ("", begin + "".join(told[:3] + parts + told[3:]) + end, 0)
-    one_job = {"ghc_trace", "ghc_pool", "ghc_console"}
-    asked = [f"rt lib{' --jobs 4' if name in one_job else ''} in {name}\n" for name in copy.crates[:-1]]
+    asked = [f"rt lib --jobs 4 in {name}\n" for name in copy.crates[:-1]]
     asked.append(f"rt run --jobs 4 -- --help in {copy.crates[-1]}\n")
     yield "what it asked of rt", (copy.folder / "asked").read_text(), "".join(asked)
     yield "what it noted: nothing was timed, for all was kept", copy.noted.read_text(), f"sources {copy.sum()}\n"
@@ -291,13 +290,13 @@ def proving(copy):
     yield "a source changes meanwhile", changed[1:], (begin + "".join(told) + again, 70)
     table = copy.folder / "tools" / "proof-seconds.txt"
     kept = table.read_text()
-    table.write_text("".join(f"{name} 0\n" for name in copy.crates))
+    table.write_text("".join(f"{name} 0 0\n" for name in copy.crates))
     copy.change(third)
     copy.run("--prove", path=["rt"])
     table.write_text(kept)
-    yield "what it noted, with the time", re.sub(
-        r"seconds \d+", "seconds N", copy.noted.read_text()
-    ), f"sources {copy.sum()}\nseconds N\n"
+    noted = re.sub(r"\b\d+$", "N", re.sub(r" \d+ \d+$", " N N", copy.noted.read_text(), flags=re.M), flags=re.M)
+    crates = "".join(f"{name} N N\n" for name in copy.crates)
+    yield "what it noted, with the time and that of each crate", noted, f"sources {copy.sum()}\nseconds N\n{crates}"
 
 
 def with_a_native_program(copy):
@@ -344,7 +343,7 @@ def with_less_memory(copy):
     """A case of --prove where there is memory for two jobs."""
     copy.run("--prove", path=["rt"], settings={"FREE": "5000000"})
     jobs = re.findall(r"--jobs (\d+)", (copy.folder / "asked").read_text())
-    yield "two jobs, for there is no memory for more", jobs, ["2"] * 4
+    yield "two jobs, for there is no memory for more", jobs, ["2"] * len(copy.crates)
 
 
 def without_sums(copy):
