@@ -1,7 +1,5 @@
 // Why something is refused, with the number and the text of each refusal.
 ghost use Rattle.std.specs.Prelude.{◌≡◌, ◌++◌, IfOk, is_ok, if◌then◌else◌, string_bytes};
-ghost use Rattle.ghc_term.specs.Fault.{fault_text};
-ghost use Rattle.ghc_term.specs.declared.fault.Fault.{Fault};
 
 use crate::limit::Limit;
 use crate::name::Name;
@@ -68,33 +66,8 @@ pub enum Fault {
     Device,
 }
 
-// The text of a refusal with two parts: in functions of their own, as one with all of them takes long to prove.
-fn syntax_text(alloc: Global, line: u32, column: u32) -> Result<String, AllocError>
-    ensures { IfOk result (λ text. string_bytes text ≡ fault_text (Fault.Syntax line column)) }
-{
-    format!(in alloc; "F2 syntax at {line}:{column}")
-}
-
-fn repeated_text(alloc: Global, clause: u32, variable: &Name) -> Result<String, AllocError>
-    ensures { IfOk result (λ text. string_bytes text ≡ fault_text (Fault.Repeated clause variable.now)) }
-{
-    format!(in alloc; "F4 variable {variable} repeated in the head of clause {clause}")
-}
-
-fn undefined_text(alloc: Global, name: &Name, arity: u32) -> Result<String, AllocError>
-    ensures { IfOk result (λ text. string_bytes text ≡ fault_text (Fault.Undefined name.now arity)) }
-{
-    format!(in alloc; "F5 undefined {name}/{arity}")
-}
-
-fn not_lawful_text(alloc: Global, earlier: u32, later: u32) -> Result<String, AllocError>
-    ensures { IfOk result (λ text. string_bytes text ≡ fault_text (Fault.NotLawful earlier later)) }
-{
-    format!(in alloc; "F21 not lawful: {earlier} {later}")
-}
-
 impl Fault {
-    ghost use Rattle.ghc_term.specs.Fault.{fault_number};
+    ghost use Rattle.ghc_term.specs.Fault.{fault_number, fault_text};
 
     /// The number of the refusal, from 1 to 26.
     pub fn number(&self) -> u32
@@ -136,10 +109,12 @@ impl Fault {
     {
         match self {
             Fault::Memory => String::from_str(alloc, "F1 no memory"),
-            Fault::Syntax { line, column } => syntax_text(alloc, *line, *column),
+            Fault::Syntax { line, column } => format!(in alloc; "F2 syntax at {line}:{column}"),
             Fault::NotFlat { clause } => format!(in alloc; "F3 not flat in clause {clause}"),
-            Fault::Repeated { clause, variable } => repeated_text(alloc, *clause, variable),
-            Fault::Undefined { name, arity } => undefined_text(alloc, name, *arity),
+            Fault::Repeated { clause, variable } => {
+                format!(in alloc; "F4 variable {variable} repeated in the head of clause {clause}")
+            }
+            Fault::Undefined { name, arity } => format!(in alloc; "F5 undefined {name}/{arity}"),
             Fault::Limit(limit) => format!(in alloc; "F6 limit: {}", limit.word()),
             Fault::NoGoal => String::from_str(alloc, "F7 no goal"),
             Fault::NoClause => String::from_str(alloc, "F8 no such clause for the goal"),
@@ -155,7 +130,9 @@ impl Fault {
             Fault::NotShelved => String::from_str(alloc, "F18 not on the shelf"),
             Fault::Changed => String::from_str(alloc, "F19 changed"),
             Fault::Stale => String::from_str(alloc, "F20 stale"),
-            Fault::NotLawful { earlier, later } => not_lawful_text(alloc, *earlier, *later),
+            Fault::NotLawful { earlier, later } => {
+                format!(in alloc; "F21 not lawful: {earlier} {later}")
+            }
             Fault::Full => String::from_str(alloc, "F22 full"),
             Fault::NoVariable => String::from_str(alloc, "F23 no variable"),
             Fault::History { line } => format!(in alloc; "F24 history line {line}"),
@@ -183,6 +160,8 @@ impl fmt::Display for Fault {
 impl Error for Fault {}
 
 impl From<AllocError> for Fault {
+    ghost use Rattle.ghc_term.specs.declared.fault.Fault.{Fault};
+
     ghost from_gives = { λ _ fault. fault ≡ Fault.Memory };
 
     fn from(_error: AllocError) -> Fault {
@@ -191,6 +170,8 @@ impl From<AllocError> for Fault {
 }
 
 impl<T: Drop> From<AllocFailed<T>> for Fault {
+    ghost use Rattle.ghc_term.specs.declared.fault.Fault.{Fault};
+
     ghost from_gives = { λ _ fault. fault ≡ Fault.Memory };
 
     fn from(_error: AllocFailed<T>) -> Fault {
