@@ -1,5 +1,5 @@
 -- Notes and marks that were carried over a step are exact in the world that it leaves.
-use Rattle.ghc_core.proofs.Words.{◌≡◌, ◌≤◌, ◌⊎◌, false, sym, ap, ◌∙◌, inl, inr, arith, Option, Some, None, is_some, if◌then◌else◌, IsTrue, option_or, VarName, GoalName, Goal, In, StoreValue, value_at, Program, Query, is_stream, goal_cmp, Goals, State, Record, numbers, after, without_goal, Fires, query_state, ConsumesGoal, IsTakenBack, number_in, bound_at, Note, NotesByGoal, IsExact, AreExact, AreLeft, Tries, exact_stays, MakesGoal, Binds, by_option, not_both, same_value, named_or_not, own, makes_at, own_made, without_it, without_other, firing, taken_at, Results, is_old, Place, results_of, place_of, apart_at, World, IsNextStep, IsStanding, AreExactIn, IsToTry, Consumed, MadeToTry, ConsumedToTry, AreMarked, AreCarried, AreCarriedOver, AreCarriedBack}
+use Rattle.ghc_core.proofs.Words.{◌≡◌, ◌≤◌, ◌↔◌, ◌⊎◌, false, sym, ap, ◌∙◌, inl, inr, arith, Option, Some, None, is_some, if◌then◌else◌, IsTrue, option_or, VarName, GoalName, Goal, In, StoreValue, value_at, Program, Query, is_stream, goal_cmp, Goals, State, Record, numbers, after, without_goal, Fires, query_state, ConsumesGoal, IsTakenBack, number_in, bound_at, Note, NotesByGoal, IsExact, AreExact, AreLeft, Tries, exact_stays, MakesGoal, Binds, by_option, not_both, same_value, named_or_not, own, makes_at, own_made, without_it, without_other, firing, taken_at, Results, is_old, Place, results_of, place_of, apart_at, World, IsNextStep, IsStanding, AreExactIn, IsToTry, Consumed, MadeToTry, ConsumedToTry, AreMarked, AreCarried, AreCarriedOver, AreCarriedBack}
 use Rattle.std.specs.FinMap as finite
 use Rattle.std.specs.FinSet as set
 use Rattle.ghc_term.proofs.Decided.{true_decided}
@@ -159,9 +159,8 @@ module _ (w : World) (stands : IsStanding w) (r : Record) (kept : In r w.kept) (
   back_left old new exact c = are_left w.opening.program _ _ _ _ (MakesGoal r) (Binds r) (ConsumedToTry r) old new exact passes_back c
 
 -- The goals of a query are marked, and no goal has a note.
-pub opened_exact : (P : Program) (query : Query) (empty new : Tries) → empty.notes ≡ finite.empty → empty.untried ≡ set.empty → AreMarked (IsToTry 0 query) empty new
-    → AreExact P (query_state query).goals (query_state query).store new.notes new.untried
-opened_exact P query empty new no_notes no_marks m =
-    let none : (g : GoalName) → finite.get new.notes g ≡ None = λ g. ap (λ n. finite.get n g) (m.notes ∙ no_notes) ∙ finite.get-empty goal_cmp g in
-    let unmarked : (g : GoalName) → set.contains empty.untried g ≡ false = λ g. rw no_marks (set.contains-empty goal_cmp g) in
-    record { noted = λ g note e. absurd (not_both e (none g)); marked = λ g. grind (arith, m.untried g, none g, unmarked g) }
+pub opened_exact : (P : Program) (query : Query) (tries : Tries) → tries.notes ≡ finite.empty → ((g : GoalName) → IsTrue (set.contains tries.untried g) ↔ IsToTry 0 query g)
+    → AreExact P (query_state query).goals (query_state query).store tries.notes tries.untried
+opened_exact P query tries no_notes marks =
+    let none : (g : GoalName) → finite.get tries.notes g ≡ None = λ g. ap (λ n. finite.get n g) no_notes ∙ finite.get-empty goal_cmp g in
+    record { noted = λ g note e. absurd (not_both e (none g)); marked = λ g. grind (arith, marks g, none g) }

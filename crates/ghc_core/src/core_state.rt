@@ -1,7 +1,7 @@
 // The core of a debugger: a program and a query, the state of the run, and its record.
 ghost use Rattle.std.specs.Prelude.{◌≡◌, ◌≤◌, [], IfOk};
 
-use crate::changes::carrying::mark_made;
+use crate::changes::carrying::tries_of;
 use crate::stream_goals::StreamGoals;
 use ghc_fire::Meter;
 use ghc_flat::Program;
@@ -14,6 +14,7 @@ use std::sync::Arc;
 
 /// A core: in each state of its run, goals and store are the replay of the steps that it keeps, each noted outcome of a goal is
 /// the one from scratch, and each goal without one, but for stream goals, is marked untried.
+#[derive(Drop)]
 pub struct Core {
     pub(crate) program: Arc<Program>,
     pub(crate) query: Query,
@@ -26,24 +27,6 @@ pub struct Core {
     pub(crate) meter: Meter,
     pub(crate) tries: Tries,
     pub(crate) streams: StreamGoals,
-}
-
-impl Drop for Core {
-    fn drop(self) {
-        let Core {
-            program: _program,
-            query: _query,
-            state: _state,
-            records: _records,
-            shelf: _shelf,
-            next: _next,
-            journal: _journal,
-            loaded: _loaded,
-            meter: _meter,
-            tries: _tries,
-            streams: _streams,
-        } = self;
-    }
 }
 
 impl Model for Core {
@@ -102,9 +85,7 @@ impl Core {
         let goals = query.goals();
         let state = State::of_query(alloc, goals)?;
         let streams = StreamGoals::of_query(alloc, goals, goals.len() as u32)?;
-        let mut tries = Tries::new(alloc);
-        tries.reserve(goals.len(), 0)?;
-        mark_made(&mut tries, 0, goals, goals.len() as u32);
+        let tries = tries_of(alloc, goals)?;
         let program = Arc::new(alloc, program)?;
         Ok(Core {
             program,

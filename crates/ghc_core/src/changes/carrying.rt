@@ -1,6 +1,7 @@
 // Noted outcomes and untried goals, carried over a step that is taken or taken away.
-ghost use Rattle.std.specs.Prelude.{◌≡◌, ◌<◌, ◌≤◌, ◌+◌, false, length, None, Some};
+ghost use Rattle.std.specs.Prelude.{◌≡◌, ◌↔◌, ◌<◌, ◌≤◌, ◌+◌, false, length, None, Some, IfOk, IsTrue};
 ghost use Rattle.std.specs.FinMap as finite;
+ghost use Rattle.std.specs.FinSet as set;
 ghost use Rattle.ghc_term.specs.declared.goal_name.GoalName.{GoalName};
 ghost use Rattle.ghc_flat.specs.Flat.{is_stream};
 ghost use Rattle.ghc_hooks.specs.Tries.{AreSpared, AreWoken};
@@ -10,6 +11,7 @@ ghost use Rattle.ghc_core.specs.inner.Carried.{IsBound, IsGiven, Consumed, AreDr
 use ghc_hooks::Tries;
 use ghc_records::Record;
 use ghc_term::{Bindings, Goal, GoalName, GoalView};
+use std::alloc::{AllocError, Global};
 
 /// Whether it is a stream goal, which nobody tries.
 pub fn is_stream(goal: &Goal) -> bool
@@ -82,6 +84,19 @@ pub(crate) fn mark_made(tries: &mut Tries, step: u32, makes: &[Goal], count: u32
         };
         mark(tries, name, &makes[index as usize]);
     }
+}
+
+/// The tries of a query's goals before any step: each goal is untried, but for stream goals, and none is noted. It costs a
+/// look-up for each goal.
+pub(crate) fn tries_of(alloc: Global, goals: &[Goal]) -> Result<Tries, AllocError>
+    requires count { length goals.now ≤ 4294967295 }
+    ensures notes { IfOk result (λ tries. tries.notes ≡ finite.empty) }
+    ensures untried { IfOk result (λ tries. (g : GoalName) → IsTrue (set.contains tries.untried g) ↔ IsToTry 0 goals.now g) }
+{
+    let mut tries = Tries::new(alloc);
+    tries.reserve(goals.len(), 0)?;
+    mark_made(&mut tries, 0, goals, goals.len() as u32);
+    Ok(tries)
 }
 
 // Marks the goal that a step consumed untried, if it consumed one, unless it is a stream goal.
