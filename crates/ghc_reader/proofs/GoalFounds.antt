@@ -52,13 +52,17 @@ found_goal ts behind after n f a m e x none = record {
   stops = (x.stops, none);
 }
 
-pub found_unify : (ts behind inside after : List Token) (s u : Tree) → TermFound ts s behind → behind ≡ token.Mark Equals ∷ inside → TermFound inside u after → ItemFound ts (tree.unify s u) after
+found_unify : (ts behind inside after : List Token) (s u : Tree) → TermFound ts s behind → behind ≡ token.Mark Equals ∷ inside → TermFound inside u after → ItemFound ts (tree.unify s u) after
 found_unify ts behind inside after s u x e y = record {
   derivation = unify x.derivation y.derivation;
   spelled = x.spelled ∙ ap (term x.derivation) (e ∙ ap (λ l. token.Mark Equals ∷ l) y.spelled);
   sees = ap (λ l. tree.unify l (tree_of y.derivation)) x.sees ∙ ap (tree.unify s) y.sees;
   stops = y.stops;
 }
+
+-- the equation of the term that was read and the one that its mark stands before
+pub found_equation : (ts behind inside after : List Token) (s : Tree) (g : Goal) → TermFound ts s behind → behind ≡ token.Mark Equals ∷ inside → (u : Tree) × (g ≡ tree.unify s u) × TermFound inside u after → ItemFound ts g after
+found_equation ts behind inside after s g x e f = subst (λ g. ItemFound ts g after) (sym f.1) (found_unify ts behind inside after s f.0 x e f.2)
 
 pub in_right : (ts behind inside : List Token) (s : Tree) (left : ℕ) → TermFound ts s behind → behind ≡ token.Mark Equals ∷ inside → Fault Term term EndsTerm inside left → ItemFault ts left
 in_right ts behind inside s left x e f = rw (x.spelled, e) (faults.right_in_item x.derivation inside left f)

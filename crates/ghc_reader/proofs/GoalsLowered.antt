@@ -1,5 +1,5 @@
 -- What goals say, and which variables they meet.
-use Rattle.ghc_reader.proofs.Words.{◌≡◌, ℕ, ◌+◌, ◌<◌, List, [], ◌∷◌, ◌++◌, length, take, get_or, refl, sym, ap, ◌∙◌, subst, append_assoc, Bool, true, false, cond, Option, Some, None, Box, Global, Vec, vec_len, arith, inl, inr, ◌⊎◌, ◌==◌, not, MatchOption, bytes_eq, nat_eq, codes, append-nil, filter-append, VarName, variables_of_expression, variables_of_goal, variables_of_goals, SourceTerm, SourceExpression, SourceCall, SourceGoal, Goal, cells, view, views, value_view, goal_view, goal_views, Names, IsCalled, Says, SaysValue, SaysGoal, SaysAsked, Each, is_true, doing, variable_of, tail_of, MeetsAll}
+use Rattle.ghc_reader.proofs.Words.{◌≡◌, ℕ, ◌+◌, ◌<◌, List, [], ◌∷◌, ◌++◌, length, take, get_or, refl, sym, ap, ◌∙◌, subst, append_assoc, Bool, true, false, cond, Option, Some, None, Box, Global, Vec, vec_len, arith, inl, inr, ◌⊎◌, ◌==◌, not, MatchOption, bytes_eq, nat_eq, codes, append-nil, filter-append, VarName, variables_of_expression, variables_of_goal, variables_of_goals, Tree, Value, SourceTerm, SourceCall, SourceGoal, Goal, cells, view, views, goal_view, goal_views, Names, IsCalled, Says, SaysValue, SaysGoal, SaysAsked, Each, is_true, doing, variable_of, tail_of, MeetsAll}
 use Rattle.ghc_term.specs.Tree as term
 use Rattle.ghc_term.specs.Expression.{Expression}
 use Rattle.ghc_term.specs.Goal as goal
@@ -27,16 +27,16 @@ goal_still (unify s t) a b u g h = (h.0, h.1, h.2, says_still s a b h.0 g h.3, s
 goal_still (assign v e) a b u g h = (h.0, h.1, h.2, called_still a b v h.0 g h.3, value_still e a b h.1 g h.4)
 
 -- an equation says what its sides say
-pub unify_says : (g : SourceGoal) (s t : SourceTerm) (b c : Names) (l r : term.Tree) (u : goal.Goal) → g ≡ source.Unify s t → u ≡ goal.unify l r → Says b (view s) l → MeetsAll b (variables r) c → Says c (view t) r → SaysGoal c (goal_view g) u
-unify_says g s t b c l r u is made h met k = subst (λ x. SaysGoal c (goal_view x) u) (sym is) (l, r, made, says_still (view s) b c l (grows (variables r) b c met) h, k)
+pub unify_says : (s t : Tree) (b c : Names) (l r : term.Tree) (u : goal.Goal) → u ≡ goal.unify l r → Says b s l → MeetsAll b (variables r) c → Says c t r → SaysGoal c (unify s t) u
+unify_says s t b c l r u made h met k = (l, r, made, says_still s b c l (grows (variables r) b c met) h, k)
 
 pub unify_meets : (a b c : Names) (l r : term.Tree) (u : goal.Goal) → u ≡ goal.unify l r → MeetsAll a (variables l) b → MeetsAll b (variables r) c → MeetsAll a (variables_of_goal u) c
 unify_meets a b c l r u made m n = subst (λ x. MeetsAll a (variables_of_goal x) c) (sym made) (met_also (variables l) (variables r) a b c m n)
 
 -- an assignment says what its sides say
-pub assign_says : (g : SourceGoal) (v : List ℕ) (e : SourceExpression) (b c : Names) (x : VarName) (left : term.Tree) (r : Expression) (u : goal.Goal) → g ≡ source.Assign v e → u ≡ goal.assign left r → left ≡ term.variable x → IsCalled b v x → MeetsAll b (variables_of_expression r) c → SaysValue c (value_view e) r → SaysGoal c (goal_view g) u
-assign_says g v e b c x left r u is made at h met k =
-    subst (λ l. SaysGoal c (goal_view l) u) (sym is) (x, r, made ∙ ap (λ l. goal.assign l r) at, called_still b c v x (grows (variables_of_expression r) b c met) h, k)
+pub assign_says : (v : List ℕ) (e : Value) (b c : Names) (x : VarName) (left : term.Tree) (r : Expression) (u : goal.Goal) → u ≡ goal.assign left r → left ≡ term.variable x → IsCalled b v x → MeetsAll b (variables_of_expression r) c → SaysValue c e r → SaysGoal c (assign v e) u
+assign_says v e b c x left r u made at h met k =
+    (x, r, made ∙ ap (λ l. goal.assign l r) at, called_still b c v x (grows (variables_of_expression r) b c met) h, k)
 
 pub each_still : {X Y : Type 0} (R S : X → Y → Type 0) → ((x : X) (y : Y) → R x y → S x y) → (xs : List X) (ys : List Y) → Each R xs ys → Each S xs ys
 each_still R S f [] [] h = tt

@@ -1,10 +1,10 @@
 // From tokens to clauses.
-ghost use Rattle.std.specs.Prelude.{◌≡◌, ◌≢◌, ◌<◌, List, length, IfOk, IfErr, MatchOption};
-ghost use Rattle.ghc_reader.specs.Grammar.{Test as TestDerivation, Tests, Right, Clause, test, tests, right, clause};
-ghost use Rattle.ghc_reader.specs.Source.{Goal, Test, Right as RightTree, Clause as ClauseTree, plains};
-ghost use Rattle.ghc_reader.specs.Derived.{test_of, tests_of, right_of, clause_of};
-ghost use Rattle.ghc_reader.specs.inner.Views.{goal_views, test_view, test_views, right_view, clause_view};
-ghost use Rattle.ghc_reader.specs.inner.Parts.{EndsTest, EndsTests, EndsRight, EndsClause, FoundAt, Fault};
+ghost use Rattle.std.specs.Prelude.{◌≡◌, ◌≢◌, ◌<◌, List, ◌∷◌, length, IfOk, IfErr, MatchOption};
+ghost use Rattle.ghc_reader.specs.Grammar.{Arguments, Test as TestDerivation, Tests, Right, Clause, arguments, test, tests, right, clause};
+ghost use Rattle.ghc_reader.specs.Source.{Trees, Goal, Test, Right as RightTree, Clause as ClauseTree, plains};
+ghost use Rattle.ghc_reader.specs.Derived.{arguments_of, test_of, tests_of, right_of, clause_of};
+ghost use Rattle.ghc_reader.specs.inner.Views.{views, goal_views, test_view, test_views, right_view, clause_view};
+ghost use Rattle.ghc_reader.specs.inner.Parts.{EndsArguments, EndsTest, EndsTests, EndsRight, EndsClause, Found, FoundAt, Fault};
 ghost use Rattle.ghc_reader.specs.Viable.{IfSyntax};
 
 use crate::expression_parser::expression;
@@ -29,17 +29,7 @@ pub fn clause(alloc: Global, tokens: &[Token]) -> Result<(SourceClause, &[Token]
     ensures shorter { IfOk result (λ x. length x.1.now < length tokens.now) }
     ensures fault { IfErr result (λ e. IfSyntax e (λ left. Fault Clause clause EndsClause tokens.now left)) }
 {
-    let Some((name, behind)) = name(tokens) else {
-        return Err(ParseError::Syntax(tokens.len()));
-    };
-    let (arguments, rest) = arguments(alloc, behind)?;
-    let name = name.share()?;
-    let left = tokens.len();
-    let head = SourceCall {
-        left,
-        name,
-        arguments,
-    };
+    let (head, rest) = head(alloc, tokens)?;
     if let Some(after) = eat(Mark::Stop, rest) {
         let guard = Vec::new(alloc);
         let body = Vec::new(alloc);
@@ -51,6 +41,28 @@ pub fn clause(alloc: Global, tokens: &[Token]) -> Result<(SourceClause, &[Token]
     let (right, after) = right(alloc, inside)?;
     let SourceRight { guard, body } = right;
     Ok((SourceClause { head, guard, body }, after))
+}
+
+// The head that the tokens begin with, and the tokens after it.
+#[inline(always)]
+fn head(alloc: Global, tokens: &[Token]) -> Result<(SourceCall, &[Token]), ParseError>
+    ensures left { IfOk result (λ x. x.0.left ≡ length tokens.now) }
+    ensures found { IfOk result (λ x. (behind : List Token) × (tokens.now ≡ Token.Name x.0.name ∷ behind) × Found Arguments Trees arguments arguments_of EndsArguments behind (views x.0.arguments.items) x.1.now) }
+    ensures shorter { IfOk result (λ x. length x.1.now < length tokens.now) }
+    ensures fault { IfErr result (λ e. IfSyntax e (λ left. Fault Clause clause EndsClause tokens.now left)) }
+{
+    let left = tokens.len();
+    let Some((name, behind)) = name(tokens) else {
+        return Err(ParseError::Syntax(left));
+    };
+    let (arguments, rest) = arguments(alloc, behind)?;
+    let name = name.share()?;
+    let head = SourceCall {
+        left,
+        name,
+        arguments,
+    };
+    Ok((head, rest))
 }
 
 // What stands after the mark that follows a head. Tests and goals are read as tests, and what ends them tells which they are.

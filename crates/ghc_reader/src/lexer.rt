@@ -80,6 +80,24 @@ fn cut(alloc: Global, text: &[u8], reserved: Reserved) -> Result<Lexed, Fault>
         places: Vec::new(alloc),
     };
     let mut names = Names::new(alloc);
+    cut_into(&mut lexed, &mut names, text, reserved)?;
+    Ok(lexed)
+}
+
+// The same, into no tokens and no places.
+#[inline(always)]
+fn cut_into<'a>(
+    lexed: &mut Lexed,
+    names: &mut Names<'a>,
+    text: &'a [u8],
+    reserved: Reserved,
+) -> Result<(), Fault>
+    requires tokens { lexed.old.tokens.items ≡ [] }
+    requires places { lexed.old.places.items ≡ [] }
+    requires length { length text.now + 1 < greatest_number }
+    ensures found { OnOk result (IsLexed reserved text.now lexed.new.tokens.items lexed.new.places.items) }
+    ensures fault { IfErr result (λ fault. IsCutFault reserved text.now fault) }
+{
     let mut place = Place::start();
     let mut signs = true;
     let mut rest = text;
@@ -87,13 +105,13 @@ fn cut(alloc: Global, text: &[u8], reserved: Reserved) -> Result<Lexed, Fault>
         let Some(front) = cut_front(rest, signs) else {
             return Err(place.fault());
         };
-        lexed.add(token(&mut names, &front, reserved, place)?, place)?;
+        lexed.add(token(names, &front, reserved, place)?, place)?;
         place = place.behind(&front);
         signs = signs_behind(signs, front.kind);
         rest = front.rest;
     }
     lexed.places.push(place)?;
-    Ok(lexed)
+    Ok(())
 }
 
 /// The tokens of a text. Refused: `Limit::Text` where the text has more than `TEXT_LIMIT` bytes; else a syntax error at

@@ -9,7 +9,7 @@ use crate::ask::WrittenAsk;
 use crate::lexer::value::numbers;
 use crate::lowering::goals::lower_body;
 use crate::lowering::lists::Lists;
-use crate::lowering::scope::Scope;
+use crate::lowering::scope::{Scope, put};
 use crate::source::SourceGoal;
 use ghc_term::{NO_STEP, Name, VarName};
 use indexmap::IndexMap;
@@ -61,7 +61,7 @@ impl<'a> Known<'a> {
             };
             place = next;
             if name.as_str() != "_" {
-                places.insert(name.share()?, place)?;
+                put(&mut places, name, place)?;
             }
         }
         Ok(Known { names, places })

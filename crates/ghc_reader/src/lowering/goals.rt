@@ -3,7 +3,8 @@ ghost use Rattle.std.specs.Prelude.{◌≡◌, ◌<◌, ◌≤◌, length, IfOk,
 ghost use Rattle.ghc_term.specs.declared.limit.Limit.TheVariants.{Goals};
 ghost use Rattle.ghc_term.specs.Variables.{variables_of_goal, variables_of_goals};
 ghost use Rattle.ghc_reader.specs.Limits.{most};
-ghost use Rattle.ghc_reader.specs.inner.Views.{view, goal_view, goal_views};
+ghost use Rattle.ghc_reader.specs.Source.{unify, assign};
+ghost use Rattle.ghc_reader.specs.inner.Views.{view, value_view, goal_view, goal_views};
 ghost use Rattle.ghc_reader.specs.Lowered.{Each, SaysGoal, SaysAsked, is_true, doing, variable_of, tail_of, AreCounted};
 ghost use Rattle.ghc_reader.specs.inner.Scope.{MeetsAll, Counts};
 
@@ -11,7 +12,7 @@ use crate::lowering::expressions::lower_expression;
 use crate::lowering::lists::Lists;
 use crate::lowering::scope::Scope;
 use crate::lowering::terms::{lower_term, lower_terms};
-use crate::source::{SourceGoal, SourceTerm};
+use crate::source::{SourceExpression, SourceGoal, SourceTerm};
 use ghc_term::{Goal, Name, Term};
 use std::alloc::AllocError;
 
@@ -29,17 +30,41 @@ pub(crate) fn lower_goal(
             let arguments = lower_terms(lists, &call.arguments, scope)?;
             Goal::call(lists.alloc(), call.name.share()?, arguments)
         }
-        SourceGoal::Unify(left, right) => {
-            let left = lower_term(lists, left, scope)?;
-            let right = lower_term(lists, right, scope)?;
-            Ok(Goal::unify(left, right))
-        }
-        SourceGoal::Assign(name, value) => {
-            let variable = scope.variable(name)?;
-            let value = lower_expression(lists.alloc(), value, scope)?;
-            Ok(Goal::assign(Term::variable(variable), value))
-        }
+        SourceGoal::Unify(left, right) => lower_equation(lists, left, right, scope),
+        SourceGoal::Assign(name, value) => lower_assignment(lists, name, value, scope),
     }
+}
+
+// The equation of two sides.
+#[inline(always)]
+fn lower_equation(
+    lists: &Lists,
+    left: &SourceTerm,
+    right: &SourceTerm,
+    scope: &mut Scope,
+) -> Result<Goal, AllocError>
+    ensures says { IfOk result (λ w. SaysGoal scope.new (unify (view left.now) (view right.now)) w) }
+    ensures met { IfOk result (λ w. MeetsAll scope.old (variables_of_goal w) scope.new) }
+{
+    let left = lower_term(lists, left, scope)?;
+    let right = lower_term(lists, right, scope)?;
+    Ok(Goal::unify(left, right))
+}
+
+// The assignment of a value to the variable of that name.
+#[inline(always)]
+fn lower_assignment(
+    lists: &Lists,
+    name: &Name,
+    value: &SourceExpression,
+    scope: &mut Scope,
+) -> Result<Goal, AllocError>
+    ensures says { IfOk result (λ w. SaysGoal scope.new (assign name.now (value_view value.now)) w) }
+    ensures met { IfOk result (λ w. MeetsAll scope.old (variables_of_goal w) scope.new) }
+{
+    let variable = scope.variable(name)?;
+    let value = lower_expression(lists.alloc(), value, scope)?;
+    Ok(Goal::assign(Term::variable(variable), value))
 }
 
 /// The goals of a clause's body, but `true`.

@@ -1,5 +1,6 @@
 // The variables of a clause or a query that are known so far, and their names.
-ghost use Rattle.std.specs.Prelude.{◌≡◌, ◌≢◌, ◌+◌, [], IfOk, IfSome};
+ghost use Rattle.std.specs.Prelude.{◌≡◌, ◌≢◌, ℕ, ◌+◌, List, [], bytes_eq, Some, IfOk, IfSome, OnOk, OnErr};
+ghost use Rattle.indexmap.specs.IndexMap.{get, Updates};
 ghost use Rattle.ghc_reader.specs.Lowered.{blank, IsCalled};
 ghost use Rattle.ghc_reader.specs.inner.Scope.{IsFresh, Meets};
 
@@ -103,14 +104,27 @@ impl Scope {
         let Some(place) = number_behind(self.names.len()) else {
             return Err(AllocError);
         };
-        let key = name.share()?;
         self.names.push(name.share()?)?;
-        if self.places.insert(key, place).is_err() {
+        if put(&mut self.places, name, place).is_err() {
             self.names.pop();
             return Err(AllocError);
         }
         Ok(VarName { step: 0, place })
     }
+}
+
+/// Puts the name into the table, with its place. Where memory is refused the table stays as it was.
+#[inline(always)]
+pub(crate) fn put(
+    places: &mut IndexMap<Name, u32>,
+    name: &Name,
+    place: u32,
+) -> Result<(), AllocError>
+    ensures put { OnOk result (Updates bytes_eq places.old places.new name.now (Some place)) }
+    ensures kept { OnErr result ((v : List ℕ) → get bytes_eq places.new v ≡ get bytes_eq places.old v) }
+{
+    places.insert(name.share()?, place)?;
+    Ok(())
 }
 
 // The number after this count, if it has 32 bits.

@@ -1,7 +1,7 @@
-use Rattle.ghc_reader.proofs.Words.{◌≡◌, ◌≢◌, ◌+◌, sym, subst, take, bytes_eq, rules, get, blank, IsTable}
+use Rattle.ghc_reader.proofs.Words.{◌≡◌, ◌≢◌, ◌+◌, refl, sym, subst, take, bytes_eq, rules, get, blank, IsTable}
 use Rattle.ghc_reader.proofs.AsksLowered.{table_passed, table_put}
 use Rattle.ghc_reader.proofs.lowering.asks.Known.new.Goals as goal
-use Rattle.ghc_reader.proofs.lowering.asks.Known.new.Goals.{then-ne+in_ok-share+in_ok-insert, else-ne}
+use Rattle.ghc_reader.proofs.lowering.asks.Known.new.Goals.{then-ne+in_ok-put, else-ne}
 
 pub loop-name-preserved : goal.loop-name-preserved
 loop-name-preserved c =
@@ -10,11 +10,11 @@ loop-name-preserved c =
     let name = c.name-item.result in
     let number : c.in-Some.next ≡ i + 1 = search rules in
     elim c.if-ne.branch [
-      | then-ne+in_ok-share+in_ok-insert w ↦
+      | then-ne+in_ok-put w ↦
           let named : name ≢ blank = search rules in
           record {
             counted = number;
-            table = subst (λ m. IsTable (get bytes_eq m) (take (i + 1) c.args.names.now)) (sym w.places-is) (table_put before.places w.insert.new.self c.args.names.now i name w.in_ok-share.field-0 c.in-Some.next w.in_ok-share.ensures.same named c.loop-name-test.true c.name-item.is number before.invariant.table w.in_ok-insert.ensures.updates);
+            table = subst (λ m. IsTable (get bytes_eq m) (take (i + 1) c.args.names.now)) (sym w.places-is) (table_put before.places w.put.new.places c.args.names.now i name name c.in-Some.next refl named c.loop-name-test.true c.name-item.is number before.invariant.table w.in_ok-put.ensures.put);
           }
       | else-ne w ↦
           let unnamed : name ≡ blank = search rules in

@@ -1,7 +1,7 @@
 use Rattle.ghc_reader.proofs.Words.{◌≡◌, ◌≢◌, ◌⊎◌, ◌++◌, [], IfErr, sym, ap, subst, ◌∙◌, rules, err_from_is_err_and, option_to_list, signs_behind, fault_at, piece_of, place_of_token, IsRefused, IsCutFault}
 use Rattle.ghc_term.specs.declared.fault.Fault.TheVariants as fault
 use Rattle.ghc_reader.proofs.Cutting.{LexedSoFar, more_lexed, one_refused, refused_fault, line_fits, column_fits}
-use Rattle.ghc_reader.proofs.lexer.cut.Goals as goal
+use Rattle.ghc_reader.proofs.lexer.cut_into.Goals as goal
 
 pub returns-in_err-token-clause-fault : goal.returns-in_err-token-clause-fault
 returns-in_err-token-clause-fault c =
@@ -17,11 +17,11 @@ returns-in_err-token-clause-fault c =
 
 pub behind-place-requires-clause-line_fits : goal.behind-place-requires-clause-line_fits
 behind-place-requires-clause-line_fits c =
-    line_fits _ _ _ _ _ _ _ c.loop-rest.invariant c.requires
+    line_fits _ _ _ _ _ _ _ c.loop-rest.invariant c.requires.length
 
 pub behind-place-requires-clause-column_fits : goal.behind-place-requires-clause-column_fits
 behind-place-requires-clause-column_fits c =
-    column_fits _ _ _ _ _ _ _ c.loop-rest.invariant c.requires _ _ c.in-Some.ensures.0
+    column_fits _ _ _ _ _ _ _ c.loop-rest.invariant c.requires.length _ _ c.in-Some.ensures.0
 
 pub loop-rest-preserved : goal.loop-rest-preserved
 loop-rest-preserved c =
