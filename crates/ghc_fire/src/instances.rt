@@ -1,5 +1,5 @@
 // The goals that a clause's body makes in a step, goals of an effect as the step of some number has them, and goals of an ask.
-ghost use Rattle.std.specs.Prelude.{◌≡◌, length, map, IfOk};
+ghost use Rattle.std.specs.Prelude.{◌≡◌, [], ◌∷◌, ◌++◌, length, map, IfOk};
 ghost use Rattle.ghc_term.specs.Goal.{call};
 ghost use Rattle.ghc_flat.specs.Variables.{fresh_variables};
 ghost use Rattle.ghc_unify.specs.Solutions.{replace};
@@ -47,33 +47,107 @@ fn replace_call(
 {
     match arguments {
         [] => Ok(Goal::call_of_none(name.share()?)),
-        [first] => {
-            let arguments = [replace_term(alloc, first, by)?];
-            Ok(Goal::call_of_one(name.share()?, arguments))
-        }
-        [first, second] => {
-            let first = replace_term(alloc, first, by)?;
-            let arguments = [first, replace_term(alloc, second, by)?];
-            Ok(Goal::call_of_two(name.share()?, arguments))
-        }
-        [first, second, third] => {
-            let first = replace_term(alloc, first, by)?;
-            let second = replace_term(alloc, second, by)?;
-            let arguments = [first, second, replace_term(alloc, third, by)?];
-            Ok(Goal::call_of_three(name.share()?, arguments))
-        }
+        [first] => replace_one(alloc, name, first, by),
+        [first, second] => replace_two(alloc, name, first, second, by),
+        [first, second, third] => replace_three(alloc, name, first, second, third, by),
         [first, second, third, fourth] => {
-            let first = replace_term(alloc, first, by)?;
-            let second = replace_term(alloc, second, by)?;
-            let third = replace_term(alloc, third, by)?;
-            let arguments = [first, second, third, replace_term(alloc, fourth, by)?];
-            Ok(Goal::call_of_four(name.share()?, arguments))
+            replace_four(alloc, name, first, second, third, fourth, by)
         }
-        _ => {
-            let arguments = replace_terms(alloc, arguments, by)?;
-            Goal::call(alloc, name.share()?, arguments)
-        }
+        _ => replace_many(alloc, name, arguments, by),
     }
+}
+
+// The call of this name of one term.
+#[inline(always)]
+fn replace_one(
+    alloc: Global,
+    name: &Name,
+    first: &Term,
+    by: Renaming<'_>,
+) -> Result<Goal, AllocError>
+    ensures { IfOk result (λ g. g ≡ call name.now (map (replace (replacement by.entry)) (first.now ∷ []))) }
+{
+    let arguments = [replace_term(alloc, first, by)?];
+    Ok(Goal::call_of_one(name.share()?, arguments))
+}
+
+// The call of this name of two terms.
+#[inline(always)]
+fn replace_two(
+    alloc: Global,
+    name: &Name,
+    first: &Term,
+    second: &Term,
+    by: Renaming<'_>,
+) -> Result<Goal, AllocError>
+    ensures { IfOk result (λ g. g ≡ call name.now (map (replace (replacement by.entry)) (first.now ∷ second.now ∷ []))) }
+{
+    let arguments = replace_pair(alloc, first, second, by)?;
+    Ok(Goal::call_of_two(name.share()?, arguments))
+}
+
+// The call of this name of three terms.
+#[inline(always)]
+fn replace_three(
+    alloc: Global,
+    name: &Name,
+    first: &Term,
+    second: &Term,
+    third: &Term,
+    by: Renaming<'_>,
+) -> Result<Goal, AllocError>
+    ensures { IfOk result (λ g. g ≡ call name.now (map (replace (replacement by.entry)) (first.now ∷ second.now ∷ third.now ∷ []))) }
+{
+    let [first, second] = replace_pair(alloc, first, second, by)?;
+    let arguments = [first, second, replace_term(alloc, third, by)?];
+    Ok(Goal::call_of_three(name.share()?, arguments))
+}
+
+// The call of this name of four terms.
+#[inline(always)]
+fn replace_four(
+    alloc: Global,
+    name: &Name,
+    first: &Term,
+    second: &Term,
+    third: &Term,
+    fourth: &Term,
+    by: Renaming<'_>,
+) -> Result<Goal, AllocError>
+    ensures { IfOk result (λ g. g ≡ call name.now (map (replace (replacement by.entry)) (first.now ∷ second.now ∷ third.now ∷ fourth.now ∷ []))) }
+{
+    let [first, second] = replace_pair(alloc, first, second, by)?;
+    let [third, fourth] = replace_pair(alloc, third, fourth, by)?;
+    let arguments = [first, second, third, fourth];
+    Ok(Goal::call_of_four(name.share()?, arguments))
+}
+
+// The call of this name of any number of terms.
+#[inline(always)]
+fn replace_many(
+    alloc: Global,
+    name: &Name,
+    arguments: &[Term],
+    by: Renaming<'_>,
+) -> Result<Goal, AllocError>
+    ensures { IfOk result (λ g. g ≡ call name.now (map (replace (replacement by.entry)) arguments.now)) }
+{
+    let arguments = replace_terms(alloc, arguments, by)?;
+    Goal::call(alloc, name.share()?, arguments)
+}
+
+// Two terms with their variables replaced.
+#[inline(always)]
+fn replace_pair(
+    alloc: Global,
+    first: &Term,
+    second: &Term,
+    by: Renaming<'_>,
+) -> Result<[Term; 2], AllocError>
+    ensures { IfOk result (λ ts. ts ≡ map (replace (replacement by.entry)) (first.now ∷ second.now ∷ [])) }
+{
+    let first = replace_term(alloc, first, by)?;
+    Ok([first, replace_term(alloc, second, by)?])
 }
 
 // The goal with its variables replaced.
@@ -103,6 +177,53 @@ fn replace_next(alloc: Global, goal: &Goal, by: Renaming<'_>) -> Result<Goal, Al
     replace_goal(alloc, goal, by)
 }
 
+// Three goals with their variables replaced, and so many variables.
+#[inline(always)]
+fn made_of_three(
+    alloc: Global,
+    first: &Goal,
+    second: &Goal,
+    third: &Goal,
+    by: Renaming<'_>,
+    fresh: u32,
+) -> Result<Made, AllocError>
+    ensures { IfOk result (λ made. made ≡ record { goals = map (replace_in_goal (replacement by.entry)) (first.now ∷ second.now ∷ third.now ∷ []); fresh = fresh }) }
+{
+    let [first, second] = replace_next_pair(alloc, first, second, by)?;
+    Made::three(alloc, first, second, replace_next(alloc, third, by)?, fresh)
+}
+
+// The goals in front and two more with their variables replaced, and so many variables.
+#[inline(always)]
+fn made_of_four(
+    alloc: Global,
+    front: [Goal; 2],
+    third: &Goal,
+    fourth: &Goal,
+    by: Renaming<'_>,
+    fresh: u32,
+) -> Result<Made, AllocError>
+    ensures { IfOk result (λ made. made ≡ record { goals = front ++ map (replace_in_goal (replacement by.entry)) (third.now ∷ fourth.now ∷ []); fresh = fresh }) }
+{
+    let [first, second] = front;
+    let [third, fourth] = replace_next_pair(alloc, third, fourth, by)?;
+    Made::four(alloc, [first, second, third, fourth], fresh)
+}
+
+// Two goals with their variables replaced.
+#[inline(always)]
+fn replace_next_pair(
+    alloc: Global,
+    first: &Goal,
+    second: &Goal,
+    by: Renaming<'_>,
+) -> Result<[Goal; 2], AllocError>
+    ensures { IfOk result (λ gs. gs ≡ map (replace_in_goal (replacement by.entry)) (first.now ∷ second.now ∷ [])) }
+{
+    let first = replace_next(alloc, first, by)?;
+    Ok([first, replace_next(alloc, second, by)?])
+}
+
 // The goals with their variables replaced.
 fn replace_goals(alloc: Global, goals: &[Goal], by: Renaming<'_>) -> Result<Vec<Goal>, AllocError>
     ensures { IfOk result (λ gs. gs.items ≡ map (replace_in_goal (replacement by.entry)) goals.now) }
@@ -127,17 +248,10 @@ fn replace_more(
     ensures { IfOk result (λ made. made ≡ record { goals = map (replace_in_goal (replacement by.entry)) goals.now; fresh = fresh }) }
 {
     match goals {
-        [first, second, third] => {
-            let first = replace_next(alloc, first, by)?;
-            let second = replace_next(alloc, second, by)?;
-            Made::three(alloc, first, second, replace_next(alloc, third, by)?, fresh)
-        }
+        [first, second, third] => made_of_three(alloc, first, second, third, by, fresh),
         [first, second, third, fourth] => {
-            let first = replace_next(alloc, first, by)?;
-            let second = replace_next(alloc, second, by)?;
-            let third = replace_next(alloc, third, by)?;
-            let goals = [first, second, third, replace_next(alloc, fourth, by)?];
-            Made::four(alloc, goals, fresh)
+            let front = replace_next_pair(alloc, first, second, by)?;
+            made_of_four(alloc, front, third, fourth, by, fresh)
         }
         _ => Made::of(alloc, replace_goals(alloc, goals, by)?, fresh),
     }

@@ -1,6 +1,8 @@
 // What a step of a stream goal would do: an input, or the close.
 ghost use Rattle.std.specs.Prelude.{◌≡◌, IfOk, IfSome, IfNone};
+ghost use Rattle.std.specs.FinMap as finite;
 ghost use Rattle.ghc_term.specs.Store.{value_at};
+ghost use Rattle.ghc_term.specs.Tree.{variable, cons};
 ghost use Rattle.ghc_fire.specs.Effect.{Feeds, Closes};
 ghost use Rattle.ghc_fire.specs.inner.Tail.{IsOpenAt, IsTailBound};
 
@@ -52,13 +54,38 @@ pub fn feed(
         return Ok(None);
     };
     let goes_on = VarName { step, place: 1 };
-    let given = input.as_term().share()?;
-    let cell_name = Name::new(alloc, ".")?;
-    let cell = Term::pair(alloc, cell_name, given, Term::variable(goes_on))?;
-    let mut binds = Bindings::new(alloc);
-    binds.insert(end, cell)?;
+    let binds = bind_to_cell(alloc, end, input.as_term(), goes_on)?;
     let makes = Made::one(alloc, Goal::stream(stream, goes_on), 1)?;
     Ok(Some(Effect::new(before, binds, makes)))
+}
+
+// The binding of the variable to the list cell of a term and a tail.
+#[inline(always)]
+fn bind_to_cell(
+    alloc: Global,
+    x: VarName,
+    element: &Term,
+    tail: VarName,
+) -> Result<Bindings, AllocError>
+    ensures { IfOk result (λ binds. binds ≡ finite.insert finite.empty x (cons element.now (variable tail))) }
+{
+    let element = element.share()?;
+    let name = Name::new(alloc, ".")?;
+    bind_to(
+        alloc,
+        x,
+        Term::pair(alloc, name, element, Term::variable(tail))?,
+    )
+}
+
+// The binding of the variable to the term.
+#[inline(always)]
+fn bind_to(alloc: Global, x: VarName, value: Term) -> Result<Bindings, AllocError>
+    ensures { IfOk result (λ binds. binds ≡ finite.insert finite.empty x value) }
+{
+    let mut binds = Bindings::new(alloc);
+    binds.insert(x, value)?;
+    Ok(binds)
 }
 
 /// The effect of the close of a stream: the end of its tail is bound to `[]`. None exactly where the chain of the tail ends
@@ -70,7 +97,6 @@ pub fn close(alloc: Global, store: &Store, tail: VarName) -> Result<Option<Effec
     let Some((end, before)) = open_end(alloc, store, tail)? else {
         return Ok(None);
     };
-    let mut binds = Bindings::new(alloc);
-    binds.insert(end, Term::atom(Name::new(alloc, "[]")?))?;
+    let binds = bind_to(alloc, end, Term::atom(Name::new(alloc, "[]")?))?;
     Ok(Some(Effect::new(before, binds, Made::none(0))))
 }
