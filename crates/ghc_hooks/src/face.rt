@@ -2,6 +2,8 @@
 ghost use Rattle.std.specs.Prelude.{◌≡◌, length, IfOk, IfSome, IfNone, None, Some};
 ghost use Rattle.std.specs.FinMap as finite;
 ghost use Rattle.std.specs.FinSet as set;
+ghost use Rattle.ghc_hooks.specs.declared.face.status.Kind.TheVariants.{Ready, Waiting, Failed, Stream};
+ghost use Rattle.ghc_hooks.specs.inner.Parts.{TellsHooks, TellsPool};
 
 mod hooks;
 mod outcomes;
@@ -56,6 +58,23 @@ impl<'a> Model for Face<'a> {
     ghost view = { λ f. record { goals = f.goals.now.held; store = f.store.now.held; outcomes = f.outcomes; statuses = f.statuses; hooks = f.hooks; ready = f.pools.ready.held; waiting = f.pools.waiting.held; failed = f.pools.failed.held; streams = f.pools.streams.held } };
 }
 
+// The hooks and the pools of these goals by their statuses.
+#[inline(always)]
+fn told_by(
+    alloc: Global,
+    statuses: &Statuses,
+    names: &[GoalName],
+) -> Result<(Hooks, Pools), AllocError>
+    ensures hooks { IfOk result (λ told. TellsHooks statuses.now names.now told.0) }
+    ensures ready { IfOk result (λ told. TellsPool statuses.now Ready names.now told.1.ready.held) }
+    ensures waiting { IfOk result (λ told. TellsPool statuses.now Waiting names.now told.1.waiting.held) }
+    ensures failed { IfOk result (λ told. TellsPool statuses.now Failed names.now told.1.failed.held) }
+    ensures streams { IfOk result (λ told. TellsPool statuses.now Stream names.now told.1.streams.held) }
+{
+    let hooks = Hooks::of(alloc, statuses, names)?;
+    Ok((hooks, Pools::of(alloc, statuses, names)?))
+}
+
 impl<'a> Face<'a> {
     ghost use Rattle.std.specs.Prelude.{option_copied};
     ghost use Rattle.ghc_match.specs.inner.Told.{outcome_of};
@@ -73,15 +92,31 @@ impl<'a> Face<'a> {
         ensures { IfOk result (IsFace program.now goals.now.held store.now.held) }
     {
         let listed = names_of(alloc, goals)?;
-        let names = listed.as_slice();
+        Face::of_goals(alloc, program, goals, store, listed.as_slice())
+    }
+
+    // The same, where the goals are listed.
+    #[inline(always)]
+    fn of_goals(
+        alloc: Global,
+        program: &Program,
+        goals: &'a Goals,
+        store: &'a Store,
+        names: &[GoalName],
+    ) -> Result<Face<'a>, AllocError>
+        requires { names.now ≡ finite.keys goals.now.held }
+        ensures { IfOk result (IsFace program.now goals.now.held store.now.held) }
+    {
         let statuses = Statuses::of(alloc, program, goals, store, names)?;
+        let outcomes = Outcomes::of(alloc, program, goals, store, names)?;
+        let (hooks, pools) = told_by(alloc, &statuses, names)?;
         Ok(Face {
             goals,
             store,
-            outcomes: Outcomes::of(alloc, program, goals, store, names)?,
-            hooks: Hooks::of(alloc, &statuses, names)?,
-            pools: Pools::of(alloc, &statuses, names)?,
+            outcomes,
             statuses,
+            hooks,
+            pools,
         })
     }
 

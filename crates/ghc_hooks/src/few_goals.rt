@@ -53,10 +53,24 @@ fn three(
     ensures { IfOk result (λ goals. goals.value.held ≡ set.insert (set.insert (set.insert set.empty first) second) third) }
 {
     let mut goals = GoalSet::new(alloc);
+    insert_three(&mut goals, first, second, third)?;
+    Ok(Box::new(alloc, goals)?)
+}
+
+// Adds the three goals.
+#[inline(always)]
+fn insert_three(
+    goals: &mut GoalSet,
+    first: GoalName,
+    second: GoalName,
+    third: GoalName,
+) -> Result<(), AllocError>
+    ensures { OnOk result (goals.new.held ≡ set.insert (set.insert (set.insert goals.old.held first) second) third) }
+{
     goals.insert(first)?;
     goals.insert(second)?;
     goals.insert(third)?;
-    Ok(Box::new(alloc, goals)?)
+    Ok(())
 }
 
 // The first and the second of two goals.

@@ -39,6 +39,27 @@ impl Model for Tries {
     ghost invariant = { λ t. FitEachOther t.notes.held t.untried t.looks × AreUnblocked t.notes.held t.unblocked };
 }
 
+// Makes room for one more note, of a goal of this step, and for each noted goal among the untried.
+#[inline(always)]
+fn make_room(
+    notes: &mut Notes,
+    untried: &mut GoalSet,
+    unsorted: &mut GoalSet,
+    step: u32,
+) -> Result<(), AllocError>
+    ensures notes { notes.new.held ≡ notes.old.held }
+    ensures untried { untried.new.held ≡ untried.old.held }
+    ensures unsorted { unsorted.new.held ≡ unsorted.old.held }
+    ensures kept { untried.old.room ≤ untried.new.room }
+    ensures room { OnOk result (0 < notes.new.room) }
+    ensures untried_room { OnOk result (finite.len notes.old.held + 1 ≤ untried.new.room) }
+    ensures unsorted_room { OnOk result (0 < unsorted.new.room) }
+{
+    notes.reserve(1, step)?;
+    untried.reserve(notes.len() + 1, step)?;
+    unsorted.reserve(1, step)
+}
+
 impl Tries {
     ghost use Rattle.std.specs.Prelude.{option_copied};
     ghost use Rattle.ghc_term.specs.Lists.{In};
@@ -174,9 +195,8 @@ impl Tries {
         ensures untried_stay { OnErr result (self.new.untried ≡ self.old.untried) }
         ensures room { self.old.room ≤ self.new.room + 1 }
     {
-        self.notes.reserve(1, goal.step)?;
-        self.untried.reserve(self.notes.len() + 1, goal.step)?;
-        self.unblocked.unsorted.reserve(1, goal.step)?;
+        let unsorted = &mut self.unblocked.unsorted;
+        make_room(&mut self.notes, &mut self.untried, unsorted, goal.step)?;
         self.looks.add_all(note.looked().members(), goal)?;
         self.untried.remove(goal);
         self.unblocked.add(goal, note.verdict());

@@ -44,6 +44,22 @@ fn pool_of(
     Ok(pool)
 }
 
+// The same for two kinds.
+#[inline(always)]
+fn pools_of(
+    alloc: Global,
+    statuses: &Statuses,
+    names: &[GoalName],
+    first: Kind,
+    second: Kind,
+) -> Result<(GoalSet, GoalSet), AllocError>
+    ensures first { IfOk result (λ pools. TellsPool statuses.now first names.now pools.0.held) }
+    ensures second { IfOk result (λ pools. TellsPool statuses.now second names.now pools.1.held) }
+{
+    let pool = pool_of(alloc, statuses, names, first)?;
+    Ok((pool, pool_of(alloc, statuses, names, second)?))
+}
+
 // The goals of each kind of status.
 pub struct Pools {
     pub ready: GoalSet,
@@ -71,11 +87,13 @@ impl Pools {
         ensures failed { IfOk result (λ pools. TellsPool statuses.now Failed names.now pools.failed.held) }
         ensures streams { IfOk result (λ pools. TellsPool statuses.now Stream names.now pools.streams.held) }
     {
+        let (ready, waiting) = pools_of(alloc, statuses, names, Kind::Ready, Kind::Waiting)?;
+        let (failed, streams) = pools_of(alloc, statuses, names, Kind::Failed, Kind::Stream)?;
         Ok(Pools {
-            ready: pool_of(alloc, statuses, names, Kind::Ready)?,
-            waiting: pool_of(alloc, statuses, names, Kind::Waiting)?,
-            failed: pool_of(alloc, statuses, names, Kind::Failed)?,
-            streams: pool_of(alloc, statuses, names, Kind::Stream)?,
+            ready,
+            waiting,
+            failed,
+            streams,
         })
     }
 }

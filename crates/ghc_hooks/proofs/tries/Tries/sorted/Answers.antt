@@ -1,4 +1,4 @@
-use Rattle.ghc_hooks.proofs.Words.{sym, failed, ready}
+use Rattle.ghc_hooks.proofs.Words.{sym}
 use Rattle.ghc_hooks.proofs.NotedFaces.{through}
 use Rattle.ghc_hooks.proofs.Unblocking.{all_ready, all_failed, in_keys}
 use Rattle.ghc_hooks.proofs.tries.Tries.sorted.Goals as goal
