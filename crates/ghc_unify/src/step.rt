@@ -1,14 +1,15 @@
 // The moves on a list of equations up to the next binding.
-ghost use Rattle.std.specs.Prelude.{◌≡◌, true, ◌⊎◌, IfOk, IfErr, OnOk, Err, List, length, reverse, ◌++◌};
+ghost use Rattle.std.specs.Prelude.{◌≡◌, true, ◌⊎◌, IfOk, IfErr, OnOk, Err, List, [], length, reverse, ◌++◌};
 ghost use Rattle.ghc_term.specs.Store.{value_at};
 ghost use Rattle.ghc_term.specs.Tree.{Tree, trees, IsValue};
-ghost use Rattle.ghc_term.specs.Bindings.{IsAcyclic, Reaches};
+ghost use Rattle.ghc_term.specs.Bindings.{IsAcyclic, Leads, Reaches};
 ghost use Rattle.ghc_unify.specs.Unify.{Pairs, Meets, IsClash, IsCycle, with_bindings};
 ghost use Rattle.ghc_unify.specs.inner.Met.{IsNoted, IsPairOf};
+ghost use Rattle.ghc_unify.specs.inner.Parting.{Parts};
 ghost use Rattle.ghc_unify.specs.inner.Steps.{Steps, Advances, FailsFrom};
 
 use crate::chains::add_bound_reads;
-use crate::parting::both_chains;
+use crate::parting::{Sides, both_chains};
 use ghc_term::{Bindings, Fault, Overlay, Store, Term, TermView, VarName, Variables};
 use indexmap::IndexSet;
 use std::alloc::{AllocError, Global};
@@ -102,9 +103,33 @@ fn step<'a>(
     ensures only { IfErr result (λ e. (e ≡ Fault.Clash) ⊎ (e ≡ Fault.Cycle) ⊎ (e ≡ Fault.Memory)) }
 {
     let sides = both_chains(alloc, store, binds, left, right)?;
-    let shared = sides.shared;
+    step_between(alloc, store, binds, left, right, &sides, equations, reads)
+}
+
+// The same, where these are the chains of both sides.
+#[inline(always)]
+fn step_between(
+    alloc: Global,
+    store: &Store,
+    binds: &Bindings,
+    left: &Term,
+    right: &Term,
+    sides: &Sides<'_>,
+    equations: &mut Equations,
+    reads: &mut Variables,
+) -> Result<Option<Binding>, Fault>
+    requires acyclic { IsAcyclic (with_bindings binds.now (value_at store.now.held)) }
+    requires sides { (xs ys : List VarName)
+        × Leads (with_bindings binds.now (value_at store.now.held)) left.now xs sides.now.left.end.now
+        × Leads (with_bindings binds.now (value_at store.now.held)) right.now ys sides.now.right.end.now
+        × Parts xs ys sides.now.left.passed.items sides.now.right.passed.items sides.now.shared }
+    ensures ok { IfOk result (Steps (value_at store.now.held) (with_bindings binds.now (value_at store.now.held)) left.now right.now equations.old.items equations.new.items reads.old reads.new) }
+    ensures clash { result ≡ Err Fault.Clash → IsClash (with_bindings binds.now (value_at store.now.held)) left.now right.now }
+    ensures cycle { result ≡ Err Fault.Cycle → IsCycle (with_bindings binds.now (value_at store.now.held)) left.now right.now }
+    ensures only { IfErr result (λ e. (e ≡ Fault.Clash) ⊎ (e ≡ Fault.Cycle) ⊎ (e ≡ Fault.Memory)) }
+{
     add_bound_reads(store, &sides.left.passed, reads)?;
-    if shared {
+    if sides.shared {
         add_bound_reads(store, &sides.right.passed, reads)?;
         return Ok(None);
     }
@@ -164,10 +189,30 @@ pub fn advance(
     ensures cycle { result ≡ Err Fault.Cycle → FailsFrom IsCycle (value_at store.now.held) (with_bindings binds.now (value_at store.now.held)) (reverse equations.old.items) }
     ensures only { IfErr result (λ e. (e ≡ Fault.Clash) ⊎ (e ≡ Fault.Cycle) ⊎ (e ≡ Fault.Memory)) }
 {
-    let mut few = 64;
     let mut met = IndexSet::new(alloc);
+    advance_noting(alloc, store, binds, equations, reads, &mut met)
+}
+
+// The same, where no equation of two variables was met.
+#[inline(always)]
+fn advance_noting(
+    alloc: Global,
+    store: &Store,
+    binds: &Bindings,
+    equations: &mut Equations,
+    reads: &mut Variables,
+    met: &mut Met,
+) -> Result<Option<Binding>, Fault>
+    requires acyclic { IsAcyclic (with_bindings binds.now (value_at store.now.held)) }
+    requires none { met.old.keys ≡ [] }
+    ensures ok { IfOk result (Advances (value_at store.now.held) (with_bindings binds.now (value_at store.now.held)) equations.old.items equations.new.items reads.old reads.new) }
+    ensures clash { result ≡ Err Fault.Clash → FailsFrom IsClash (value_at store.now.held) (with_bindings binds.now (value_at store.now.held)) (reverse equations.old.items) }
+    ensures cycle { result ≡ Err Fault.Cycle → FailsFrom IsCycle (value_at store.now.held) (with_bindings binds.now (value_at store.now.held)) (reverse equations.old.items) }
+    ensures only { IfErr result (λ e. (e ≡ Fault.Clash) ⊎ (e ≡ Fault.Cycle) ⊎ (e ≡ Fault.Memory)) }
+{
+    let mut few = 64;
     while let Some((left, right)) = equations.pop() {
-        if are_solved(&left, &right, &mut few, &mut met)? {
+        if are_solved(&left, &right, &mut few, met)? {
             continue;
         }
         if let Some(binding) = step(alloc, store, binds, &left, &right, equations, reads)? {

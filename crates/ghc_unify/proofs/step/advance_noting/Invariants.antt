@@ -1,7 +1,7 @@
 use Rattle.ghc_unify.proofs.Words.{reverse, value_at, with_bindings, merged}
 use Rattle.ghc_unify.proofs.Falling.{weights}
 use Rattle.ghc_unify.proofs.ByPairs.{Paired}
-use Rattle.ghc_unify.proofs.step.advance.Given as goal
+use Rattle.ghc_unify.proofs.step.advance_noting.Given as goal
 
 abbrev pub invariant-loop-left : goal.invariant-loop-left
 invariant-loop-left l =
