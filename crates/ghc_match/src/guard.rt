@@ -1,5 +1,5 @@
 // What the guard of a clause says.
-ghost use Rattle.std.specs.Prelude.{◌≡◌, ◌↔◌, IfOk, OnOk, IsTrue};
+ghost use Rattle.std.specs.Prelude.{◌≡◌, ◌↔◌, ◌++◌, IfOk, OnOk, IsTrue};
 ghost use Rattle.ghc_term.specs.declared.var_name.VarName.{VarName};
 ghost use Rattle.ghc_term.specs.Tree.{variable};
 ghost use Rattle.ghc_term.specs.Store.{value_at};
@@ -31,17 +31,25 @@ fn variables_of(alloc: Global, test: &Test) -> Result<Vec<VarName>, AllocError>
     ensures { IfOk result (λ names. names.items ≡ variables_of_test test.now) }
 {
     let mut names = Vec::new(alloc);
+    push_variables(alloc, test, &mut names)?;
+    Ok(names)
+}
+
+// Adds the variables of the test, in the order in which they stand there.
+#[inline(always)]
+fn push_variables(alloc: Global, test: &Test, names: &mut Vec<VarName>) -> Result<(), AllocError>
+    ensures { OnOk result (names.new.items ≡ names.old.items ++ variables_of_test test.now) }
+{
     match test {
-        Test::Wait(x) => names.push(*x)?,
-        Test::IsInteger(x) => names.push(*x)?,
-        Test::IsAtom(x) => names.push(*x)?,
-        Test::IsList(x) => names.push(*x)?,
+        Test::Wait(x) | Test::IsInteger(x) | Test::IsAtom(x) | Test::IsList(x) => {
+            names.push(*x)?;
+        }
         Test::Compare(_, left, right) => {
-            push_leaves(alloc, left, &mut names)?;
-            push_leaves(alloc, right, &mut names)?;
+            push_leaves(alloc, left, names)?;
+            push_leaves(alloc, right, names)?;
         }
     }
-    Ok(names)
+    Ok(())
 }
 
 // Whether what the variable stands for ends in an unbound variable, which is then wanted. Its chain is looked at.

@@ -1,5 +1,5 @@
 // The variables of expressions and tests.
-ghost use Rattle.std.specs.Prelude.{◌≡◌, ◌++◌, OnOk};
+ghost use Rattle.std.specs.Prelude.{◌≡◌, [], ◌++◌, OnOk};
 ghost use Rattle.ghc_term.specs.Expression.{leaf};
 ghost use Rattle.ghc_flat.specs.Variables.{leaf_variables};
 
@@ -22,6 +22,19 @@ fn push_parts(alloc: Global, expression: &Expr, names: &mut Vec<VarName>) -> Res
     ensures { OnOk result (names.new.items ≡ names.old.items ++ leaf_variables expression.now) }
 {
     let mut waiting = Vec::new(alloc);
+    push_waiting(expression, &mut waiting, names)
+}
+
+// The same, where no part waits yet.
+#[inline(always)]
+fn push_waiting<'a>(
+    expression: &'a Expr,
+    waiting: &mut Vec<&'a Expr>,
+    names: &mut Vec<VarName>,
+) -> Result<(), AllocError>
+    requires { waiting.old.items ≡ [] }
+    ensures { OnOk result (names.new.items ≡ names.old.items ++ leaf_variables expression.now) }
+{
     waiting.push(expression)?;
     while let Some(part) = waiting.pop() {
         match part.view() {

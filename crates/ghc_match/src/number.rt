@@ -1,5 +1,5 @@
 // The integer that an expression is worth.
-ghost use Rattle.std.specs.Prelude.{◌+◌, ◌<◌, ◌∷◌, IfOk, OnOk, reverse};
+ghost use Rattle.std.specs.Prelude.{◌≡◌, ◌+◌, ◌<◌, [], ◌∷◌, IfOk, OnOk, reverse};
 ghost use Rattle.ghc_term.specs.Expression.{leaf, operation};
 ghost use Rattle.ghc_match.specs.inner.Ends.{EndsAt};
 ghost use Rattle.ghc_match.specs.inner.Tasks.{IsWorth, AppliesToLast, GoesOn, steps_of, steps};
@@ -123,9 +123,25 @@ fn compute(
 {
     let mut tasks = Vec::new(alloc);
     let mut values = Vec::new(alloc);
+    perform_all(store, scope, expression, &mut tasks, &mut values)
+}
+
+// The same, where there are no tasks and no values yet.
+#[inline(always)]
+fn perform_all<'a>(
+    store: &Store,
+    scope: Scope<'_>,
+    expression: &'a Expr,
+    tasks: &mut Vec<Task<'a>>,
+    values: &mut Vec<i64>,
+) -> Result<Option<i64>, AllocError>
+    requires tasks { tasks.old.items ≡ [] }
+    requires values { values.old.items ≡ [] }
+    ensures { IfOk result (IsWorth (EndsAt scope.entry store.now.held) expression.now) }
+{
     tasks.push(Task::Find(expression))?;
     while let Some(task) = tasks.pop() {
-        if !perform(store, scope, task, &mut tasks, &mut values)? {
+        if !perform(store, scope, task, tasks, values)? {
             return Ok(None);
         }
     }

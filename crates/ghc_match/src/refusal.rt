@@ -1,11 +1,12 @@
 // Where a clause refuses a call.
-ghost use Rattle.std.specs.Prelude.{◌↔◌, IfOk, IsTrue};
+ghost use Rattle.std.specs.Prelude.{◌↔◌, ℕ, IfOk, OnOk, IsTrue};
 ghost use Rattle.ghc_term.specs.Store.{value_at};
 ghost use Rattle.ghc_term.specs.Variables.{variables};
 ghost use Rattle.ghc_flat.specs.Flat.{AreDistinct, IsLinear};
 ghost use Rattle.ghc_match.specs.Refusal.{MismatchIn};
 ghost use Rattle.ghc_match.specs.inner.Ends.{StandsAndEnds};
 ghost use Rattle.ghc_match.specs.inner.Refusing.{TellsFirst, ClashesWithin, TellsFirstNo, TellsRefusal};
+ghost use Rattle.ghc_match.specs.inner.Told.{HasShownNothing};
 
 use crate::guard::{Says, try_test};
 use crate::head::{Met, match_head, visit};
@@ -38,13 +39,30 @@ fn clash<'a>(
     ensures { IfOk result (λ clashes. IsTrue clashes ↔ ClashesWithin (value_at store.now.held) head.now term.now) }
 {
     let mut met = Met::new(alloc);
-    let mut here = visit(store, head, term, &mut met)?;
+    visit_all(alloc, head, term, store, &mut met)?;
+    Ok(met.clashes)
+}
+
+// Lets the argument of a head meet that of a call, at each position. Before, nothing was shown.
+#[inline(always)]
+fn visit_all<'a>(
+    alloc: Global,
+    head: &'a Term,
+    term: &'a Term,
+    store: &'a Store,
+    met: &mut Met<'a>,
+) -> Result<(), AllocError>
+    requires distinct { AreDistinct (variables head.now) }
+    requires nothing { HasShownNothing met.old }
+    ensures { OnOk result (IsTrue met.new.clashes ↔ ClashesWithin (value_at store.now.held) head.now term.now) }
+{
+    let mut here = visit(store, head, term, met)?;
     let mut pending = Vec::new(alloc);
     while let Some((part, other)) = next_pair(&mut here, &mut pending) {
-        let below = visit(store, part, other, &mut met)?;
+        let below = visit(store, part, other, met)?;
         go_below(below, &mut here, &mut pending)?;
     }
-    Ok(met.clashes)
+    Ok(())
 }
 
 // The first argument of the clause's head that clashes, if one does.
@@ -107,7 +125,24 @@ pub fn refusal_place(
         return Ok(Some(RefusalPlace::Argument(number)));
     }
     let mut met = Met::new(alloc);
-    match_head(alloc, clause, arguments, store, &mut met)?;
+    test_place(alloc, clause, arguments, store, &mut met)
+}
+
+// The same, where no argument clashes and nothing was shown.
+#[inline(always)]
+fn test_place<'a>(
+    alloc: Global,
+    clause: &'a Clause,
+    arguments: &'a [Term],
+    store: &'a Store,
+    met: &mut Met<'a>,
+) -> Result<Option<RefusalPlace>, AllocError>
+    requires linear { IsLinear clause.now }
+    requires nothing { HasShownNothing met.old }
+    requires none { (i : ℕ) → ¬ MismatchIn clause.now arguments.now (value_at store.now.held) i }
+    ensures { IfOk result (TellsRefusal clause.now arguments.now (value_at store.now.held)) }
+{
+    match_head(alloc, clause, arguments, store, met)?;
     if met.wanted.len() > 0 {
         return Ok(None);
     }

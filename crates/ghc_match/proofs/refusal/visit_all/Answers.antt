@@ -3,15 +3,15 @@ use Rattle.ghc_match.proofs.WalkedPositions.{walk_ends, head_parts, opens_more}
 use Rattle.ghc_match.proofs.MeetingLemmas.{IsFresh, fresh_last}
 use Rattle.ghc_match.proofs.MatchHead.{HeadSoFar, head_begins, head_goes_on, all_clashes}
 use Rattle.ghc_match.proofs.RefusalSearch.{alone}
-use Rattle.ghc_match.proofs.refusal.clash.Goals as goal
+use Rattle.ghc_match.proofs.refusal.visit_all.Goals as goal
 
 pub visit-requires : goal.visit-requires
 visit-requires c =
     let h = c.args.head.now in
     let t = c.args.term.now in
-    let met = c.new-met.result in
-    let nothing = c.new-met.ensures in
-    let begun = head_begins (value_at c.args.store.now.held) (h ∷ []) (t ∷ []) met.clashes met.stands met.wanted met.looked (alone h c.requires) nothing.0 nothing.1 nothing.2 nothing.3 in
+    let met = c.args.met.now in
+    let nothing = c.requires.nothing in
+    let begun = head_begins (value_at c.args.store.now.held) (h ∷ []) (t ∷ []) met.clashes met.stands met.wanted met.looked (alone h c.requires.distinct) nothing.0 nothing.1 nothing.2 nothing.3 in
     fresh_last [] (h, t) met.stands begun.fresh
 
 pub loop-part-init : goal.loop-part-init
@@ -19,12 +19,12 @@ loop-part-init c =
     let S = value_at c.args.store.now.held in
     let h = c.args.head.now in
     let t = c.args.term.now in
-    let old = c.new-met.result in
+    let old = c.args.met.now in
     let new = c.visit.new.met in
-    let nothing = c.new-met.ensures in
+    let nothing = c.requires.nothing in
     let said = c.in_ok-here.ensures in
     let here = c.in_ok-here.here in
-    let begun = head_begins S (h ∷ []) (t ∷ []) old.clashes old.stands old.wanted old.looked (alone h c.requires) nothing.0 nothing.1 nothing.2 nothing.3 in
+    let begun = head_begins S (h ∷ []) (t ∷ []) old.clashes old.stands old.wanted old.looked (alone h c.requires.distinct) nothing.0 nothing.1 nothing.2 nothing.3 in
     let one = head_goes_on S (h ∷ []) (t ∷ []) old.clashes new.clashes old.stands new.stands old.wanted new.wanted old.looked new.looked
     ((h, t) ∷ []) [] (ahead_in here) (h, t) begun refl said.clashes said.stands said.wanted said.looked said.opens in
     let first : all_ahead here c.new-pending.result.items ≡ ahead_in here = ap (λ l. ahead_of l ++ ahead_in here) c.new-pending.ensures.items in
