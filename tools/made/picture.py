@@ -21,6 +21,7 @@ PURPOSES = {
     "ghc_pool": ("threads", "runs, by 1 to 64 workers", 1, 9),
     "ghc_console": ("told", "lines in, replies out", 1, 10),
     "ghcdb": ("told", "files, options, exit status", 1, 11),
+    "ghc_tests": ("told", "what no clause says", 2, 11),
 }
 COLOURS = {
     "text": "#dbeafe",

@@ -61,6 +61,3 @@ fn main(rt: HostRuntime) -> ExitCode {
     };
     ExitCode::from(status.code())
 }
-
-#[cfg(test)]
-mod tests;

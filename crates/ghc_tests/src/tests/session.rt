@@ -1,16 +1,34 @@
 // A session on a device of which each call fails in turn.
 ghost use Rattle.std.specs.Prelude.{◌≡◌, ◌<◌};
 
-use crate::no_gate::NoGate;
 use crate::tests::cores::core_of;
 use ghc_console::{Debugger, Script, session};
+use ghc_pool::Gate;
 use ghc_reader::read_clause_lines;
+use ghc_term::GoalName;
 use ghc_trace::SpySet;
 use std::alloc::Global;
 use std::marker::Brand;
 use std::sync::Wait;
 use std::sync::ledger::{Blank, Ledger};
 use std::thread::Threads;
+
+// A gate that holds no worker up.
+struct NoGate;
+
+impl Gate for NoGate {
+    fn held(&self, worker: usize, goal: GoalName) {
+        let _ = (worker, goal);
+    }
+
+    fn answered(&self, worker: usize, goal: GoalName) {
+        let _ = (worker, goal);
+    }
+
+    fn holds_up(&self) -> bool {
+        false
+    }
+}
 
 const INPUT: &str = "step 0.1\r\n\nshow X\nrecords";
 
