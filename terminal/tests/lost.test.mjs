@@ -18,15 +18,15 @@ const { play } = await import("../scripted.mjs");
 const BILL = path.join(HERE, "..", "..", "examples", "bill.ghc"), QUERY = "bill(12,3,T)";
 const FAULTY = path.join(HERE, "lib", "faulty_ghcdb");
 const NONE = {};
-const AT_MOST = { timeout: 300_000 };
+const AT_MOST = { timeout: 300_000 }, LONGEST = 60_000; // milliseconds
 
 const place = (name) => path.join(home, name);
 process.env.FAULTS = place("faults");
-const hung = place("faults.hung");
+const hung = place("faults.hung"), read = place("faults.read");
 
 /** From now on the programs have these faults. */
 function has(faults) {
-  fs.rmSync(hung, { force: true });
+  for (const name of [hung, read]) fs.rmSync(name, { force: true });
   fs.writeFileSync(place("faults.new"), JSON.stringify(faults));
   fs.renameSync(place("faults.new"), process.env.FAULTS);
 }
@@ -57,15 +57,28 @@ async function begin({ native = FAULTY, more = [], file = BILL, query = QUERY } 
 async function interrupted({ front, type }, line, { sent = line, ...faults } = {}) {
   has({ hangs: [sent], ...faults });
   const shown = type(line);
-  await until(() => fs.existsSync(hung));
+  await untilHung(shown);
   has(NONE);
   front.interrupt();
   return shown;
 }
 
-async function until(isSo) {
-  while (!isSo()) await new Promise((resolve) => { setTimeout(resolve, 5); });
+/** Waits until something is so. Where that takes too long, or `line` ends before it, the test fails and says what happened. */
+async function until(isSo, line) {
+  const end = Date.now() + LONGEST;
+  let shown;
+  const hear = (what) => { shown ??= what; };
+  line?.then(hear, hear);
+  const told = () => `after ${shown === undefined ? `${LONGEST} ms` : `the line ended with ${shown}`}, where the programs read:\n`
+    + (fs.existsSync(read) ? fs.readFileSync(read, "latin1") : "nothing");
+  while (!isSo()) {
+    if (shown !== undefined || Date.now() > end) assert.fail(told());
+    await new Promise((resolve) => { setTimeout(resolve, 5); });
+  }
 }
+
+/** Waits until a program does not answer the line that was typed. */
+const untilHung = (line) => until(() => fs.existsSync(hung), line);
 
 const LINE_ENDED = "% the line was ended; the session stands as before it", RUN_ENDED = "% the run was ended; the session stands as before it";
 
@@ -118,7 +131,7 @@ test("where a slice of a run does not answer, the slices before it are kept", AT
   const { front, type } = await begin({ file: place("endless.ghc"), query: "p(0)" }), shown = type("leap");
   await until(() => front.session.kept.steps.size >= 2000);
   has({ hangs: ["leap 1000"] });
-  await until(() => fs.existsSync(hung));
+  await untilHung(shown);
   has(NONE);
   front.interrupt();
   front.interrupt(); // which waits no longer
@@ -156,7 +169,7 @@ test("nothing is ended where the session could not come back", AT_MOST, async ()
   front.session.way.lines.push("step 9.9"); // a line that will be refused
   has({ hangs: ["leap 1"] });
   const shown = type("leap 1");
-  await until(() => fs.existsSync(hung));
+  await untilHung(shown);
   front.interrupt();
   await until(() => front.ending !== undefined);
   await front.ending;
@@ -170,10 +183,10 @@ test("where the way back takes long, a second ^C leaves the line as it is", AT_M
   await type("leap 3");
   has({ hangs: ["step 1.2"] });
   const shown = type("step 1.2");
-  await until(() => fs.existsSync(hung));
+  await untilHung(shown);
   has({ hangs: ["leap 3"] });
   front.interrupt();
-  await until(() => fs.existsSync(hung));
+  await untilHung(shown);
   front.interrupt();
   await front.ending;
   assert.strictEqual(front.session.program, program);

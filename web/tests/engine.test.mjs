@@ -133,21 +133,28 @@ test("where the program fails within, nothing in it is called again", async () =
   assert.deepEqual([session.hasEnded, session.line("goals")], [true, []]);
 });
 
-test("a session of 300 steps answers each of its lines within 200 milliseconds, and leaps 3,000 steps in a second", async () => {
-  const { engine } = await engineOfPage();
+/** How many bytes a line asks of the heap and writes, where a session has leapt so many steps. */
+function bytesOf(engine, steps, line) {
   const program = "count(N) :- N > 0 | M := N - 1, count(M).\ncount(0) :- true | true.\n";
-  // The least time of three sessions, for other work may be done on the machine.
-  const least = (steps, line) => Math.min(...[1, 2, 3].map(() => {
-    const session = engine.open({ program, query: "count(100000)" });
-    session.line(`leap ${steps}`);
-    const start = performance.now();
-    session.line(line);
-    return performance.now() - start;
-  }));
-  assert.ok(least(1, "leap 3000") < 1000);
-  for (const line of ["goals", "records", "why 300", "undo 300", "roll 150", "save", "leap 1"]) {
-    assert.ok(least(300, line) < 200, line);
+  const session = engine.open({ program, query: "count(100000)" }), { heap } = session.run.host;
+  session.line(`leap ${steps}`);
+  const { take, resize } = heap;
+  let asked = 0;
+  heap.take = (bytes) => { asked += bytes; return take.call(heap, bytes); };
+  heap.resize = (place, kept, bytes) => { asked += bytes; return resize.call(heap, place, kept, bytes); };
+  return session.bytes(line).length + asked;
+}
+
+// tests/growth.py measures the processor's time of such lines on the native program.
+test("a line asks for at most 1,000 bytes a step of the session, and for no more in a longer one", async () => {
+  const { engine } = await engineOfPage();
+  for (const line of ["goals", "records", "why STEPS", "undo STEPS", "roll HALF", "save", "leap 1"]) {
+    const of = (steps) => bytesOf(engine, steps, line.replace("STEPS", steps).replace("HALF", steps / 2)) / steps;
+    assert.ok(of(300) < 1000, `${line}: ${of(300)} bytes a step`);
+    assert.ok(of(1200) < 1.5 * of(300), `${line}: ${of(300)} bytes a step of 300, ${of(1200)} of 1,200`);
   }
+  const leap = (steps) => bytesOf(engine, 1, `leap ${steps}`) / steps;
+  assert.ok(leap(3000) < 1000 && leap(3000) < 1.5 * leap(300), `${leap(300)} bytes a step of 300, ${leap(3000)} of 3,000`);
 });
 
 test("a run for which several workers are asked is made by the one that there is", async () => {

@@ -1,4 +1,5 @@
 // Tests of front/run/lanes.mjs and web/picture.mjs: each kept step once, no two marks on one place, every arrow goes right, well-formed SVG.
+import { workOf } from "./lib/work.mjs"; // before what it counts
 import assert from "node:assert/strict";
 import fs from "node:fs";
 import path from "node:path";
@@ -119,12 +120,10 @@ test("terms in few letters", () => {
   assert.equal(Terms.briefCall("filter(_0_1,[],_5_1)", store), "filter([1,2,3|·],[],·)");
 });
 
-test("a label of a list of 10,000 elements takes no longer than one can wait for each step", () => {
-  const list = `[${Array.from({ length: 10000 }, (none, at) => at).join(",")}]`, start = performance.now();
-  for (let round = 0; round < 20; round++) {
-    assert.equal(Terms.briefCall(`filter(${list},5,_0_1)`, new Map()), "filter([0,1,2,3,4,5,…],5,·)");
-  }
-  assert.ok(performance.now() - start < 2000, `${performance.now() - start} ms`);
+test("a label of a list of 10,000 elements looks at each letter few times", () => {
+  const list = `[${Array.from({ length: 10000 }, (none, at) => at).join(",")}]`;
+  const work = workOf(() => assert.equal(Terms.briefCall(`filter(${list},5,_0_1)`, new Map()), "filter([0,1,2,3,4,5,…],5,·)"));
+  assert.ok(work < 20 * list.length, `${work} for ${list.length} letters`);
 });
 
 test("the pictures of the manuals are those that web/picture draws", () => {
@@ -135,16 +134,18 @@ test("the pictures of the manuals are those that web/picture draws", () => {
   }
 });
 
-test("901 steps are laid out and drawn in less than half a second", async () => {
+test("what drawing a step takes is bounded, and grows little with the run", async () => {
   const { engine } = await engineOfPage(), [play] = plays().filter((one) => one.name === "primes, its query");
-  const query = "primes(80,Ps)", session = engine.open({ ...play, query });
-  session.line("leap");
-  const run = runOf(session, { ...play, query });
-  assert.equal(run.graph.steps.length, 901);
-  const took = ["record", "depth", "record"].map((by) => {
-    const start = performance.now();
-    Picture.draw(run, { by });
-    return Math.round(performance.now() - start);
-  });
-  assert.ok(Math.min(...took) < 500, `drawing took ${took} ms`); // the least: other work may be done on the machine
+  const workOfSteps = (number, by) => {
+    const query = `primes(${number},Ps)`, session = engine.open({ ...play, query });
+    session.line("leap");
+    const run = runOf(session, { ...play, query }), { length } = run.graph.steps;
+    return { length, work: workOf(() => Picture.draw(run, { by })) / length };
+  };
+  for (const by of ["record", "depth"]) {
+    const small = workOfSteps(20, by), large = workOfSteps(80, by);
+    assert.deepEqual([small.length, large.length], [165, 901]);
+    assert.ok(large.work < 1000, `${large.work} for each of 901 steps by ${by}`);
+    assert.ok(large.work < 2 * small.work, `${small.work} for each of 165 steps by ${by}, ${large.work} of 901`);
+  }
 });
