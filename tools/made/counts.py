@@ -11,7 +11,7 @@ PAGES = {
     "docs/ARCHITECTURE.md": 2600,
     "docs/THEOREMS.md": 1500,
     "docs/DECISIONS.md": 4000,
-    "CONTRIBUTING.md": 1050,
+    "CONTRIBUTING.md": 900,
     "CHANGELOG.md": 600,
     "docs/PAGE.md": 2200,
     "docs/TERMINAL.md": 1500,
