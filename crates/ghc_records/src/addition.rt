@@ -49,6 +49,17 @@ impl Model for Addition {
     ghost invariant = { λ a. (entry_of a.entry ≡ took (step_of a.step)) × (goals_of a.makes ≡ a.step.effect.makes) × (a.binds ≡ a.step.effect.binds) };
 }
 
+// Handles of the goals that the step makes, and its bindings once more.
+#[inline(always)]
+pub(crate) fn copies_of(alloc: Global, step: &Record) -> Result<(Handles, Bindings), AllocError>
+    ensures makes { IfOk result (λ copies. goals_of copies.0 ≡ step.now.effect.makes) }
+    ensures binds { IfOk result (λ copies. copies.1 ≡ step.now.effect.binds) }
+{
+    let effect = step.effect();
+    let binds = share_all(alloc, effect.binds())?;
+    Ok((handles_of(alloc, effect.piece(), effect.made())?, binds))
+}
+
 impl Addition {
     /// What it takes to take this step, with handles of its own: one step for each goal, and what it costs to share the bindings.
     /// It fails where memory is refused, or where a count of handles is full.
@@ -57,9 +68,7 @@ impl Addition {
         ensures { IfOk result (λ a. a ≡ step) }
     {
         let entry = Entry::Took(step.share()?);
-        let effect = step.effect();
-        let makes = handles_of(alloc, effect.piece(), effect.made())?;
-        let binds = share_all(alloc, effect.binds())?;
+        let (makes, binds) = copies_of(alloc, &step)?;
         Ok(Addition {
             step,
             entry,

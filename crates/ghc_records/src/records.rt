@@ -108,9 +108,7 @@ impl Records {
         let _count = self.slots.len();
         let mut new = Records::new(alloc);
         for number in order {
-            let step = self.get(*number).unwrap().share()?;
-            new.reserve()?;
-            new.put(step);
+            new.put_shared(self.get(*number).unwrap())?;
         }
         Ok(new)
     }
@@ -197,6 +195,19 @@ impl Records {
         ensures { self.new.held ≡ self.old.held ++ step ∷ [] }
     {
         self.slots.put(step);
+    }
+
+    // Puts the step at the end, as `put` does, shared with this one. Where memory is refused, the records stay.
+    #[inline(always)]
+    fn put_shared(&mut self, step: &Record) -> Result<(), AllocError>
+        requires new { (r : Record) → In r self.old.held → r.number ≢ step.now.number }
+        requires unbound { (r : Record) (x : VarName) → In r self.old.held → Binds r x → ¬ Binds step.now x }
+        ensures { OnOk result (self.new.held ≡ self.old.held ++ step.now ∷ []) }
+    {
+        let step = step.share()?;
+        self.reserve()?;
+        self.put(step);
+        Ok(())
     }
 
     /// Takes the record of the step of this number away and gives it, if there was one; the others keep their order. Where the index is

@@ -1,9 +1,10 @@
 // States: the goals and the store.
 ghost use Rattle.std.specs.Prelude.{◌≡◌, ◌+◌, ◌<◌, ◌≤◌, length, IfOk, OnOk, OnErr};
 ghost use Rattle.ghc_flat.specs.Flat.{most_goals};
+ghost use Rattle.ghc_records.specs.inner.Handles.{goals_of};
 
-use crate::addition::Addition;
-use crate::binding::{bind_all, share_all, unbind_all};
+use crate::addition::{Addition, copies_of};
+use crate::binding::{bind_all, unbind_all};
 use crate::entry::Entry;
 use crate::handles::{Handles, handles_of};
 use crate::making::{consume_goal, make_goals, restore_consumed, unmake_goals};
@@ -52,6 +53,16 @@ fn share_goals(alloc: Global, goals: &[Goal]) -> Result<Vec<Goal>, AllocError>
     Ok(shared)
 }
 
+// Handles of the goals of a query, of no more than a query may have.
+#[inline(always)]
+fn handles_for(alloc: Global, query: &[Goal]) -> Result<Handles, AllocError>
+    requires { length query.now ≤ most_goals }
+    ensures { IfOk result (λ handles. goals_of handles ≡ query.now) }
+{
+    let shared = Made::of(alloc, share_goals(alloc, query)?, 0)?;
+    handles_of(alloc, &shared, query.len() as u32)
+}
+
 impl State {
     ghost use Rattle.ghc_term.specs.Bindings.{IsAcyclic};
     ghost use Rattle.ghc_term.specs.Store.{value_at};
@@ -68,10 +79,9 @@ impl State {
         requires { length query.now ≤ most_goals }
         ensures { IfOk result (λ s. s.held ≡ query_state query.now) }
     {
-        let shared = Made::of(alloc, share_goals(alloc, query)?, 0)?;
-        let handles = handles_of(alloc, &shared, query.len() as u32)?;
         let mut goals = Goals::new(alloc);
         goals.reserve(query.len(), 0)?;
+        let handles = handles_for(alloc, query)?;
         make_goals(&mut goals, 0, handles, query.len() as u32);
         Ok(State {
             goals,
@@ -151,9 +161,7 @@ impl State {
         ensures state { OnOk result (self.new.held ≡ after self.old.held step.now) }
         ensures stays { OnErr result (self.new ≡ self.old) }
     {
-        let effect = step.effect();
-        let makes = handles_of(alloc, effect.piece(), effect.made())?;
-        let binds = share_all(alloc, effect.binds())?;
+        let (makes, binds) = copies_of(alloc, step)?;
         self.apply(step, makes, binds);
         Ok(())
     }

@@ -45,18 +45,40 @@ pub(crate) fn read_steps(
 {
     let mut steps = Vec::new(alloc);
     let mut numbers = StepNumbers::new(alloc);
+    let rest = read_into(&mut steps, &mut numbers, alloc, text, count)?;
+    Ok((steps, rest))
+}
+
+// The same, into no steps and no numbers; it gives what follows the lines.
+#[inline(always)]
+fn read_into<'a>(
+    steps: &mut Vec<Step>,
+    numbers: &mut StepNumbers,
+    alloc: Global,
+    text: &'a [u8],
+    count: u32,
+) -> Result<&'a [u8], AllocError>
+    requires few { count ≤ kept_limit }
+    requires steps { steps.old.items ≡ [] }
+    requires numbers { numbers.old ≡ [] }
+    ensures none { count ≡ 0 → IsOk result }
+    ensures told { IfOk result (λ _. TellsItems SaysStep HaveOwnNumbers (pieces_of text.now) steps.new.items) }
+    ensures rest { IfOk result (λ rest. drop (length steps.new.items) (pieces_of text.now) ≡ pieces_of rest.now) }
+    ensures most { IfOk result (λ _. length steps.new.items ≤ count) }
+    ensures stop { IfOk result (λ _. length steps.new.items < count → (s : step_spec) → ¬ TellsItems SaysStep HaveOwnNumbers (pieces_of text.now) (steps.new.items ++ s ∷ [])) }
+{
     let mut rest = text;
     for _index in 0..count {
         let Some((step, further)) = next_step(alloc, rest)? else {
-            return Ok((steps, rest));
+            return Ok(rest);
         };
         if !numbers.add(step.number())? {
-            return Ok((steps, rest));
+            return Ok(rest);
         }
         steps.push(step)?;
         rest = further;
     }
-    Ok((steps, rest))
+    Ok(rest)
 }
 
 // Whether a number is below the bound, if there is one.

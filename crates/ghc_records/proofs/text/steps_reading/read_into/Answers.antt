@@ -1,9 +1,9 @@
 use Rattle.ghc_records.proofs.Words.{pieces_of}
 use Rattle.ghc_records.proofs.TellingSteps.{nothing_told, one_more_put, wrong_again, wrong_line}
-use Rattle.ghc_records.proofs.text.steps_reading.read_steps.Goals as goal
+use Rattle.ghc_records.proofs.text.steps_reading.read_into.Goals as goal
 
 pub loop-index-init : goal.loop-index-init
-loop-index-init c = nothing_told c.args.text.now c.new-numbers.result c.new-steps.result.items c.new-numbers.ensures c.new-steps.ensures.items
+loop-index-init c = nothing_told c.args.text.now c.args.numbers.now c.args.steps.now.items c.requires.numbers c.requires.steps
 
 pub returns-in_default-clause-stop : goal.returns-in_default-clause-stop
 returns-in_default-clause-stop c = λ low.
