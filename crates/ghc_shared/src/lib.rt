@@ -29,3 +29,6 @@ pub use pass::Pass;
 pub use receipt::Receipt;
 pub use shared::Shared;
 pub use tending::{Tender, tend_all};
+
+#[cfg(test)]
+mod tests;

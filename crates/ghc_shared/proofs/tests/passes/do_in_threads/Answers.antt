@@ -4,8 +4,8 @@ use denote.Param.{param}
 use denote.Param.Send.{sendable}
 use Rattle.ghc_shared.proofs.CoreCrosses.{core_pass_send}
 use Rattle.ghc_shared.proofs.Newcomers.{all_given}
-use Rattle.ghc_tests.proofs.tests.passes.Crosses.{hands_sync}
-use Rattle.ghc_tests.proofs.tests.passes.do_in_threads.Goals as goal
+use Rattle.ghc_shared.proofs.tests.passes.Crosses.{hands_sync}
+use Rattle.ghc_shared.proofs.tests.passes.do_in_threads.Goals as goal
 
 pub tend_all-requires-send-J : goal.tend_all-requires-send-J
 tend_all-requires-send-J g c κs within = search (crosses, sendable, core_pass_send) depth 60 fits 20000

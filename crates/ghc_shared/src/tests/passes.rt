@@ -5,10 +5,10 @@ ghost use Rattle.ghc_shared.specs.inner.Calls.{code_of};
 ghost use Rattle.ghc_shared.specs.Passes.{AreAll};
 
 use crate::tests::unifications::{goal, hundred};
+use crate::{Naming, Opening, Pass, Shared, Tender, tend_all};
 use ghc_core::{Core, Reply};
 use ghc_fire::Meter;
 use ghc_hooks::Verdict;
-use ghc_shared::{Naming, Opening, Pass, Shared, Tender, tend_all};
 use ghc_term::{Fault, GoalName};
 use std::alloc::Global;
 use std::marker::Brand;

@@ -4,9 +4,9 @@ ghost use Rattle.ghc_records.specs.Journal.{history};
 ghost use Rattle.ghc_shared.specs.inner.Calls.{code_of};
 
 use crate::tests::unifications::{goal, hundred};
+use crate::{Naming, Opening, Shared, Tender, tend_all};
 use ghc_core::Core;
 use ghc_fire::Meter;
-use ghc_shared::{Naming, Opening, Shared, Tender, tend_all};
 use std::alloc::Global;
 use std::marker::Brand;
 use std::process::Abort;

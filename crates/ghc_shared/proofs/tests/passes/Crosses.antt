@@ -14,8 +14,8 @@ use Rattle.ghc_shared.specs.contracts.calls.Call as call
 use Rattle.ghc_shared.specs.contracts.calls.HistoryItem as item
 use Rattle.ghc_shared.specs.contracts.shared.Shared as shared
 use Rattle.ghc_shared.proofs.CoreCrosses.{shared_core_sync}
-use Rattle.ghc_tests.proofs.tests.passes.Task.TheSendSync as task
-use Rattle.ghc_tests.specs.contracts.tests.passes.Hands as hands
+use Rattle.ghc_shared.proofs.tests.passes.Task.TheSendSync as task
+use Rattle.ghc_shared.specs.contracts.tests.passes.Hands as hands
 
 pub hands_sync : (a : NamedLft) (N R : RattleType) (n : naming.Ghosts N.Denot) (l : ledger.Ghosts N.Denot) → IsSync R → IsSync (hands.the_row a N R n l)
 hands_sync a N R n l y = declared_sync (hands.the_type a N R n l)

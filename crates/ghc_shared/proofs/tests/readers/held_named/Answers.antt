@@ -15,8 +15,8 @@ use Rattle.ghc_shared.specs.contracts.calls.Call as call
 use Rattle.ghc_shared.specs.contracts.calls.HistoryItem as item
 use Rattle.ghc_shared.specs.contracts.shared.Shared as shared
 use Rattle.ghc_shared.proofs.CoreCrosses.{shared_core_sync}
-use Rattle.ghc_tests.specs.contracts.tests.readers.Pair as both
-use Rattle.ghc_tests.proofs.tests.readers.held_named.Goals as goal
+use Rattle.ghc_shared.specs.contracts.tests.readers.Pair as both
+use Rattle.ghc_shared.proofs.tests.readers.held_named.Goals as goal
 
 pair_sync : (a : NamedLft) (N R : RattleType) (n : naming.Ghosts N.Denot) (l : ledger.Ghosts N.Denot) → IsSync R → IsSync (both.the_row a N R n l)
 pair_sync a N R n l y = declared_sync (both.the_type a N R n l)
