@@ -1,8 +1,11 @@
 // What a round does with a goal: a step of it is proposed and submitted, or it is noted.
-ghost use Rattle.std.specs.Prelude.{◌≡◌, ◌⊎◌, IsTrue, MatchOption, true, false};
+ghost use Rattle.std.specs.Prelude.{◌≡◌, ◌⊎◌, IsTrue, MatchOption, None, Ok, Err, true, false};
 ghost use Rattle.std.specs.FinSet as set;
+ghost use Rattle.ghc_core.specs.World.{World};
+ghost use Rattle.ghc_shared.specs.inner.Calls.{IsProposal};
+ghost use Rattle.ghc_pool.specs.declared.answer.Answer.TheVariants.{Submitted};
 ghost use Rattle.ghc_pool.specs.inner.Told.{IsInScope, IsSpiedGoal, IsRefusedGoal, IsStarvedGoal, IsUnspiedStep};
-ghost use Rattle.ghc_pool.specs.inner.Plans.{IsPlan, GoesOnWithout, IsDecidedAs, AreWokenOf, IsExcerptOf, IsAttempt};
+ghost use Rattle.ghc_pool.specs.inner.Plans.{IsPlan, GoesOnWithout, IsDecidedAs, AreWokenOf, IsExcerptOf, IsAttempt, IsSubmitStop, step_in, made_if_stepped};
 
 use crate::answer::{Answer, RoundStop};
 use crate::craft::{Craft, Decided};
@@ -12,7 +15,7 @@ use crate::heard::{
 };
 use crate::manner::Manner;
 use crate::scope::Scope;
-use ghc_core::{Core, Excerpt};
+use ghc_core::{Core, Excerpt, Reply};
 use ghc_fire::{Meter, Proposal};
 use ghc_shared::{Naming, Pass, Receipt, Shared};
 use ghc_term::{Fault, GoalName};
@@ -48,7 +51,56 @@ pub enum Plan {
     Starve,
 }
 
+// What came of a step that was submitted: where it was taken, it made so many goals, and woke these.
+#[inline(always)]
+fn submitted(receipt: Receipt<Reply>, goals: u32, woken: Vec<GoalName>) -> Decided
+    ensures answer { result.answer ≡ Submitted receipt }
+    ensures stop { IsSubmitStop receipt.reply result.stop }
+    ensures step { result.step ≡ step_in receipt.reply }
+    ensures made { result.made ≡ made_if_stepped receipt.reply goals }
+    ensures woken { result.woken ≡ woken }
+{
+    let stop = stop_of_submit(&receipt.reply);
+    let (step, made) = step_and_made(&receipt.reply, goals);
+    Decided {
+        answer: Answer::Submitted(receipt),
+        stop,
+        step,
+        made,
+        woken,
+    }
+}
+
 impl<N: Naming, R: Wait, G: Gate> Deciding<'_, N, R, G> {
+    // What is to be done with the goal, of which this step was proposed, where these look at what it binds: it is passed over, if it is a
+    // call of a spied predicate.
+    #[inline(always)]
+    fn plan_of(&self, goal: GoalName, proposal: Proposal, woken: Vec<GoalName>) -> Plan
+        requires inside { IsInScope self.now.scope.now goal }
+        requires proposed { (w : World) × IsProposal N.opened w goal None (Ok proposal) }
+        requires woken { AreWokenOf N.opened goal woken.items }
+        ensures { IsPlan N.opened self.now.scope.now self.now.spies.now goal result }
+    {
+        let _ = goal;
+        if self.spies.is_spied(proposal.consumed()) {
+            return Plan::Pass;
+        }
+        Plan::Submit(proposal, woken)
+    }
+
+    // What is to be done with the goal, of which no step could be proposed.
+    #[inline(always)]
+    fn plan_without(&self, goal: GoalName, fault: &Fault) -> Plan
+        requires { (w : World) × IsProposal N.opened w goal None (Err fault.now) }
+        ensures { IsPlan N.opened self.now.scope.now self.now.spies.now goal result }
+    {
+        let _ = goal;
+        if is_memory(fault) {
+            return Plan::Starve;
+        }
+        Plan::Refuse
+    }
+
     // What is to be done with the goal where steps are taken: if the round may step it, one is proposed, which is a firing.
     fn plan(&self, goal: GoalName) -> Plan
         ensures { IsPlan N.opened self.now.scope.now self.now.spies.now goal result }
@@ -62,18 +114,8 @@ impl<N: Naming, R: Wait, G: Gate> Deciding<'_, N, R, G> {
             .shared
             .propose_and_list(self.rt, self.alloc, &mut meter, goal, &mut woken)
         {
-            Ok(proposal) => {
-                if self.spies.is_spied(proposal.consumed()) {
-                    return Plan::Pass;
-                }
-                Plan::Submit(proposal, woken)
-            }
-            Err(fault) => {
-                if is_memory(&fault) {
-                    return Plan::Starve;
-                }
-                Plan::Refuse
-            }
+            Ok(proposal) => self.plan_of(goal, proposal, woken),
+            Err(fault) => self.plan_without(goal, &fault),
         }
     }
 
@@ -98,15 +140,7 @@ impl<N: Naming, R: Wait, G: Gate> Deciding<'_, N, R, G> {
             .shared
             .submit_proposed(self.rt, self.alloc, pass, proposal);
         self.gate.answered(worker, goal);
-        let stop = stop_of_submit(&receipt.reply);
-        let (step, made) = step_and_made(&receipt.reply, goals);
-        Decided {
-            answer: Answer::Submitted(receipt),
-            stop,
-            step,
-            made,
-            woken,
-        }
+        submitted(receipt, goals, woken)
     }
 
     // Notes the goal where no step of it may be taken; any status is the answer.
@@ -150,6 +184,7 @@ impl<N: Naming, R: Wait, G: Gate> Deciding<'_, N, R, G> {
     {
         let receipt = self.shared.note(self.rt, self.alloc, pass, goal);
         if is_ready(&receipt.reply) {
+            drop(receipt);
             return None;
         }
         let stop = stop_of_note(&receipt.reply, goal, false);
@@ -179,6 +214,24 @@ impl<N: Naming, R: Wait, G: Gate> Deciding<'_, N, R, G> {
         }
     }
 
+    // Decides what comes of a goal of which no step could be proposed; or it is ready by now, and nothing comes of that.
+    #[inline(always)]
+    fn note_unproposed(
+        &self,
+        pass: &mut Pass<Core, N>,
+        goal: GoalName,
+        fault: &Fault,
+    ) -> Option<Decided>
+        requires steps { self.now.steps ≡ true }
+        requires refused { (w : World) × IsProposal N.opened w goal None (Err fault.now) }
+        ensures { MatchOption result (GoesOnWithout N.opened self.now.scope.now self.now.spies.now self.now.steps pass.old pass.new) (IsDecidedAs N.opened self.now.scope.now self.now.spies.now self.now.steps goal pass.old pass.new) }
+    {
+        if is_memory(fault) {
+            return Some(self.starve(pass, goal));
+        }
+        self.note_refused(pass, goal)
+    }
+
     // Whether the round may step the goal, and nothing is spied.
     fn is_plain(&self, goal: GoalName) -> bool
         ensures unspied { IsTrue result → (self.now.spies.now ≡ set.empty) }
@@ -199,24 +252,32 @@ impl<N: Naming, R: Wait, G: Gate> Deciding<'_, N, R, G> {
             .shared
             .step_at_once(self.rt, self.alloc, pass, goal, &mut woken)
         {
-            Ok((receipt, goals)) => {
-                let stop = stop_of_submit(&receipt.reply);
-                let (step, made) = step_and_made(&receipt.reply, goals);
-                let answer = Answer::Submitted(receipt);
-                Some(Decided {
-                    answer,
-                    stop,
-                    step,
-                    made,
-                    woken,
-                })
+            Ok((receipt, goals)) => Some(submitted(receipt, goals, woken)),
+            Err(fault) => self.note_unproposed(pass, goal, &fault),
+        }
+    }
+
+    // Does with the goal what was planned; or it is ready by now, and nothing comes of that.
+    #[inline(always)]
+    fn follow(
+        &self,
+        worker: usize,
+        pass: &mut Pass<Core, N>,
+        goal: GoalName,
+        plan: Plan,
+    ) -> Option<Decided>
+        requires steps { self.now.steps ≡ true }
+        requires plan { IsPlan N.opened self.now.scope.now self.now.spies.now goal plan }
+        ensures { MatchOption result (GoesOnWithout N.opened self.now.scope.now self.now.spies.now self.now.steps pass.old pass.new) (IsDecidedAs N.opened self.now.scope.now self.now.spies.now self.now.steps goal pass.old pass.new) }
+    {
+        match plan {
+            Plan::Submit(proposal, woken) => {
+                Some(self.submit(worker, pass, goal, proposal, woken))
             }
-            Err(fault) => {
-                if is_memory(&fault) {
-                    return Some(self.starve(pass, goal));
-                }
-                self.note_refused(pass, goal)
-            }
+            Plan::Outside => Some(self.note_unstepped(pass, goal)),
+            Plan::Pass => Some(self.note_spied(pass, goal)),
+            Plan::Refuse => self.note_refused(pass, goal),
+            Plan::Starve => Some(self.starve(pass, goal)),
         }
     }
 
@@ -228,15 +289,7 @@ impl<N: Naming, R: Wait, G: Gate> Deciding<'_, N, R, G> {
         if !matches!(self.manner, Manner::Proposed) && self.is_plain(goal) {
             return self.take_at_once(pass, goal);
         }
-        match self.plan(goal) {
-            Plan::Submit(proposal, woken) => {
-                Some(self.submit(worker, pass, goal, proposal, woken))
-            }
-            Plan::Outside => Some(self.note_unstepped(pass, goal)),
-            Plan::Pass => Some(self.note_spied(pass, goal)),
-            Plan::Refuse => self.note_refused(pass, goal),
-            Plan::Starve => Some(self.starve(pass, goal)),
-        }
+        self.follow(worker, pass, goal, self.plan(goal))
     }
 
     // Decides what comes of a goal where steps are taken.
@@ -252,6 +305,25 @@ impl<N: Naming, R: Wait, G: Gate> Deciding<'_, N, R, G> {
         unreachable!()
     }
 
+    // Decides what comes of a goal of which no step could be proposed apart.
+    #[inline(always)]
+    fn take_unproposed(
+        &self,
+        worker: usize,
+        pass: &mut Pass<Core, N>,
+        goal: GoalName,
+        fault: &Fault,
+    ) -> Decided
+        requires steps { self.now.steps ≡ true }
+        requires refused { (w : World) × IsProposal N.opened w goal None (Err fault.now) }
+        ensures { IsDecidedAs N.opened self.now.scope.now self.now.spies.now self.now.steps goal pass.old pass.new result }
+    {
+        if let Some(decided) = self.note_unproposed(pass, goal, fault) {
+            return decided;
+        }
+        self.take_step(worker, pass, goal)
+    }
+
     // Submits the step of the goal that was proposed apart, or notes the goal, where none could be proposed.
     fn take_attempt(
         &self,
@@ -265,15 +337,7 @@ impl<N: Naming, R: Wait, G: Gate> Deciding<'_, N, R, G> {
     {
         match attempt {
             Ok(proposal) => self.submit(worker, pass, goal, proposal, Vec::new(self.alloc)),
-            Err(fault) => {
-                if is_memory(&fault) {
-                    return self.starve(pass, goal);
-                }
-                if let Some(decided) = self.note_refused(pass, goal) {
-                    return decided;
-                }
-                self.take_step(worker, pass, goal)
-            }
+            Err(fault) => self.take_unproposed(worker, pass, goal, &fault),
         }
     }
 }

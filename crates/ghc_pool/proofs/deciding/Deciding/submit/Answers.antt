@@ -13,5 +13,6 @@ submit_proposed-receipt-requires g c =
 pub returns : goal.returns
 returns g c =
     let call = c.submit_proposed-receipt.ensures in
-    decided_submit g.N.Naming.opened c.args.self.now.scope.now c.args.self.now.spies.now c.args.self.now.steps c.args.goal c.args.pass.now c.submit_proposed-receipt.new.me _ _ _ call.decided.0 c.args.proposal c.submit_proposed-receipt.result c.stop_of_submit-stop.result c.requires.steps c.requires.inside c.requires.proposed call.number call.begins call.submits call.decided.1 call.answered
-    c.stop_of_submit-stop.ensures (c.step_and_made-step.ensures.step, (c.requires.proposed.0, c.args.proposal, c.requires.proposed.1, c.step_and_made-step.ensures.made ∙ ap (made_if_stepped c.submit_proposed-receipt.result.reply) (c.made-goals.ensures ∙ ap (λ e. length e.makes) c.effect.ensures))) c.requires.woken
+    let done = c.submitted.ensures in
+    rw done.answer (decided_submit g.N.Naming.opened c.args.self.now.scope.now c.args.self.now.spies.now c.args.self.now.steps c.args.goal c.args.pass.now c.submit_proposed-receipt.new.me _ _ _ call.decided.0 c.args.proposal c.submit_proposed-receipt.result c.submitted.result.stop c.requires.steps c.requires.inside c.requires.proposed call.number call.begins call.submits call.decided.1 call.answered
+    done.stop (done.step, (c.requires.proposed.0, c.args.proposal, c.requires.proposed.1, done.made ∙ ap (made_if_stepped c.submit_proposed-receipt.result.reply) (c.made-goals.ensures ∙ ap (λ e. length e.makes) c.effect.ensures))) (rw done.woken c.requires.woken))
