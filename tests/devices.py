@@ -150,7 +150,7 @@ SHELLS = [
     Shell(
         "what was replied before a run is written when a signal ends it",
         f"echo '{BUSY}' >busy.ghc; printf 'leap 1\\nsave\\nleap\\n' |"
-        " timeout -s INT 2 $ghcdb busy.ghc --query 'list(200,L,D), list(200,M,E), busy(D,E,L,M)'; echo $?",
+        " timeout -s INT 5 $ghcdb busy.ghc --query 'list(200,L,D), list(200,M,E), busy(D,E,L,M)'; echo $?",
         "REDU 1 0.2 by 2\nstopped limit\nghc-history 2\nopening 0 1\nentries 1\n1 0.2 by 2\nspies 0\nend 2\n124\n",
     ),
 ]

@@ -85,7 +85,7 @@ from lib.program import PROGRAM, ROOT, TESTS
 
 EXAMPLES = ROOT / "examples"
 SECONDS = 60
-TURN_SECONDS = 10
+TURN_SECONDS = 60  # more than any reply takes on a busy machine
 PROMPT = b"> "
 PAGES = ("README.md", "docs/LANGUAGE.md", "docs/FORMATS.md", "docs/TUTORIAL.md", "docs/RACE.md", "docs/TERMINAL.md")
 AT_TERMINAL = re.compile(rb'\$ \./ghcdb (\S+) --query "(.*)"')

@@ -7,6 +7,7 @@ import test from "node:test";
 import { fileURLToPath } from "node:url";
 import { choicesIn, concernedIn, eachOnce, linesOf, outcomeTold } from "../../front/run/other_choices.mjs";
 import { begin, endAll, played } from "./lib/fronts.mjs";
+import { until } from "./lib/waiting.mjs";
 
 const EXAMPLES = fileURLToPath(new URL("../../examples/", import.meta.url));
 const RACE = fileURLToPath(new URL("../../docs/RACE.md", import.meta.url));
@@ -107,7 +108,7 @@ test("^C ends it, and what was found is told", AT_MOST, async () => {
   const before = await standing(session);
   fs.writeFileSync(process.env.FAULTS, JSON.stringify({ hangs: ["step 1.1 3"] }));
   const shown = type("choices T");
-  while (!fs.existsSync(`${process.env.FAULTS}.hung`)) await new Promise((resolve) => { setTimeout(resolve, 5); });
+  await until(() => fs.existsSync(`${process.env.FAULTS}.hung`), { line: shown });
   front.interrupt();
   assert.deepStrictEqual(await shown, [OF_BILL[0], "% ended by ^C: 0 of 1 choice tried; the session stands"]);
   fs.writeFileSync(process.env.FAULTS, "{}");

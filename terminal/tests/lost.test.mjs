@@ -7,6 +7,7 @@ import path from "node:path";
 import test from "node:test";
 import { Readable } from "node:stream";
 import { fileURLToPath } from "node:url";
+import { until } from "./lib/waiting.mjs";
 
 const HERE = path.dirname(fileURLToPath(import.meta.url));
 
@@ -18,7 +19,7 @@ const { play } = await import("../scripted.mjs");
 const BILL = path.join(HERE, "..", "..", "examples", "bill.ghc"), QUERY = "bill(12,3,T)";
 const FAULTY = path.join(HERE, "lib", "faulty_ghcdb");
 const NONE = {};
-const AT_MOST = { timeout: 300_000 }, LONGEST = 60_000; // milliseconds
+const AT_MOST = { timeout: 300_000 };
 
 const place = (name) => path.join(home, name);
 process.env.FAULTS = place("faults");
@@ -63,22 +64,10 @@ async function interrupted({ front, type }, line, { sent = line, ...faults } = {
   return shown;
 }
 
-/** Waits until something is so. Where that takes too long, or `line` ends before it, the test fails and says what happened. */
-async function until(isSo, line) {
-  const end = Date.now() + LONGEST;
-  let shown;
-  const hear = (what) => { shown ??= what; };
-  line?.then(hear, hear);
-  const told = () => `after ${shown === undefined ? `${LONGEST} ms` : `the line ended with ${shown}`}, where the programs read:\n`
-    + (fs.existsSync(read) ? fs.readFileSync(read, "latin1") : "nothing");
-  while (!isSo()) {
-    if (shown !== undefined || Date.now() > end) assert.fail(told());
-    await new Promise((resolve) => { setTimeout(resolve, 5); });
-  }
-}
-
 /** Waits until a program does not answer the line that was typed. */
-const untilHung = (line) => until(() => fs.existsSync(hung), line);
+const untilHung = (line) => until(() => fs.existsSync(hung), { line, told: () => `the programs read:\n${textOf(read)}` });
+
+const textOf = (file) => (fs.existsSync(file) ? fs.readFileSync(file, "latin1") : "");
 
 const LINE_ENDED = "% the line was ended; the session stands as before it", RUN_ENDED = "% the run was ended; the session stands as before it";
 
@@ -129,7 +118,7 @@ test("each line can be ended, and the session stands", AT_MOST, async () => {
 test("where a slice of a run does not answer, the slices before it are kept", AT_MOST, async () => {
   fs.writeFileSync(place("endless.ghc"), "p(N) :- true | M := N + 1, p(M).\n");
   const { front, type } = await begin({ file: place("endless.ghc"), query: "p(0)" }), shown = type("leap");
-  await until(() => front.session.kept.steps.size >= 2000);
+  await until(() => front.session.kept.steps.size >= 2000, { line: shown });
   has({ hangs: ["leap 1000"] });
   await untilHung(shown);
   has(NONE);

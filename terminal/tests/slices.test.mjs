@@ -8,6 +8,7 @@ import { fileURLToPath } from "node:url";
 import { engineOfPage } from "../../front/session/engine_of_page.mjs";
 import { queryOf } from "../../front/text/query_comment.mjs";
 import { begin, endAll } from "./lib/fronts.mjs";
+import { until } from "./lib/waiting.mjs";
 
 const EXAMPLES = path.join(path.dirname(fileURLToPath(import.meta.url)), "..", "..", "examples");
 const ENDLESS = "p(N) :- true | M := N + 1, p(M).\n"; // of which one goal is ready at a time
@@ -55,7 +56,7 @@ test("the examples run as by one line", AT_MOST, async () => {
 
 test("^C ends a run between two slices, and all its steps are kept", AT_MOST, async () => {
   const { front, type } = await begin([endless(), "--query", "p(0)"]), shown = type("leap"), { kept } = front.session;
-  while (kept.steps.size < 3000) await new Promise((resolve) => { setTimeout(resolve, 5); });
+  await until(() => kept.steps.size >= 3000, { line: shown });
   front.interrupt();
   const lines = await shown, { size } = kept.steps, records = await front.session.ask("records");
   assert.ok(size >= 3000 && size % 1000 === 0, `${size}`);
