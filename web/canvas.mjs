@@ -43,9 +43,13 @@ function draw() {
   if (!State.run.isWhole) return; // when all of a change is read, it is drawn
   const area = find("canvas"), isScrolled = area.scrollLeft > 0 || area.scrollTop > 0;
   const room = Math.max(320, area.clientWidth - 8) * (OnScreen.isOn() || Shown.fit !== "none" ? 1 : Shown.zoom);
-  const high = highOf(area);
+  const high = highOf(area), tall = area.clientHeight - LEGEND;
   Deeds.drawStrip();
-  const drawn = Picture.draw(OnScreen.shownRun(), { by: Shown.by, theme: Shown.theme, room, high, leastColumns: Shown.by === "depth" ? Deeds.besideColumns() : 0, legend: true, titles: false, isWhole: true, shown: Names.shown });
+  const drawn = Picture.draw(OnScreen.shownRun(), {
+    by: Shown.by, theme: Shown.theme, room, high, tall,
+    leastColumns: Shown.by === "depth" ? Deeds.besideColumns() : 0,
+    legend: true, titles: false, isWhole: true, shown: Names.shown,
+  });
   area.innerHTML = drawn.svg;
   Deeds.drawBeside({ theme: Shown.theme, room, high, titles: false });
   OnScreen.drawn = drawn.view;

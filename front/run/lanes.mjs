@@ -498,7 +498,23 @@ function roomForGoals(run, labels) {
 }
 
 /** Do the names of lanes stand above them? Beside them they would take too much of a narrow window. */
-const isAbove = ({ room, high }) => room < NARROW && high === undefined;
+const isAbove = ({ room, high, above = false }) => high === undefined && (above || room < NARROW);
+
+/**
+ * The options of a layout, with names above the lanes where marks are larger so, and all is within the height `tall`
+ * that there is: a wide run has height to spare, and lacks width.
+ */
+function withNamesPlaced(run, options, columns, lanes, letters) {
+  const { tall, high, room, top } = options;
+  if (tall === undefined || high !== undefined || isAbove(options)) return options;
+  const above = { ...options, above: true }, beside = bestSizes(run, options, columns, lanes, letters);
+  if (beside.radius >= MOST_RADIUS) return options;
+  const sizes = bestSizes(run, above, columns, lanes, letters), isWithin = sizes.dx <= (room - LEAST_LEFT) / columns;
+  if (sizes.radius <= beside.radius || !isWithin) return options;
+  return placeLanes({ lanes, sizes, nameRoom: nameRoomOf(sizes) }, top) <= tall ? above : options;
+}
+
+const nameRoomOf = (sizes) => sizes.font + (sizes.kind === "roomy" ? 3 : 13);
 
 /** The numbers above the columns; `before` is how many columns of the run stand before the first one. */
 function axis(columns, dx, x, before) {
@@ -590,25 +606,27 @@ function shrink(view, options) {
 /**
  * The places of a run. `run` has graph, goals, shelf, texts and clauses; `options.by` is `record` or `depth`,
  * `options.room` the width that there is, `options.top` the room above the first lane, `options.high` the height that
- * all is to fit into, if it is, and `options.isWhole` whether the whole width of a short run is to be seen.
+ * all is to fit into, if it is, `options.tall` the height that there is without that, and `options.isWhole` whether the
+ * whole width of a short run is to be seen.
  */
-function layout(run, options) {
+function layout(run, given) {
   const { lanes, laneOf, kinds } = run.placed || lanesOf(run);
-  const columnOf = ({ number }) => (options.by === "depth" ? run.graph.depth.get(number) : run.graph.indexOf(number));
-  const columns = run.graph.steps.reduce((most, step) => Math.max(most, columnOf(step) + 1), options.leastColumns || 0);
+  const columnOf = ({ number }) => (given.by === "depth" ? run.graph.depth.get(number) : run.graph.indexOf(number));
+  const columns = run.graph.steps.reduce((most, step) => Math.max(most, columnOf(step) + 1), given.leastColumns || 0);
   const rows = new Map(), store = run.store || run.graph.store;
   const makerOf = new Map(run.graph.steps.flatMap((step) => step.makes.map((goal) => [goal, step])));
   for (const lane of lanes) {
     placeInLane(lane, kinds, columnOf, makerOf, rows, columns);
-    lane.text = laneText(lane, run, kinds, store, options.room < NARROW ? 13 : run.isPart ? 22 : 30);
+    lane.text = laneText(lane, run, kinds, store, given.room < NARROW ? 13 : run.isPart ? 22 : 30);
   }
   const letters = Math.max(8, ...lanes.map((lane) => lane.name.length + lane.text.length + 2));
+  const options = withNamesPlaced(run, given, columns, lanes, letters);
   const sizes = bestSizes(run, options, columns, lanes, letters);
   const left = isAbove(options) ? LEAST_LEFT : leftBeside(letters, sizes.font);
   const x = (column) => left + column * sizes.dx + sizes.dx / 2;
   const view = { by: options.by, lanes, laneOf, kinds, rows, makerOf, sizes, left, columns, store, marks: new Map(), goals: new Map(), taken: [], waits: [] };
   view.yOf = (lane, row) => lane.y + row * sizes.leafRow;
-  view.nameRoom = isAbove(options) ? sizes.font + (sizes.kind === "roomy" ? 3 : 13) : 0;
+  view.nameRoom = isAbove(options) ? nameRoomOf(sizes) : 0;
   view.isAbove = isAbove(options);
   view.thereX = left + columns * sizes.dx + sizes.radius + 6;
   view.bottom = placeLanes(view, options.top);

@@ -165,7 +165,7 @@ inBrowsers("of a run of 12,000 steps the numbers can be read, and the arrows fro
 });
 
 inBrowsers("where the picture is scrolled, the axis has no number above the names of lanes, and its name stays", async (page) => {
-  await open(page, "#example=primes&query=primes(30,Ps)&lines=leap 50", SIZES.wide);
+  await open(page, "#example=primes&query=primes(80,Ps)&lines=leap 200", SIZES.wide);
   await page.value("(Canvas.choose(null), document.getElementById('canvas').scrollTo(200, 0), new Promise((done) => setTimeout(() => done(true), 100)))");
   const told = await page.value(`(() => { const names = document.querySelector("#canvas .names rect").getBoundingClientRect().right, words = [...document.querySelectorAll("#canvas .axis text")].filter((one) => one.getClientRects().length > 0);
     return words.map((one) => { const box = one.getBoundingClientRect(); return [one.textContent, (box.left + box.right) / 2 >= names - 1, box.left >= 0]; }); })()`);

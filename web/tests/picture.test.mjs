@@ -149,3 +149,19 @@ test("what drawing a step takes is bounded, and grows little with the run", asyn
     assert.ok(large.work < 2 * small.work, `${small.work} for each of 165 steps by ${by}, ${large.work} of 901`);
   }
 });
+
+/** A run of a program of examples/ to its end. */
+async function endedRun(name, query) {
+  const program = fs.readFileSync(path.join(HERE, "..", "..", "examples", `${name}.ghc`), "utf8");
+  const { engine } = await engineOfPage(), session = engine.open({ program, query });
+  session.line("leap 1000");
+  return runOf(session, { program, query });
+}
+
+test("names stand above the lanes where marks are larger so and the height allows", async () => {
+  const run = await endedRun("wrong/bank", "bank(End)"), view = { by: "record", room: 979, top: 34 };
+  const beside = Lanes.layout(run, view), above = Lanes.layout(run, { ...view, tall: 600 });
+  assert.deepEqual([beside.isAbove, above.isAbove], [false, true]);
+  assert.ok(above.sizes.radius > beside.sizes.radius && above.bottom <= 600);
+  assert.equal(Lanes.layout(run, { ...view, tall: beside.bottom }).isAbove, false, "there is no height to spare");
+});
