@@ -183,11 +183,15 @@ function wordsOf({ lines, history, query }) {
 /** Of an address that holds a session, only one that has gone on from there is offered. */
 const goesOn = (session) => session.program === State.given.program && session.query === State.given.query && session.lines.length > Talk.typedLines().length;
 
-/** Offers to go on with what was kept, where the page was not opened for something else. */
+/**
+ * Offers to go on with what was kept, where the page was not opened for something else, and no line of its address is
+ * answered just now.
+ */
 function offer(isOfLink = false) {
   before = isOfLink ? all().filter((session) => session.key !== name && goesOn(session)) : all();
   const [last, ...others] = before;
   if (last === undefined || (location.hash.length > 1 && !isOfLink)) return;
+  if (isOfLink && !find("answer").hidden) return;
   const isOne = last.lines.length < 2, them = isOne ? "it" : "them";
   const links = others.map((session, index) => link({ "data-go-on": index + 1 }, ...wordsOf(session)));
   const also = links.length > 0 ? [" Also kept: ", ...joined(links, ", ")] : [];

@@ -145,7 +145,8 @@ const showDetail = () => Panels.showDetail(Shown.chosen);
 
 /** What shows a change, in its order: each is told what it is, and the fresh entries of the console. */
 const parts = () => [
-  nameExample, hideWelcome, OnScreen.follow, Beside.follow, Result.show, redraw, showNewSteps, Looking.follow, Panels.showTold, Panels.showGoals, Store.show,
+  leaveAddress, nameExample, hideWelcome, OnScreen.follow, Beside.follow, Result.show, redraw, showNewSteps,
+  Looking.follow, Panels.showTold, Panels.showGoals, Store.show,
   Panels.showShelf, Panels.showCount, showDetail, Answers.show, Trail.follow, Why.show, Blaming.show, Choosing.follow, Guide.onChange,
   tellCause, Reloading.follow, Fitting.showLit, Keeping.keep,
 ];
@@ -427,8 +428,32 @@ async function readLink(letters) {
 /** The trail and the notes in the letters of an address; null where there are none, or none can be read. */
 const readNotes = (letters) => (letters === null ? null : Links.unpack(letters).then(JSON.parse).catch(() => null));
 
-/** Does what an address asks for, as `#example=primes&query=primes(30,Ps)&lines=leap&by=depth&theme=dark&step=90`; says whether it holds a session. */
+let isOfAddress = false; // whether a session is begun that the address tells
+
+/**
+ * A session that the address does not tell takes the address's part away: a reload would bring back another one, and
+ * not offer this one.
+ */
+function leaveAddress(what) {
+  if (what !== "start" || isOfAddress || location.hash.length <= 1) return;
+  history.replaceState(null, "", location.href.split("#")[0]);
+}
+
+/** Does what an address asks for; says whether it tells what to begin with. */
 async function fromAddress() {
+  isOfAddress = true;
+  try {
+    return await beginAddressed();
+  } finally {
+    isOfAddress = false;
+  }
+}
+
+/**
+ * Does what an address asks for, as `#example=primes&query=primes(30,Ps)&lines=leap&by=depth&theme=dark&step=90`; says
+ * whether it tells what to begin with.
+ */
+async function beginAddressed() {
   const asked = new URLSearchParams(location.hash.slice(1)), name = asked.get("example"), letters = asked.get("s");
   const { session, why } = letters === null ? { session: null, why: undefined } : await readLink(letters);
   if (session !== null) {
@@ -443,7 +468,7 @@ async function fromAddress() {
   await chooseExample(example, asked.get("query") || (name ? "" : FIRST_QUERY), lines);
   if (why !== undefined) Answers.put(true, why);
   goToStep(Number(asked.get("step")));
-  return false;
+  return name === example;
 }
 
 /** @type {import("./types").Doers} */

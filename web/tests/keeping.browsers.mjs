@@ -160,3 +160,15 @@ inBrowsers("arrow keys go through the examples and start none; Enter and a click
   await chooseExample(page, "bill");
   assert.equal(await page.value("State.given.query"), "bill(12,3,T)");
 });
+
+inBrowsers("a session that the address does not tell leaves it, and is offered after a reload", async (page) => {
+  await open(page, "#example=deadlock", WIDE);
+  await page.value("localStorage.clear()");
+  assert.equal(await page.value("location.hash"), "#example=deadlock");
+  await startOwn(page, OWN, QUERY);
+  await page.value(send(LINES));
+  assert.equal(await page.value("location.hash"), "");
+  await open(page, "", WIDE);
+  const offers = '[...document.querySelectorAll("#answer [data-go-on]")].map((one) => one.textContent)';
+  assert.deepEqual(await page.value(offers), ["Go on with them"]);
+});
