@@ -21,6 +21,7 @@ const MOST_KEPT = 1000000; // steps that the program keeps
 const LONGEST_LINE = 4000; // letters of a reply's line that are shown
 const MOST_TOLD = 100; // lines that were typed at once, and are shown
 const LEAST_SUMMED = 4; // causes or consequences of a step that are summed
+const RUN = 1000, LEAST_LONE = 100; // steps that Run takes at most; reductions by one clause of which it is told
 const MOST_LINKED = 60; // lines of a reply in which numbers are links
 const isRefusal = (line) => Replies.isRefusal(line) || /^(program|query|history|session): /.test(line);
 let wasChanged = false;
@@ -199,6 +200,32 @@ function noteParts() {
   return [...beside, ...(beside.length > 0 && state.length > 0 ? [make("br")] : []), ...state];
 }
 
+/** The clause by which each of the last steps that were reductions went, if it is one, and how many they are. */
+function loneClause({ graph }, most) {
+  let count = 0, lone = 0;
+  for (let at = graph.count - 1; at >= Math.max(0, graph.count - most); at--) {
+    const clause = graph.clauses.at(at);
+    if (clause === 0) continue;
+    if (lone !== 0 && clause !== lone) return { clause: 0, count: 0 };
+    lone = clause;
+    count += 1;
+  }
+  return { clause: lone, count };
+}
+
+/** Where the last run came to its limit: that it is not at its end, and whether it may have none. */
+function limitParts() {
+  const last = State.entries[State.entries.length - 1], [told] = last === undefined ? [] : last.tail(1);
+  if (told !== "stopped limit" || State.mayChange(last) === false) return [];
+  const { clause, count } = loneClause(State.run, RUN), { predicate } = State.run.clauses[clause - 1] ?? {};
+  const steps = plural(State.run.graph.count, "step"), more = RUN.toLocaleString("en");
+  const stopped = `The run stopped after ${steps}, and is not at its end: Run takes up to ${more} more.`;
+  if (count < LEAST_LONE || predicate === undefined) return [stopped];
+  const named = link({ "data-clause": clause, title: "lights its steps" }, `clause ${clause}`);
+  const all = ` The last ${plural(count, "reduction")} all went by `;
+  return [stopped, all, named, `, of ${predicate}: should another one have ended it?`];
+}
+
 /** What is said of the run as it stands: a failure, a circle, who waits for what. */
 function stateParts() {
   const { goals, graph } = State.run, isReady = goals.some((goal) => goal.status === "ready");
@@ -206,7 +233,7 @@ function stateParts() {
   if (State.run.goalsRefused) return ["A goal is longer than the console tells (", make("code", null, State.run.goalsRefused), "), so none is shown. Press Run to go on, or Undo last to go back."];
   if (failed) return tellFailure(failed);
   if (isReady && graph.count === 0) return ["A green ring is a goal that is ready: click it, or press Run."];
-  if (isReady) return [];
+  if (isReady) return limitParts();
   const circle = Outcome.circleIn(State.run);
   if (circle.length > 0) return tellCircle(circle);
   if (stream) return [`Nothing is ready. Click the stream ${stream.name} and give it an input.`];

@@ -63,3 +63,18 @@ inBrowsers("above each of two runs stands its result", async (page) => {
   assert.equal(await page.value('document.querySelector("#beside .result-line").textContent'), "above: done: End = 120");
   assert.equal(await page.value(text("result")), "done: End = 130");
 });
+
+const ENDLESS = `count(N,L) :- true | L = [N|T], M := N - 1, count(M,T).
+count(0,L) :- true | L = [].
+`;
+
+inBrowsers("a run that stopped at its limit says so, and by which one clause its last steps went", async (page) => {
+  await open(page, "", WIDE);
+  await page.value(begin(ENDLESS, "count(3,L)"));
+  await page.value('Talk.send("leap 1000").then(() => true)');
+  const told = "The run stopped after 1000 steps, and is not at its end: Run takes up to 1,000 more. ";
+  const last = "The last 334 reductions all went by clause 1, of count/2: should another one have ended it?";
+  assert.equal(await page.value(text("note")), told + last);
+  await page.value('Talk.send("step").then(() => true)');
+  assert.equal(await page.value(text("note")), "");
+});
