@@ -136,8 +136,9 @@ function showDetail(chosen) {
   const because = causes.get(step.number).flatMap(becauseOf);
   const neededBy = joined(effects.get(step.number).slice(0, 20).map(({ to }) => goTo(to)), ", ");
   if (neededBy.length > 0) because.push("\nneeded by ", ...neededBy);
-  area.replaceChildren(`${does}\n${goal}`, tellReached(run, step), rest, ...because);
-  Names.dress(area);
+  const words = [`${does}\n${goal}`, tellReached(run, step), rest, ...because];
+  const fresh = Names.dress(make("div", null, ...words)); // before it comes, since it is read aloud as it comes
+  area.replaceChildren(...fresh.childNodes);
 }
 
 /** Why a goal has failed, with links to the steps that brought it there. */

@@ -202,7 +202,18 @@ function onPaste(event) {
   Deeds.tell(true, `The text was not pasted: ${tellTooLong(given)}.`);
 }
 
+/** A new line begins as far in as the one before it, as a change that the browser can undo. */
+function onEnter(event) {
+  const { value, selectionStart } = find("program"), start = value.lastIndexOf("\n", selectionStart - 1) + 1;
+  const line = value.slice(start, selectionStart);
+  const [blanks] = /^[ \t]*/.exec(line);
+  if (event.key !== "Enter" || event.ctrlKey || event.metaKey || event.isComposing || blanks === "") return;
+  event.preventDefault();
+  document.execCommand("insertText", false, `\n${blanks}`);
+}
+
 function listenToAll() {
+  find("program").addEventListener("keydown", onEnter);
   find("program").addEventListener("paste", onPaste);
   const divider = find("divider"), field = find("program");
   field.addEventListener("input", showLines);

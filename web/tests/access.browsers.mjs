@@ -104,6 +104,21 @@ inBrowsers("the log says nothing by itself; the result, the answer and the step 
   assert.doesNotMatch(said, /REDU|CALL|SUSP|RESU/);
 });
 
+inBrowsers("a step is said once, by names", async (page) => {
+  await open(page, `${QUICKSORT}leap`, WIDE);
+  await page.value(`(() => {
+    globalThis.said = [];
+    const wordsOf = ({ addedNodes }) => [...addedNodes].map((one) => one.textContent);
+    const take = (changes) => said.push(...changes.flatMap(wordsOf));
+    new MutationObserver(take).observe(document.getElementById("detail"), { childList: true, subtree: true });
+    return true;
+  })()`);
+  await page.value("(Canvas.choose({ step: 5 }), new Promise((done) => setTimeout(() => done(true), 100)))");
+  const said = await page.value("said");
+  assert.ok(said.length > 0);
+  assert.deepEqual(said.filter((words) => /_\d+_\d+/.test(words)), []);
+});
+
 /** All that Tab has to come to, by a number that each is given. */
 const STOPS = `(() => { const all = [...document.querySelectorAll("button:not([disabled]), input:not([disabled]), select, textarea, [tabindex='0']")].filter((one) => one.getClientRects().length > 0 && one.tabIndex === 0 && !one.closest("[hidden]"));
   all.forEach((one, at) => { one.dataset.stop = String(at); }); return all.length; })()`;
