@@ -149,3 +149,8 @@ inBrowsers("keys alone lead from a wrong value to a note on its step", async (pa
   for (const key of ["h", "i", "Enter"]) await page.key(key);
   assert.equal(await page.value(text("notes")), "step 2: hi ×");
 });
+
+inBrowsers("keys reach the language's example, which scrolls", async (page) => {
+  await open(page, "", WIDE);
+  assert.equal(await page.value('document.getElementById("language").content.querySelector("pre").tabIndex'), 0);
+});
