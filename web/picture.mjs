@@ -373,6 +373,10 @@ function legendItems(run, theme, colour) {
   items.push([`<path d="M0 0h16" stroke="${theme.made}" stroke-width="2"/>`, "made"]);
   items.push([`<path d="M0 0h16" stroke="${theme.read}" stroke-width="2"/>`, "read"]);
   items.push([`<path d="M0 0h16" stroke="${theme.woke}" stroke-width="2" stroke-dasharray="5 3"/>`, "read, and was woken"]);
+  const isFaint = ({ kind, implied, woke }) => kind !== "made" && implied && !woke;
+  const faint = `<path d="M0 0h16" stroke="${theme.read}" stroke-width="2" opacity=".3"/>`;
+  if (run.arrowsLeft === 0 && run.graph.edges.some(isFaint)) items.push([faint, "read, as other lines tell, too"]);
+  if (run.arrowsLeft > 0) items.push(["", `${plural(run.arrowsLeft, "arrow")} left out, which other lines tell`]);
   if (run.graph.edges.some((edge) => edge.kind === "named")) items.push([`<path d="M0 0h16" stroke="${theme.named}" stroke-width="2" stroke-dasharray="8 3 1.5 3"/>`, "named"]);
   if (run.goals.some((goal) => goal.status === "ready")) items.push([`<circle cx="8" r="5" fill="none" stroke="${theme.ready}" stroke-width="2"/>`, "ready"]);
   if (run.goals.some((goal) => goal.status === "waits")) items.push([`<circle cx="8" r="5" fill="none" stroke="${theme.waits}" stroke-width="2" stroke-dasharray="3 2.4"/>`, `waits${arcsLeft(run)}`]);
@@ -420,6 +424,7 @@ function draw(given, options) {
   const view = { ...laid, top, hasTitles: options.titles !== false, shown };
   const showsImplied = view.sizes.kind !== "tiny" && run.graph.steps.length <= 500;
   const edges = run.graph.edges.filter((edge) => showsImplied || edge.kind === "made" || !edge.implied || edge.woke);
+  run.arrowsLeft = run.graph.edges.length - edges.length;
   const legend = options.legend ? drawLegend(view, run, room, theme, colour) : { text: "", bottom: view.bottom + 12, width: 0 };
   view.width = Math.max(view.width, legend.width, title ? 28 + title.length * 10 : 0);
   const width = Math.ceil(view.width), height = Math.ceil(legend.bottom);

@@ -165,3 +165,10 @@ test("names stand above the lanes where marks are larger so and the height allow
   assert.ok(above.sizes.radius > beside.sizes.radius && above.bottom <= 600);
   assert.equal(Lanes.layout(run, { ...view, tall: beside.bottom }).isAbove, false, "there is no height to spare");
 });
+
+test("the key tells what a faint arrow is, and how many arrows are left out", async () => {
+  const run = await endedRun("primes", "primes(12,Ps)");
+  const keys = [9000, 340].map((room) => Picture.draw(run, { by: "record", theme: "light", room, legend: true }).svg);
+  assert.match(keys[0], />read, as other lines tell, too</);
+  assert.match(keys[1], />\d+ arrows? left out, which other lines tell</);
+});
