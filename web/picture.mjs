@@ -258,6 +258,7 @@ function drawBar(view, lane, theme, colour) {
 
 const LEAST_LEGEND = 320; // points
 const SMALL = { font: 8.5, letter: 5.4, most: 250 }; // numbers above small marks: points, and steps at most
+const LEAST_BELOW = 10; // points below a leaf that hold what it bound
 const LEAST_LETTER = 5.5; // points of a number that can be read
 const ROOM_OF_COMING = 8; // points between the axis and the lanes
 const MOST_COMING = 3; // arrows from outside that are drawn to one step
@@ -300,13 +301,21 @@ function drawMark(view, run, mark, theme, colour) {
   return `<g class="mark" data-step="${step.number}"><circle class="halo" cx="${round(mark.x)}" cy="${round(mark.y)}" r="${round(halo)}"/>${shapeOf(mark, sizes, fill)}${number}${view.hasTitles ? `<title>${escaped(view.shown(tellStep(run, step)))}</title>` : ""}</g>`;
 }
 
+/** Whether a number can stand at a place: neither over a mark nor behind the axis. */
+function hasRoomAt(view, x, y, half) {
+  const { sizes } = view, size = ({ isLeaf }) => (isLeaf ? sizes.leaf : sizes.radius), high = SMALL.font * 0.75;
+  const isBeside = (mark) => Math.abs(mark.x - x) < half - 2 + size(mark);
+  const isOver = (mark) => isBeside(mark) && mark.y + size(mark) > y - high + 1 && mark.y - size(mark) < y - 1;
+  return y - high >= view.top - 6 && ![...view.marks.values()].some((mark) => !mark.isFolded && isOver(mark));
+}
+
 /** Above marks that are too small to hold their numbers: as many of these as have room side by side. */
 function drawSmallNumbers(view, theme) {
   const { sizes } = view, ends = new Map(), texts = [];
   if (sizes.kind === "roomy" || view.marks.size > SMALL.most) return "";
   for (const mark of [...view.marks.values()].filter((one) => one.row === 0 && !one.isFolded).sort((one, other) => one.x - other.x)) {
     const half = (String(mark.step.number).length * SMALL.letter) / 2 + 2, y = round(mark.y - sizes.radius - 3);
-    if (mark.x - half < (ends.has(y) ? ends.get(y) : view.left)) continue;
+    if (mark.x - half < (ends.has(y) ? ends.get(y) : view.left) || !hasRoomAt(view, mark.x, y, half)) continue;
     ends.set(y, mark.x + half);
     texts.push(`<text class="small" x="${round(mark.x)}" y="${y}" font-size="${SMALL.font}" text-anchor="middle" fill="${theme.dim}" stroke="${theme.ground}" stroke-width="2.5" paint-order="stroke" pointer-events="none">${mark.step.number}</text>`);
   }
@@ -315,7 +324,7 @@ function drawSmallNumbers(view, theme) {
 
 /** Below a binding or a sum: what was bound, as much of it as there is room for before the next one. */
 function drawBindings(view, theme) {
-  if (view.sizes.kind !== "roomy") return "";
+  if (view.sizes.kind !== "roomy" || view.sizes.leafRow < 2 * view.sizes.leaf + LEAST_BELOW) return "";
   const leaves = [...view.marks.values()].filter((mark) => mark.isLeaf && !mark.isFolded && mark.step.binds.length > 0);
   const rows = new Map(leaves.map((mark) => [Math.round(mark.y), []]));
   for (const mark of leaves.sort((one, other) => one.x - other.x)) rows.get(Math.round(mark.y)).push(mark);

@@ -423,12 +423,14 @@ function leastApart(kind, columns, { room, high, isWhole }) {
   return columns > SHORT ? APART.tiny : isWhole && room >= NARROW ? APART[kind] : APART.roomy;
 }
 
+const kindOf = (radius) => (radius >= 8 ? "roomy" : radius >= 5 ? "dense" : "tiny");
+
 /** How large all is drawn: what the room allows, from steps that stand side by side as points to circles with numbers. */
 function sizesFor(room, columns, lanes, sides, least, isFit) {
   const dx = between(least, (room - sides) / Math.max(1, columns), 56);
   const most = lanes > 80 ? 4 : lanes > 30 ? 6 : lanes > 16 ? 8 : MOST_RADIUS;
   const radius = between(isFit ? 1 : 3, dx * 0.3, most);
-  const kind = radius >= 8 ? "roomy" : radius >= 5 ? "dense" : "tiny";
+  const kind = kindOf(radius);
   const font = room < NARROW ? 10.5 : FONTS[kind];
   return { dx, radius, kind, font, leaf: radius * 0.6, row: 13 + 2.3 * radius, leafRow: kind === "roomy" ? 25 : 7 + 1.3 * radius };
 }
@@ -600,7 +602,8 @@ function placeLanes(view, top) {
 function shrink(view, options) {
   const { sizes } = view, part = Math.max(0.05, (options.high - options.top) / (view.bottom - options.top));
   Object.assign(sizes, { row: sizes.row * part, leafRow: sizes.leafRow * part, gap: part, radius: Math.max(1, Math.min(sizes.radius, sizes.row * part * 0.45)) });
-  Object.assign(sizes, { leaf: sizes.radius * 0.6, kind: sizes.radius >= 8 ? "roomy" : sizes.radius >= 5 ? "dense" : "tiny" });
+  sizes.leaf = Math.min(sizes.radius * 0.6, sizes.leafRow * 0.45);
+  sizes.kind = kindOf(sizes.radius);
 }
 
 /**

@@ -172,3 +172,12 @@ test("the key tells what a faint arrow is, and how many arrows are left out", as
   assert.match(keys[0], />read, as other lines tell, too</);
   assert.match(keys[1], />\d+ arrows? left out, which other lines tell</);
 });
+
+test("where lanes are squeezed into a height, marks stay within their rows", async () => {
+  const run = await endedRun("wrong/bank", "bank(End)");
+  for (const high of [120, 180, 240]) {
+    const { sizes } = Lanes.layout(run, { by: "record", room: 979, top: 34, high });
+    assert.ok(sizes.leaf <= sizes.leafRow * 0.45 + 0.01, `${high}: ${sizes.leaf} in rows of ${sizes.leafRow}`);
+    assert.equal(sizes.kind === "roomy", sizes.radius >= 8, `${high}: ${sizes.kind} with ${sizes.radius}`);
+  }
+});
