@@ -6,6 +6,7 @@ import * as Answers from "./answers.mjs";
 import * as Beside from "./beside.mjs";
 import * as Blaming from "./blaming.mjs";
 import Canvas from "./canvas.mjs";
+import * as Checking from "./checking.mjs";
 import * as Choosing from "./choosing.mjs";
 import Deeds from "./deeds.mjs";
 import { find, make } from "./elements.mjs";
@@ -395,7 +396,8 @@ function listenToAll() {
   find("examples").addEventListener("pointerdown", () => { isPassing = false; });
   find("examples").addEventListener("blur", () => { find("examples").value = standing; });
   for (const field of [find("program"), find("query")]) {
-    for (const follow of [Panels.followText, Reloading.followSoon, Keeping.keepSoon]) field.addEventListener("input", follow);
+    const follows = [Panels.followText, Reloading.followSoon, Checking.followSoon, Keeping.keepSoon];
+    for (const follow of follows) field.addEventListener("input", follow);
   }
   find("canvas").addEventListener("scroll", () => {
     Canvas.stayInSight();
@@ -478,7 +480,8 @@ const doers = {
   draw: Canvas.draw, drawStrip: Overview.draw, goToPart: Overview.goTo,
   choose: Canvas.choose, scrollTo: Canvas.scrollTo, goTo, visit: Canvas.visit, markWay: Canvas.markWay, ring: Canvas.ring,
   showSlice: Canvas.showSlice, showAsked: Canvas.showAsked, showFlags: Canvas.showFlags, scrollToLit: Canvas.scrollToLit,
-  markClause: Program.markClause, markLit: Program.markLit, showPlace: Program.showPlace, lightClause, size: Fitting.size, selectRange: Selecting.selectRange,
+  markClause: Program.markClause, markLit: Program.markLit, showPlace: Program.showPlace,
+  underline: Program.underline, lightClause, size: Fitting.size, selectRange: Selecting.selectRange,
   resultOf: Result.ofKept, tell: Answers.put, hideAnswer: Answers.hide, tellSlice: Resting.tell, openMenu: Menus.open, askFirst: Menus.askFirst,
   showRefusal: Answers.showRefusal, notesOn: Answers.notesOn,
   whyInShort: Why.inShort, drawBeside: Beside.draw, besideColumns: Beside.columns, besideParts: Beside.noteParts, canKeepRun: Beside.isComparable, keepRun: Beside.keep,

@@ -232,4 +232,4 @@ function listenToAll() {
   });
 }
 
-export { setText, markClause, markLit, showPlace, showLine, setWrap, listenToAll, isWrapped };
+export { setText, underline, markClause, markLit, showPlace, showLine, setWrap, listenToAll, isWrapped };

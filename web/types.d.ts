@@ -73,6 +73,7 @@ export interface Doers {
   markClause(clause: Lines | null): void;
   markLit(clauses: number[]): void;
   showPlace(name: string, line: number, letter: number, length: number, words?: string): void;
+  underline(line: number, letter: number, length: number, words: string): void;
   lightClause(number: number): void;
   size(factor: number): void;
   selectRange(one: number, other: number): void;

@@ -101,6 +101,12 @@ class WorkerSide {
     return { refusal: session.start.trim() };
   }
 
+  /** Why program and query would be refused; an empty text where they would not. The session stands. */
+  check({ program, query }) {
+    const fresh = this.engine.open({ program, query });
+    return { refusal: fresh.refused ? fresh.start.trim() : "" };
+  }
+
   /** A session of the first steps alone. */
   after(count) {
     const second = this.second ??= this.aside(), { session, numbers } = second;

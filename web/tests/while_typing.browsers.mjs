@@ -18,3 +18,18 @@ inBrowsers("a line begins as far in as the one before it", async (page) => {
   await page.key("Enter");
   assert.equal(await page.value(field("program")), program.replace("    q", "    \n    q"));
 });
+
+inBrowsers("why a text would be refused is marked while one types, and no longer when it is mended", async (page) => {
+  await open(page, "", WIDE);
+  const program = "p(X) :- true | q(X).\nq(_).\n", soon = "new Promise((done) => setTimeout(() => done(true), 3000))";
+  const marked = 'document.querySelector("#program-lines .wrong-word") !== null';
+  await page.value(begin(program, "p(1)"));
+  assert.equal(await page.value(marked), false);
+  await page.value(caretAt(program.length));
+  await page.value(type("r(X) :- s(X).\n"));
+  await page.value(soon);
+  assert.equal(await page.value(marked), true);
+  await page.value(type("s(_).\n"));
+  await page.value(soon);
+  assert.equal(await page.value(marked), false);
+});
