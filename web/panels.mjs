@@ -145,7 +145,10 @@ function showDetail(chosen) {
 function tellFailure(goal) {
   const { words, binders } = Explain.failureOf(State.run, goal);
   const bound = binders.flatMap(({ variable, term, step }) => ["Step ", goTo(step), " bound ", make("code", null, `${variable} = ${Terms.cut(term, 60)}`), ". "]);
-  return [`Goal ${goal.name} has failed: `, ...withCode(words), ". ", ...bound, "Take back a step that it read, and it may be ready again. ", lineButton("Find the wrong clause", `blame ${goal.name}`, { class: "small" })];
+  const why = State.run.whyFailed.map((line) => make("div", { class: "hint" }, line));
+  const finding = lineButton("Find the wrong clause", `blame ${goal.name}`, { class: "small" });
+  const said = [`Goal ${goal.name} has failed: `, ...withCode(words), ". ", ...why, ...bound];
+  return [...said, "Take back a step that it read, and it may be ready again. ", finding];
 }
 
 /**

@@ -2,8 +2,10 @@
 // session lives in a worker, so that the page goes on meanwhile; what a line leads to comes later, and is read in slices of time.
 import * as Asking from "../front/protocol/asking.mjs";
 import { NO_WAITS, arcsAmong } from "../front/run/arcs.mjs";
+import { whyFailed } from "../front/run/reasons.mjs";
 import { whyAtEnd } from "../front/run/waits.mjs";
 import RunModel from "../front/run/run_model.mjs";
+import * as Reader from "../front/text/reader.mjs";
 import { pauses } from "./pausing.mjs";
 import * as Service from "./service.mjs";
 import State from "./state.mjs";
@@ -47,16 +49,21 @@ function* linesOf(bytes) {
  * The session, as those know it who ask it alone; that of its first steps where their `count` is told. A stop throws.
  */
 function sessionAt(count = null) {
-  const { run: { graph }, given: { query } } = State;
+  const { run: { graph, goals, texts }, given: { program, query } } = State;
   return {
-    variables: [...Asking.queryVariables(query).keys()], kept: { steps: { size: count ?? graph.count } },
+    variables: [...Asking.queryVariables(query).keys()], kept: { steps: { size: count ?? graph.count }, texts },
+    get clauses() { return Reader.readProgram(program); },
+    goalsTold: async () => goals,
+    goalNamed: async (name) => goals.find((goal) => goal.name === name),
     ask: async (line) => (await inquire("ask", { line, count })).reply,
   };
 }
 
-/** Asks why nothing goes on, where that is so, and who waits for whom. */
+/** Asks why nothing goes on, where that is so, why a goal has failed, and who waits for whom. */
 async function askWaits(run) {
-  const session = sessionAt();
+  const session = sessionAt(), failed = run.goals.find(({ status }) => status === "failed");
+  const isPlain = failed === undefined || failed.refusal === "F11";
+  run.whyFailed = isPlain ? [] : await whyFailed(session, failed.name, failed.refusal);
   run.why = run.goalsRefused ? [] : await whyAtEnd(session, run.goals);
   run.waits = run.goalsRefused ? NO_WAITS : await arcsAmong(session, run.goals, run.why);
 }

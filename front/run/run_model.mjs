@@ -15,6 +15,7 @@ class RunModel {
     this.goals = [];
     this.goalsRefused = ""; // why the console did not tell them
     this.why = []; // where nothing goes on: what is not bound, with what `whynot` tells of it
+    this.whyFailed = []; // why the first goal that failed did, as lines: for each clause, say
     this.waits = NO_WAITS; // who waits for whom, as far as it was asked
     this.shelf = [];
     this.texts = new Map();

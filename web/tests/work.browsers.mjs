@@ -37,6 +37,13 @@ inBrowsers("a failed goal tells what clashed and which step bound it; an error i
   assert.ok(await page.value('(() => { const line = document.querySelector("#program-lines .wrong").getBoundingClientRect(), pane = document.getElementById("program-pane").getBoundingClientRect(); return line.top >= pane.top && line.bottom <= pane.bottom; })()'), "the line is in sight");
 });
 
+inBrowsers("of a goal that no clause takes it is told why each says no", async (page) => {
+  await open(page, "#example=bill&query=price(0,T)&lines=leap", WIDE);
+  const note = await page.value(text("note"));
+  const why = ["clause 2: N > 0 says no (N = 0)", "clause 3: N >= 10 says no (N = 0)"];
+  for (const one of why) assert.ok(note.includes(one), note);
+});
+
 inBrowsers("a refused program, query and line are told with their cause, and the place is selected; a variable that stands once is noted", async (page) => {
   const start = (program, query) => page.value(`(Page.begin(${JSON.stringify({ program, query })}), Talk.settled())`);
   const selected = (id) => page.value(`(() => { const field = document.getElementById("${id}"); return [field.selectionStart, field.selectionEnd, document.activeElement === field].join(); })()`);
