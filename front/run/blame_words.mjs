@@ -3,6 +3,7 @@ import * as BlameLines from "../protocol/blame_lines.mjs";
 import * as Asking from "../protocol/asking.mjs";
 import * as Replies from "../protocol/replies.mjs";
 import * as Print from "../text/print.mjs";
+import { inOneLine } from "../text/clauses.mjs";
 import * as Printed from "../text/printed.mjs";
 import { WIDEST, cut, namesIn, termOf } from "./named.mjs";
 import { plural, some, whyFailed, whyWaits, hasConsequences } from "./reasons.mjs";
@@ -48,7 +49,7 @@ function warnings({ asked, inTurns }) {
 /** A clause with its place in the program's text. */
 function clauseWords({ clauses }, number) {
   const { line, text } = clauses[number - 1];
-  return `clause ${number} (line ${line}): ${cut(text.replace(/\s*\n\s*/g, " "), WIDEST_CLAUSE)}`;
+  return `clause ${number} (line ${line}): ${cut(inOneLine(text), WIDEST_CLAUSE)}`;
 }
 
 /** By which step and clause a goal was taken, where one took it. */

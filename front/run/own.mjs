@@ -3,13 +3,14 @@ import * as Graph from "./graph.mjs";
 import { plural } from "./reasons.mjs";
 import * as Waits from "./waits.mjs";
 import * as Printed from "../text/printed.mjs";
+import { inOneLine } from "../text/clauses.mjs";
 import * as Reader from "../text/reader.mjs";
 
 function list(session, [word]) {
   const shown = session.clauses.filter(({ predicate }) => word === undefined || Printed.isNamed(predicate, word));
   if (shown.length === 0) return [`no clause of ${word}; the program's predicates: ${session.predicates.join(", ")}`];
   const width = String(shown.at(-1).number).length;
-  return shown.map(({ number, line, text }) => `${String(number).padStart(width)} (line ${line}) ${text.replace(/\s*\n\s*/g, " ")}`);
+  return shown.map(({ number, line, text }) => `${String(number).padStart(width)} (line ${line}) ${inOneLine(text)}`);
 }
 
 async function stuck(session) {

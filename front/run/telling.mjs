@@ -2,6 +2,7 @@
 import * as Asking from "../protocol/asking.mjs";
 import * as BlameLines from "../protocol/blame_lines.mjs";
 import * as Causes from "../text/causes.mjs";
+import { inOneLine } from "../text/clauses.mjs";
 import * as GoalTree from "./goal_tree.mjs";
 import Run from "./run.mjs";
 import * as Print from "../text/print.mjs";
@@ -188,7 +189,7 @@ async function afterGoal(session, { words: [word] }) {
   if (clause === undefined) return [];
   const run = await session.look(), values = [...run.environmentOf(step.number) ?? []].filter(([name]) => Reader.isWritten(name));
   const shown = values.map(([name, term]) => `${name} = ${Print.term(term, { store: run.shown, most: 40 })}`).join(", ");
-  return [`by clause ${clause.number}: ${clause.text.replace(/\s*\n\s*/g, " ")}`, ...(shown === "" ? [] : [`with ${shown}`])];
+  return [`by clause ${clause.number}: ${inOneLine(clause.text)}`, ...(shown === "" ? [] : [`with ${shown}`])];
 }
 
 const SCREEN = 20, DEEPEST = 12; // lines of a tree that are shown at once; how far its lines are moved in at most

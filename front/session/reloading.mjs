@@ -1,6 +1,7 @@
 // A session goes on under its program as the file has it now: which of its steps stay, in words, and the session that
 // takes its place. The history by which it does is made here; the console loads it, and judges.
 import * as Replies from "../protocol/replies.mjs";
+import { inOneLine } from "../text/clauses.mjs";
 import { wordsOfQuery } from "../protocol/words.mjs";
 import { plural } from "../run/reasons.mjs";
 import * as ReloadPlan from "../run/reload_plan.mjs";
@@ -52,7 +53,7 @@ async function reloadOf(session, { clauses, predicates, bytes }) {
   return { plan, shelved, unshelved, unspied, handed: handedWith(shelved) };
 }
 
-const clauseLine = (word) => ({ number, line, text }) => `${word}: clause ${number} (line ${line}) ${text.replace(/\s*\n\s*/g, " ")}`;
+const clauseLine = (word) => ({ number, line, text }) => `${word}: clause ${number} (line ${line}) ${inOneLine(text)}`;
 const stepLine = (word) => (step) => `${word}: step ${step.number}, ${Replies.wordsOf(step)}`;
 
 /** What has changed, and which steps go, in words. */

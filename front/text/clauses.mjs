@@ -12,4 +12,7 @@ function clausesOf(text) {
   });
 }
 
-export { clausesOf };
+/** A clause's text in one line: each line feed with the blanks about it is a blank. */
+const inOneLine = (text) => text.split("\n").map((line) => line.trim()).filter((line) => line !== "").join(" ");
+
+export { clausesOf, inOneLine };
