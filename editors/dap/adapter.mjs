@@ -43,6 +43,8 @@ class Adapter {
     this.live = new Set(); // the processes that the editor knows
     this.isBusy = this.isRunning = this.wantsPause = this.isSkipping = false;
     this.runner = undefined; // the request that made the run
+    /** @type {ReturnType<typeof setTimeout> | undefined} */
+    this.endsLate = undefined; // what ends a slice of it that does not answer
     this.hearsProgress = false;
     this.hasToldEnd = false;
     /** @type {import("./session.mjs").EditorSession | undefined} */

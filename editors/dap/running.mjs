@@ -8,6 +8,7 @@ import * as Replies from "../../front/protocol/replies.mjs";
 /** @typedef {import("./types").Stop} Stop */
 
 const MOST_TOLD = 200; // steps of a run that it tells in the editor's console
+const SLICE_LATE = 2000; // milliseconds in which a slice may still answer, once somebody asks for the run's end
 const LONGEST = 300; // letters of a goal in the words of a stop
 
 /**
@@ -30,6 +31,8 @@ export default requests({
     try {
       return await what();
     } finally {
+      clearTimeout(this.endsLate);
+      this.endsLate = undefined;
       this.isRunning = false;
       this.wantsPause = false;
     }
@@ -44,7 +47,10 @@ export default requests({
   async runSlices() {
     const watched = await this.watchedValues();
     for (let steps = 0; ;) {
-      const reply = await this.session.ask(`leap ${watched.size > 0 ? 1 : this.slice}`), [, reason, name] = reply.at(-1).split(" ");
+      const reply = await this.sliceOf(watched.size > 0 ? 1 : this.slice);
+      const after = `after ${plural(steps, "step")}`;
+      if (reply === undefined) return ["pause", `ended where it did not answer, ${after}, which stand`];
+      const [, reason, name] = reply.at(-1).split(" ");
       steps += this.tellRun(reply.slice(0, -1), steps);
       const bound = await this.boundNow(watched);
       if (bound !== undefined) return ["data breakpoint", `${this.session.run.labelOf(bound.variable)} was bound`, { hit: bound }];
@@ -54,6 +60,18 @@ export default requests({
       } else if (reason !== "limit") return this.atEnd(reason, name);
       if (this.wantsPause) return ["pause", `after ${plural(steps, "step")}`];
       await this.handleWaiting();
+    }
+  },
+
+  /** The reply to a slice of a run; undefined where it was ended, since it did not answer. */
+  async sliceOf(steps) {
+    try {
+      return await this.session.ask(`leap ${steps}`);
+    } catch (error) {
+      if (error !== CANCELLED) throw error;
+      await this.session.ending;
+      this.session.isCancelled = false;
+      return undefined;
     }
   },
 
@@ -142,10 +160,19 @@ export default requests({
     }
   },
 
-  /** Asks a run to stop: in slices it does so after one, in one piece it is ended; where it cannot be, that is told. */
+  /**
+   * Asks a run to stop: in slices it does so after one, or is ended where that does not answer; in one piece it is
+   * ended.
+   */
   stopRun() {
     this.wantsPause = true;
-    if (!this.isSkipping || this.session.isCancelled) return;
+    if (this.isSkipping) this.endLine();
+    else this.endsLate ??= setTimeout(() => { if (this.session.program.isBusy) this.endLine(); }, SLICE_LATE);
+  },
+
+  /** Ends the line that is asked; where it cannot be ended, that is told. */
+  endLine() {
+    if (this.session.isCancelled) return;
     this.session.cancel(true).catch((error) => this.tell([`${error.message}; the run goes on`], "important"));
   },
 

@@ -218,6 +218,16 @@ test("a pause is heard in an endless run, and requests are answered in it", () =
   assert.match((await client.stop()).text, /the run was ended; the session stands as before it|stopped limit/);
 }));
 
+test("a pause ends a slice that does not answer, and what was kept before it stands", () => session(async (client) => {
+  const text = "d(0,A,X) :- true | X = A.\nd(N,A,X) :- N > 0 | M := N - 1, d(M,f(A,A),X).\n";
+  await client.begin(programFile(text), { query: "d(45,a,Y), d(45,a,Z), Y = Z" });
+  await client.ask("continue", { threadId: client.thread });
+  await new Promise((resolve) => { setTimeout(resolve, 500); });
+  await client.ask("pause", { threadId: client.thread });
+  assert.match((await client.stop()).text, /^ended where it did not answer, after \d+ steps?, which stand$/);
+  await client.ask("threads");
+}));
+
 test("at 10,000 steps a stop, its frames and a step back come without a felt delay", () => session(async (client) => {
   await client.begin(example("primes.ghc"), { query: "primes(480,Ps)" });
   const time = async (what) => {
