@@ -19,5 +19,14 @@ const decoder = new Decoder((message) => {
   note("->", message);
   adapter.hear(message);
 });
-process.stdin.on("data", (piece) => decoder.take(piece));
+process.stdin.on("data", (piece) => {
+  try {
+    decoder.take(piece);
+  } catch (error) {
+    if (!(error instanceof RangeError)) throw error;
+    process.stderr.write(`ghcdb: ${error.message}\n`);
+    process.exit(1);
+  }
+});
+process.stdout.on("error", () => process.exit(0)); // the editor has gone
 process.stdin.on("end", () => process.exit(0));

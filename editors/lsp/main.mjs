@@ -10,5 +10,13 @@ const server = new Server({
 });
 const decoder = new Decoder((message) => server.hear(message));
 process.stdout.on("error", () => process.exit(1)); // the editor has gone
-process.stdin.on("data", (piece) => decoder.take(piece));
+process.stdin.on("data", (piece) => {
+  try {
+    decoder.take(piece);
+  } catch (error) {
+    if (!(error instanceof RangeError)) throw error;
+    process.stderr.write(`ghcdb: ${error.message}\n`);
+    process.exit(1);
+  }
+});
 process.stdin.on("end", () => process.exit(1));

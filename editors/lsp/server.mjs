@@ -6,6 +6,7 @@ import { plural } from "../../front/text/plural.mjs";
 const NOT_BEGUN = -32002, INVALID = -32600, UNKNOWN = -32601, WRONG_WORDS = -32602, BROKEN = -32603; // of the protocol's errors
 const WHOLE_TEXTS = 1, FUNCTION = 12, CLAUSE = 6; // how texts are sent; kinds of symbols
 const PAUSE = 150; // milliseconds without a key, before a text is read
+const LONGEST = 1_048_576; // letters: a longer text is no program, and is not taken apart
 const MOST_SHOWN = 20; // clauses, when one points at a predicate
 
 /** An error that the editor hears of. */
@@ -98,7 +99,7 @@ class Server {
   /** Takes a text, which is read when no key comes for a while. */
   take(uri, text, version) {
     clearTimeout(this.programs.get(uri)?.timer);
-    const program = { text, version, clauses: clausesIn(text) };
+    const program = { text, version, clauses: text.length > LONGEST ? [] : clausesIn(text) };
     program.timer = setTimeout(() => this.readLater(uri, program), this.pause);
     this.programs.set(uri, program);
   }
