@@ -34,6 +34,11 @@ const unlessEnded = (promise, otherwise) => promise.catch((error) => {
 const MARK = "show _4294967295_9", MARK_REPLY = "F23 no variable\n";
 const LINE_FEED = 10;
 
+// Memory may be refused for the mark's line itself, and then nothing more comes. Where the last line is such a refusal
+// and nothing follows it for a while, another mark is sent: the first one has the line before, whatever that says.
+const NO_MEMORY = "F1 no memory\n", MARK_LATE = 300;
+const OTHER_MARK = "why 4294967295", OTHER_REPLY = "F16 not a kept step\n";
+
 const KILLED = 70; // the status where a signal ended the program
 
 // The names by which a program opens texts that are handed to it, so that no folder is wanted for them.
@@ -182,24 +187,50 @@ class NativeSession extends Talk {
     tried(() => process.kill(-this.child.pid, name)); // they may have ended by now
   }
 
-  /** Is the reply whole? Its last line is the mark's, and it has another one. */
+  /** Is the reply whole? Its last line is the last mark's, and it has another one. */
   isWhole() {
-    if (this.pieces.at(-1).length < MARK_REPLY.length) this.pieces = [Buffer.concat(this.pieces)];
-    const end = this.pieces.at(-1);
-    if (!end.subarray(-MARK_REPLY.length).equals(Buffer.from(MARK_REPLY))) return false;
-    const before = end.length > MARK_REPLY.length ? end.at(-MARK_REPLY.length - 1) : this.pieces.at(-2)?.at(-1);
-    return before === LINE_FEED;
+    const mark = this.isMarkedAgain ? OTHER_REPLY : MARK_REPLY;
+    if (!this.endsWith(mark)) return false;
+    const end = this.pieces.at(-1), isLonger = end.length > mark.length;
+    return (isLonger ? end.at(-mark.length - 1) : this.pieces.at(-2)?.at(-1)) === LINE_FEED;
+  }
+
+  /** Does what came end with a line? */
+  endsWith(line) {
+    if (this.pieces.at(-1).length < line.length) this.pieces = [Buffer.concat(this.pieces)];
+    return this.pieces.at(-1).subarray(-line.length).equals(Buffer.from(line));
+  }
+
+  /** Sends another mark where the first may have been refused; where that one may have been, too, ends the program. */
+  markLater() {
+    if (!this.endsWith(NO_MEMORY)) return;
+    this.marksLate = setTimeout(() => {
+      if (!this.isBusy || this.isHeld) return;
+      if (this.isMarkedAgain) this.signal("SIGKILL");
+      else this.child.stdin.write(`${OTHER_MARK}\n`);
+      this.isMarkedAgain = true;
+    }, MARK_LATE);
+  }
+
+  /** The lines of a whole reply, without those of the marks. */
+  static linesOf(pieces, isMarkedAgain) {
+    return Buffer.concat(pieces).toString("latin1").split("\n").slice(0, isMarkedAgain ? -3 : -2);
   }
 
   gather(piece) {
     this.pieces.push(piece);
     if (!this.isBusy) return undefined;
-    if (!this.isWhole()) return this.handOn(this.waiting);
-    const { pieces } = this;
+    clearTimeout(this.marksLate);
+    if (!this.isWhole()) {
+      this.markLater();
+      return this.handOn(this.waiting);
+    }
+    const { pieces, isMarkedAgain } = this;
     this.pieces = [];
+    this.isMarkedAgain = false;
     return this.settle(({ resolve, reject }) => {
       try {
-        resolve(Buffer.concat(pieces).toString("latin1").slice(0, -MARK_REPLY.length - 1).split("\n"));
+        resolve(NativeSession.linesOf(pieces, isMarkedAgain));
       } catch (error) {
         reject(error); // the reply is longer than any text can be
       }
