@@ -20,6 +20,7 @@ import { plural } from "../front/run/reasons.mjs";
 import { notesAfter } from "../front/run/telling.mjs";
 import * as Unsaved from "./unsaved.mjs";
 
+const MOST_LEFT = 4; // sessions not saved that are told at the start
 const MOST_NOTES = 6; // on a program that are shown
 const HEARD_LATE = 300; // milliseconds after ^C in which a line that is no long run may still answer
 const SLICE_LATE = 2000; // the same for a slice of a run, of which there are many
@@ -67,9 +68,11 @@ class Front {
     await unlessEnded(this.start(this.session), (ended) => this.finish(ended));
     if (this.hasEnded) return;
     this.greet();
-    for (const { place, file, query } of Unsaved.left(this.session.given.load)) {
+    const left = Unsaved.left(this.session.given.load), more = left.length - MOST_LEFT;
+    for (const { place, file, query } of left.slice(-MOST_LEFT)) {
       this.note(`a session of ${file} --query '${query}' was not saved: --load ${place} goes on from it`);
     }
+    if (more > 0) this.note(`.. ${plural(more, "session")} more, in ${Unsaved.BEGINNING}* ..`);
   }
 
   async start(session) {

@@ -11,6 +11,8 @@ const FENCE = "```", OPENS = `${FENCE}ghcdb`;
 const FIRST = /^(program|query|file|picture) +(\S.*)$/, MORE = /^ {9}(.*)$/, TYPED = /^> ?(.*)$/;
 const BESIDE = "picture NAME.svg names a file beside the lesson";
 const NO_ITEM = "a block has lines \"program ..\", \"file ..\", \"query ..\", \"> ..\" and \"picture ..\"; this is none";
+const WRITES = /^[> ]*save +(?!1? *$)/; // `save FILE`
+const NO_FILE = "a lesson writes no file but its pictures: save alone shows the history";
 const PICTURE = /^[\w-]+\.svg$/;
 const GREETING = `${MARK}Flat GHC. help`; // how the line begins that a session begins with
 const PROGRAM = "program.ghc"; // what a program of the lesson's own is called in replies
@@ -153,6 +155,7 @@ class Lesson {
     await this.begin();
     if (this.front === undefined) throw wrongAt(number, "a program and a query stand before what is typed");
     if (this.front.hasEnded) throw wrongAt(number, "the session has ended, so nothing can be typed");
+    if (WRITES.test(text)) throw wrongAt(number, NO_FILE);
     this.out.push(`> ${text}`);
     await this.front.answer(text);
   }

@@ -5,7 +5,7 @@ import path from "node:path";
 import { inHome, tried, writeWhole } from "../front/session/files.mjs";
 
 const BEGINNING = inHome(".ghcdb_unsaved.");
-const MOST = 4; // sessions that are kept so: a further one takes the place of the oldest
+const MOST = 64; // sessions that are kept so: the oldest goes once a further one is on the disk
 const OWN = 0o600; // nobody else may read them
 
 const aboutOf = (place) => `${place}.of`;
@@ -43,10 +43,10 @@ function freePlace() {
 function leave({ file, query }, history) {
   let place;
   try {
-    places().slice(0, 1 - MOST).forEach(forget);
     place = freePlace();
     writeWhole(place, history, OWN);
     writeWhole(aboutOf(place), JSON.stringify({ file: path.resolve(file), query }), OWN);
+    places().slice(0, -MOST).forEach(forget);
     return place;
   } catch {
     if (place !== undefined) forget(place);
@@ -64,4 +64,4 @@ function left(loaded = "") {
 /** Is a file one of the histories that were left? */
 const isLeft = (file) => file !== undefined && places().includes(path.resolve(file));
 
-export { forget, isLeft, leave, left };
+export { BEGINNING, forget, isLeft, leave, left };

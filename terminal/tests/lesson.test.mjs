@@ -64,6 +64,8 @@ const WRONG = [
   [["```ghcdb", PROGRAM, "query    p(1", "> leap", "```"], "line 4: the session has ended, so nothing can be typed"],
   [["```ghcdb", PROGRAM, "query    p(1)", "> quit", "> leap", "```"], "line 5: the session has ended, so nothing can be typed"],
   [["```ghcdb", PROGRAM, "query    p(1", "picture  a.svg", "```"], "line 4: there is no run to be drawn"],
+  [["```ghcdb", PROGRAM, "query    p(1)", "> save text.svg", "```"],
+    "line 4: a lesson writes no file but its pictures: save alone shows the history"],
   [["```ghcdb", PROGRAM, "query    p(1)", "picture  ../a.svg", "```"], "line 4: picture NAME.svg names a file beside the lesson"],
   [["```ghcdb", PROGRAM, "query    p(1)", "picture  text.svg", "```"], "line 4: text.svg is there, and is no picture"],
 ];

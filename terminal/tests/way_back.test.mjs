@@ -72,19 +72,19 @@ test("a history with a line for which there was no memory is not whole", () => {
   assert.strictEqual(isWhole(["ghc-history 1", "steps 0", "end 1"]), true);
 });
 
-test("never more than a few sessions are left", () => {
-  const places = Array.from({ length: 7 }, (_, turn) => {
+test("sessions are left, each until another is on the disk, and not without end", () => {
+  const places = Array.from({ length: 67 }, (_, turn) => {
     const place = Unsaved.leave({ file: "p.ghc", query: `p(${turn})` }, `history ${turn}\n`);
     fs.utimesSync(place, turn, turn); // as if time went by
     return place;
   });
   const left = Unsaved.left();
-  assert.deepStrictEqual(left.map(({ query }) => query), ["p(3)", "p(4)", "p(5)", "p(6)"]);
-  assert.deepStrictEqual([left[3].file, fs.readFileSync(places[6], "utf8")], [path.resolve("p.ghc"), "history 6\n"]);
-  assert.strictEqual(fs.readdirSync(home).length, 8);
-  Unsaved.forget(places[6]);
-  assert.strictEqual(Unsaved.left(places[5]).length, 2);
-  assert.deepStrictEqual([Unsaved.isLeft(places[5]), Unsaved.isLeft(places[6])], [true, false]);
+  assert.deepStrictEqual(left.map(({ query }) => query), Array.from({ length: 64 }, (_, turn) => `p(${turn + 3})`));
+  assert.deepStrictEqual([left[63].file, fs.readFileSync(places[66], "utf8")], [path.resolve("p.ghc"), "history 66\n"]);
+  assert.strictEqual(fs.readdirSync(home).length, 128);
+  Unsaved.forget(places[66]);
+  assert.strictEqual(Unsaved.left(places[65]).length, 62);
+  assert.deepStrictEqual([Unsaved.isLeft(places[65]), Unsaved.isLeft(places[66])], [true, false]);
 });
 
 test("lines that are asked at once are answered in turn", { timeout: 300_000 }, async () => {
