@@ -49,7 +49,7 @@ _ghcdb() {
     --example) mapfile -t COMPREPLY < <(compgen -W "$(ghcdb --example 2> /dev/null < /dev/null)" -- "$current") ;;
     *)
       if [[ $current == -* ]]; then
-        words='--query --load --schedule --workers --run --expect --check --json --lesson --help --version'
+        words='--query --load --schedule --workers --run --expect --steps --check --json --lesson --help --version'
         [[ $1 == */* ]] || words+=' --dap --lsp --picture --example'
         mapfile -t COMPREPLY < <(compgen -W "$words" -- "$current")
       else

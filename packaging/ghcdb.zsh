@@ -21,7 +21,7 @@ _ghcdb() {
     --query) [[ -n $PREFIX$SUFFIX ]] || _ghcdb_query ;;
     *)
       if [[ $PREFIX == -* ]]; then
-        compadd -- --query --load --schedule --workers --run --expect --check --json --lesson --dap --lsp --picture --example \
+        compadd -- --query --load --schedule --workers --run --expect --steps --check --json --lesson --dap --lsp --picture --example \
           --help --version
       else
         _files -g '*.ghc'

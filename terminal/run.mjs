@@ -54,8 +54,8 @@ async function notesOnAll(session, stop, answers, status) {
 }
 
 /** Runs a session to its end, and tells the values of the query's variables. The status. */
-async function runToEnd(session, expected, errors) {
-  const stop = (await session.ask(LEAP.line, async () => {})).at(-1), ofGoals = await statusOfGoals(session);
+async function runToEnd(session, { expected, line }, errors) {
+  const stop = (await session.ask(line, async () => {})).at(-1), ofGoals = await statusOfGoals(session);
   const answers = await session.answers(), lines = [...answers.values()].filter((line) => !Replies.isRefusal(line));
   await write(lines.map((line) => `${line}\n`).join(""), "latin1");
   const others = expected.map((one) => whyOther(one, answers.get(one.name))).filter((why) => why !== undefined);
@@ -66,7 +66,12 @@ async function runToEnd(session, expected, errors) {
 /** Runs what the words of a command line name. The status. */
 function run(words, errors) {
   const asked = readRun(words), expected = asked.expected.map(readExpected), wrong = expected.indexOf(undefined);
-  const plays = (session) => runToEnd(session, expected, errors);
+  const line = asked.steps.length === 0 ? LEAP.line : `leap ${asked.steps.at(-1)}`;
+  const plays = (session) => runToEnd(session, { expected, line }, errors);
+  if (asked.steps.some((most) => !/^[1-9]\d{0,6}$/.test(most ?? ""))) {
+    errors("--steps N: 1 to 9,999,999 are wanted\n");
+    return STATUS.commandLine;
+  }
   if (wrong < 0) return withSession(withQuery(asked.words), { plays, errors });
   errors(`--expect '${asked.expected[wrong] ?? ""}': X = TERM is wanted\n`);
   return STATUS.commandLine;

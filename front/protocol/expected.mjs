@@ -1,6 +1,9 @@
 // Values that somebody expects of a run, as `X = TERM`, beside those that the console tells. Pure.
 import * as Print from "../text/print.mjs";
 import * as Reader from "../text/reader.mjs";
+import * as Short from "./short.mjs";
+
+const LONGEST = 400; // letters of a value that are shown
 
 /**
  * A variable's name and its value, of a text as `X = TERM`, the value as the console prints it; undefined where it is
@@ -18,7 +21,8 @@ function readExpected(text) {
 function whyOther({ name, value }, told) {
   const expected = `${name} = ${value}`;
   if (told === expected) return undefined;
-  return `expected ${expected}, ${told === undefined ? `and the query has no variable ${name}` : `got ${told}`}`;
+  const other = told === undefined ? `and the query has no variable ${name}` : `got ${Short.line(told, LONGEST)}`;
+  return `expected ${Short.line(expected, LONGEST)}, ${other}`;
 }
 
 export { readExpected, whyOther };

@@ -41,13 +41,15 @@ const wordsOfProgram = (words, program) => words.map((word, at) => (at === readW
 const wordsFrom = (words, { history, program }) => [...without(wordsOfProgram(words, program), ["--load"]), "--load", history];
 
 /**
- * What a run asks for that gives its answers alone: whether it is one, the values that are expected, and the words that are left
- * for the program. A value that is lacking is undefined.
+ * What a run asks for that gives its answers alone: whether it is one, the values that are expected, how many steps it
+ * may take, and the words that are left for the program. A value that is lacking is undefined.
  */
 function readRun(words) {
-  const parts = partsOf(words, [...WITH_VALUE, "--expect"]), isRun = ({ name, value }) => name === undefined && value === "--run";
-  const isExpected = ({ name }) => name === "--expect", left = parts.filter((part) => !isRun(part) && !isExpected(part));
-  return { isRun: parts.some(isRun), expected: parts.filter(isExpected).map(({ value }) => value), words: left.flatMap(({ own }) => own) };
+  const own = ["--expect", "--steps"], parts = partsOf(words, [...WITH_VALUE, ...own]);
+  const isRun = ({ name, value }) => name === undefined && value === "--run";
+  const [expected, steps] = own.map((one) => parts.filter(({ name }) => name === one).map(({ value }) => value));
+  const left = parts.filter((part) => !isRun(part) && !own.includes(part.name)).flatMap((part) => part.own);
+  return { isRun: parts.some(isRun), expected, steps, words: left };
 }
 
 /** The words with another query: a history of the query before is none of it. */

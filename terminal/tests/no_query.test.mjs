@@ -43,7 +43,10 @@ test("a script's session is on the query of the comment", () => {
 });
 
 test("without a query a script is refused as before, and so is a pipe", () => {
-  assert.deepStrictEqual(told("check", [fileWith("")], "leap\n"), ["", "PROGRAM --query QUERY and the options of a session are wanted\n", 2]);
+  const bare = fileWith("");
+  const noQuery = `${bare} has no comment \`% Query: GOALS\`: --query GOALS is wanted\n`;
+  assert.deepStrictEqual(told("check", [bare], "leap\n"), ["", noQuery, 2]);
+  assert.deepStrictEqual(told("check", [`${bare}.not`], "leap\n"), ["", `there is no file ${bare}.not\n`, 2]);
   const [out, errors, status] = told("ghcdb", [fileWith("% Query: p(X)\n")], "leap\n");
   assert.deepStrictEqual([out, status], ["", 2]);
   assert.match(errors, /--query <TEXT>/);

@@ -80,13 +80,27 @@ test("a file that cannot be read, and a history that does not load, have objects
   ]);
 });
 
+test("a run is bounded, and a long value is told short beside another", () => {
+  const file = path.join(folder, "endless.ghc"), query = ["--query", "l(X)"];
+  fs.writeFileSync(file, "l(X) :- true | X = [a|Y], l(Y).\n");
+  const [out, , status] = told("run", [file, "--run", ...query, "--steps", "9"]);
+  assert.deepStrictEqual([out, status], ["X = [a,a,a,a|_7_1]\n", 7]);
+  const [expected, got] = ["a", "b"].map((one) => `f(${one.repeat(500)})`);
+  const refused = ["", "--steps N: 1 to 9,999,999 are wanted\n", 2];
+  assert.deepStrictEqual(told("run", [file, "--run", ...query, "--steps", "0"]), refused);
+  const why = whyOther({ name: "X", value: expected }, `X = ${got}`);
+  assert.ok(why.length < 900, why);
+});
+
 test("the words of a run", () => {
+  const words = ["a.ghc"], ofTwo = ["a.ghc", "--query", "--run", "--workers", "2"];
   const cases = [
-    [["a.ghc", "--run"], { isRun: true, expected: [], words: ["a.ghc"] }],
-    [["--run", "a.ghc", "--query", "--run", "--workers", "2"], { isRun: true, expected: [], words: ["a.ghc", "--query", "--run", "--workers", "2"] }],
-    [["a.ghc", "--query", "--run"], { isRun: false, expected: [], words: ["a.ghc", "--query", "--run"] }],
-    [["a.ghc", "--expect", "--run", "--expect=X = a"], { isRun: false, expected: ["--run", "X = a"], words: ["a.ghc"] }],
-    [["a.ghc", "--run", "--expect"], { isRun: true, expected: [undefined], words: ["a.ghc"] }],
+    [["a.ghc", "--run"], { isRun: true, expected: [], steps: [], words }],
+    [["--run", ...ofTwo], { isRun: true, expected: [], steps: [], words: ofTwo }],
+    [["a.ghc", "--query", "--run"], { isRun: false, expected: [], steps: [], words: ["a.ghc", "--query", "--run"] }],
+    [[...words, "--expect", "--run", "--expect=X"], { isRun: false, expected: ["--run", "X"], steps: [], words }],
+    [["a.ghc", "--run", "--steps", "9"], { isRun: true, expected: [], steps: ["9"], words: ["a.ghc"] }],
+    [["a.ghc", "--run", "--expect"], { isRun: true, expected: [undefined], steps: [], words: ["a.ghc"] }],
   ];
   for (const [words, wanted] of cases) assert.deepStrictEqual(readRun(words), wanted, words.join(" "));
 });
