@@ -9,6 +9,7 @@ import { Ended } from "../front/session/program.mjs";
 import { part } from "./part.mjs";
 
 const SLICE = 1000; // steps between which ^C is heard
+const TOLD = 100_000; // steps of a run after which it is told that it goes on
 const MOST = 1_000_000; // steps of a run, where no number is said, or a variable is watched
 const GOAL = /^\d+\.\d+$/, NUMBER = /^\d{1,10}$/;
 
@@ -74,7 +75,9 @@ const Running = part({
     while (stop === "stopped limit" && lines.length < most && !this.isInterrupted) {
       const reply = await this.session.ask(`leap ${Math.min(most - lines.length, sliceOf(this.session))}`);
       stop = reply.pop();
+      const before = lines.length;
       reply.forEach((line) => lines.push(line));
+      if (stop === "stopped limit" && lines.length < most) this.tellGoesOn(before, lines.length);
       const goal = spiedIn(stop), step = goal === undefined ? undefined : await this.passOther(goal);
       if (step === undefined) continue;
       lines.push(step);
@@ -82,6 +85,12 @@ const Running = part({
       stop = "stopped limit";
     }
     return stop;
+  },
+
+  /** Of a long run it is told now and then that it goes on. */
+  tellGoesOn(before, now) {
+    const told = Math.floor(now / TOLD) * TOLD;
+    if (told > before) this.note(`${told.toLocaleString("en-US")} steps so far; ^C ends the run, and they stand`);
   },
 
   /**

@@ -72,3 +72,13 @@ test("a slice that answers after ^C ends as a run of its own", AT_MOST, async ()
   front.interrupt();
   assert.deepStrictEqual((await shown).slice(-2), ["stopped limit", "% leap goes on"]);
 });
+
+test("of a long run it is told that it goes on, and that ^C ends it", AT_MOST, async () => {
+  const { front } = await begin([endless(), "--query", "p(0)"]), notes = [], { session } = front;
+  const steps = (count) => Array.from({ length: count }, () => "REDU 1 0.1 by 1");
+  session.ask = async (line) => [...steps(Number(line.split(" ")[1])), "stopped limit"];
+  front.note = (line) => notes.push(line);
+  await front.runOn(250_000);
+  const goesOn = (count) => `${count} steps so far; ^C ends the run, and they stand`;
+  assert.deepStrictEqual(notes, ["100,000", "200,000"].map(goesOn));
+});
