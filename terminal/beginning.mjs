@@ -5,7 +5,7 @@ import { Blaming } from "../front/run/blaming.mjs";
 import { Patterns } from "../front/run/patterns.mjs";
 import { plural } from "../front/run/reasons.mjs";
 import * as ReloadPlan from "../front/run/reload_plan.mjs";
-import { usageOf } from "../front/protocol/commands.mjs";
+import { meant, usageOf } from "../front/protocol/commands.mjs";
 import { wordsOfQuery } from "../front/protocol/words.mjs";
 import { isNoFile } from "../front/session/files.mjs";
 import { unlessEnded } from "../front/session/program.mjs";
@@ -21,6 +21,7 @@ const Beginning = part({
     const { session } = this, state = `${name} ${session.kept.changes}`;
     if (session.isSaved || this.warned === state) return false;
     this.warned = state;
+    if (name !== "query") this.question = () => this.act(meant(name), name); // y says the word again
     const count = plural(session.kept.steps.size, "step");
     this.note(`${count} kept and not saved: save FILE keeps them; ${ASK_AGAIN[name]}`);
     return true;

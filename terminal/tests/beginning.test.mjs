@@ -90,6 +90,13 @@ test("a mended program is taken, and the steps by clauses that are still there s
   assert.deepStrictEqual(await played(session, rows), rows);
 });
 
+test("y says quit again", async () => {
+  const { session } = await billed();
+  await session.type("quit");
+  assert.deepStrictEqual(await session.type("y"), []);
+  assert.strictEqual(session.front.hasEnded, true);
+});
+
 test("where no step goes nothing is asked, and clauses have their new numbers", async () => {
   const { session } = await billed();
   fileWith(`free(0).\n${text(BILL)}% a comment\n`, "bill.ghc");
