@@ -51,6 +51,7 @@ function packedModule() {
 
 /** What a release carries beside its modules, which know it by the name CARRIED. */
 const carried = (madeWith) => ({
+  help: read("packaging/help.txt").toString(), // what --help tells after the console's own
   module: packedModule(), // the program's module, packed by Brotli, in base64
   madeWith, // what the page says of its program
   examples: examples(),

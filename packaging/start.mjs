@@ -52,8 +52,9 @@ async function runConsole(words) {
   if (readRun(words).isRun) return import("../terminal/run.mjs");
   if (isTyped(words)) return import("../terminal/ghcdb.mjs");
   await import("../web/console.mjs");
-  const { commit, kit } = CARRIED.madeWith;
+  const { help, madeWith: { commit, kit } } = CARRIED;
   if (words.join() === "--version" && process.exitCode === 0) tell(`commit ${commit}\nkit ${kit}\n`);
+  if (["--help", "-h"].includes(words.join()) && process.exitCode === 0) tell(help);
   return undefined;
 }
 

@@ -24,7 +24,7 @@ ROOT = Path(__file__).resolve().parent.parent
 def copy_launcher(folder):
     """A launcher in the folder, with all that is here but a native program."""
     shutil.copy(ROOT / "ghcdb", folder)
-    for name in ("crates.txt", "commands.txt", "front", "tools", "web"):
+    for name in ("crates.txt", "commands.txt", "front", "packaging", "tools", "web"):
         (folder / name).symlink_to(ROOT / name)
     for source in (ROOT / "crates").glob("*/src"):
         shutil.copytree(source, folder / "crates" / source.parent.name / "src")
