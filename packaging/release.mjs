@@ -57,13 +57,28 @@ const carried = (madeWith) => ({
   examples: examples(),
 });
 
+/**
+ * How the one file starts: by sh, which says what is missing where Node is, or is too old; Node reads the second line
+ * as a text and a comment. npm makes its own start of a file that says it is Node's.
+ */
+const WANTED = `ghcdb needs Node ${NODE} or newer (https://nodejs.org, or apt-get install nodejs)`;
+const START = ["#!/bin/sh", [
+  '":" //', "v=$(node --version 2> /dev/null) || v=", "n=${v#v}",
+  `[ "\${n%%.*}" -ge ${NODE} ] 2> /dev/null && exec node "$0" "$@"`,
+  `echo "${WANTED}; \${v:-none} is on the PATH" >&2`, "exit 127",
+].join("; ")];
+const NODES_START = Buffer.from("#!/usr/bin/env node\n");
+
+/** The one file, as a program of Node's: for npm, which makes a start of it for each system. */
+const startedByNode = (ghcdb) => Buffer.concat([NODES_START, ghcdb.subarray(START.join("\n").length + 1)]);
+
 /** The one file that is ghcdb. */
 function program(version, madeWith) {
   const kind = madeWith.proved ? "the proved program" : "a program WITHOUT PROOF";
   const made = `of commit ${madeWith.commit}, by ${madeWith.kit}`;
   const about = `// ghcdb ${version} in one file: ${kind} ${made}, and all that stands before it`;
   const constant = `const CARRIED = ${JSON.stringify(carried(madeWith))};`;
-  const head = Buffer.from(["#!/usr/bin/env node", about, '"use strict";', "", constant, "\n"].join("\n"));
+  const head = Buffer.from([...START, about, '"use strict";', "", constant, "\n"].join("\n"));
   return Buffer.concat([head, run("python3", ["tools/bundle.py", ...MODULES], { cwd: ROOT })]);
 }
 
@@ -78,7 +93,8 @@ const filled = (files) => new Map(files.map(([place, file]) => [place, typeof fi
 
 /** The files of the package of npm. */
 function npmFiles(ghcdb, version) {
-  const own = [["package.json", npmFields(version)], ["ghcdb", ghcdb], ["ghcdb.1", MANUAL], ["README.md", README]];
+  const made = [["package.json", npmFields(version)], ["ghcdb", startedByNode(ghcdb)]];
+  const own = [...made, ["ghcdb.1", MANUAL], ["README.md", README]];
   const all = [...own, ...BESIDE.map(([name, place]) => [place, name])];
   return filled(all.map(([place, file]) => [`package/${place}`, file]));
 }

@@ -91,6 +91,22 @@ def test_alone(release, _files):
     try_sessions(Place(place, "ghcdb"))
 
 
+def test_node_missing(release, _files):
+    """Where Node is missing or old the file says which is wanted, and its help names what is beside the console."""
+    place = release.with_name("old")
+    place.mkdir()
+    (place / "node").write_text("#!/bin/sh\necho v12.22.12\n")
+    (place / "node").chmod(0o755)
+    for path, found in ((place, "v12.22.12"), (release, "none")):
+        words, env = ["/bin/sh", release / "ghcdb"], {"PATH": str(path)}
+        told = subprocess.run(words, env=env, capture_output=True, text=True, timeout=SECONDS)
+        wants(told.returncode == 127 and told.stderr.startswith("ghcdb needs Node 18 or newer"), told.stderr)
+        wants(told.stderr.endswith(f"; {found} is on the PATH\n"), told.stderr)
+    words = [release / "ghcdb", "--help"]
+    said = subprocess.run(words, capture_output=True, text=True, check=True, timeout=SECONDS).stdout
+    is_same([word for word in ("--run", "--check", "--json", "--lesson", "--dap", "--lsp") if word not in said], [])
+
+
 def test_debian(release, files):
     """The package of Debian is one that dpkg-deb reads."""
     [name] = [name for name in files if name.endswith(".deb")]
@@ -245,7 +261,7 @@ def main():
     if missing:
         print(f"release: there is no {missing[0]} here, so nothing was tried")
         return 1
-    tests = (test_sums, test_alone, test_debian, test_npm, test_shells, test_rows)
+    tests = (test_sums, test_alone, test_node_missing, test_debian, test_npm, test_shells, test_rows)
     with tempfile.TemporaryDirectory(prefix="ghcdb-release-") as folder:
         release = Path(folder) / "release"
         files = make(release)
