@@ -1,5 +1,6 @@
 // The terminal in front of ghcdb's console: it hands lines on, and adds what a person needs. Each added line begins with the mark; all
 // others are the console's own, as it told them.
+import path from "node:path";
 import { setTimeout as after } from "node:timers/promises";
 import * as Causes from "../front/text/causes.mjs";
 import { Blaming } from "../front/run/blaming.mjs";
@@ -68,11 +69,18 @@ class Front {
     await unlessEnded(this.start(this.session), (ended) => this.finish(ended));
     if (this.hasEnded) return;
     this.greet();
-    const left = Unsaved.left(this.session.given.load), more = left.length - MOST_LEFT;
-    for (const { place, file, query } of left.slice(-MOST_LEFT)) {
+    this.tellUnsaved(Unsaved.left(this.session.given.load));
+  }
+
+  /** Tells which sessions of this program were not saved last, and how many others there are. */
+  tellUnsaved(left) {
+    const file = path.resolve(this.session.given.file), own = left.filter((one) => one.file === file);
+    for (const { place, query } of own.slice(-MOST_LEFT)) {
       this.note(`a session of ${file} --query '${query}' was not saved: --load ${place} goes on from it`);
     }
-    if (more > 0) this.note(`.. ${plural(more, "session")} more, in ${Unsaved.BEGINNING}* ..`);
+    const more = left.length - Math.min(own.length, MOST_LEFT), programs = new Set(left.map((one) => one.file)).size;
+    const of = `${plural(more, "session")} more, of ${plural(programs, "program")} in all`;
+    if (more > 0) this.note(`not saved: ${of}; rm ${Unsaved.BEGINNING}* forgets them`);
   }
 
   async start(session) {

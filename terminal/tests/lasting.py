@@ -109,8 +109,11 @@ def test_closed_window_leaves_the_session(home):
     wants(stat.S_IMODE(place.stat().st_mode) == 0o600, "others may read it")
     told = f"% a session of {BILL} --query '{QUERY}' was not saved: --load {place} goes on from it"
     other = start(home, str(ROOT / "examples/append.ghc"), "--query", "append([1],[2],R)")
-    wants(is_met(f"={told}", other.start.splitlines()), other.start)
+    wants(is_met("% not saved: 1 session more, of 1 program in all", other.start.splitlines()), other.start)
     other.type("quit")
+    same = start(home, BILL, "--query", QUERY)
+    wants(is_met(f"={told}", same.start.splitlines()), same.start)
+    same.type("quit")
     again = start(home, BILL, "--query", QUERY, "--load", str(place))
     wants("was not saved" not in again.start, again.start)
     wants(again.type("records") == before, "another session")

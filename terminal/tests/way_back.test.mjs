@@ -13,6 +13,7 @@ process.env.HOME = home; // before the module looks for what was left there
 process.env.GHCDB = "page";
 const Program = await import("../../front/session/program.mjs");
 const Unsaved = await import("../unsaved.mjs");
+const { Front } = await import("../front.mjs");
 const { NotEnded, WayBack, isWhole } = await import("../../front/session/way_back.mjs");
 
 const BILL = path.join(HERE, "..", "..", "examples", "bill.ghc");
@@ -85,6 +86,17 @@ test("sessions are left, each until another is on the disk, and not without end"
   Unsaved.forget(places[66]);
   assert.strictEqual(Unsaved.left(places[65]).length, 62);
   assert.deepStrictEqual([Unsaved.isLeft(places[65]), Unsaved.isLeft(places[66])], [true, false]);
+});
+
+test("at the start each session of this program is told, and how many others there are", () => {
+  Unsaved.left().forEach(({ place }) => Unsaved.forget(place));
+  const places = ["other.ghc", BILL].map((file) => Unsaved.leave({ file, query: "p(1)" }, "a history\n")), notes = [];
+  const front = { session: { given: { file: BILL } }, note: (line) => notes.push(line) };
+  Front.prototype.tellUnsaved.call(front, Unsaved.left());
+  assert.deepStrictEqual(notes, [
+    `a session of ${BILL} --query 'p(1)' was not saved: --load ${places[1]} goes on from it`,
+    `not saved: 1 session more, of 2 programs in all; rm ${home}/.ghcdb_unsaved.* forgets them`,
+  ]);
 });
 
 test("lines that are asked at once are answered in turn", { timeout: 300_000 }, async () => {
