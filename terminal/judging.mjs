@@ -3,9 +3,10 @@
 // told whether one could.
 import { meant, usageOf } from "../front/protocol/commands.mjs";
 import * as Replies from "../front/protocol/replies.mjs";
-import { linesOf } from "../front/run/other_choices.mjs";
+import { linesOf, otherChoice } from "../front/run/other_choices.mjs";
+import { clauseWords } from "../front/run/blame_words.mjs";
 import * as Own from "../front/run/own.mjs";
-import { plural } from "../front/run/reasons.mjs";
+import { plural, some } from "../front/run/reasons.mjs";
 import { notesAfter } from "../front/run/telling.mjs";
 import { freeSteps, tryingOf } from "../front/session/trying.mjs";
 import { part } from "./part.mjs";
@@ -52,11 +53,18 @@ const Judging = part({
       const choices = await trying.choices(name, explained), outcomes = [];
       for await (const outcome of trying.outcomes(name, choices)) outcomes.push(outcome);
       if (!this.session.variables.includes(name)) this.note((await this.session.look()).labelOf(name));
-      await this.noteAll(linesOf(outcomes));
+      await this.noteAll([...linesOf(outcomes), ...this.bothClauses(otherChoice(outcomes))]);
       this.tellUntried(choices.length, outcomes.filter(({ choice }) => choice !== undefined).length);
     } finally {
       this.trying = undefined;
     }
+  },
+
+  /** The clause that a step took, and the one that it could have taken, with their texts. */
+  bothClauses(choice) {
+    if (choice === undefined) return [];
+    const { step, goal, clause, other } = choice, words = (number) => clauseWords(this.session, number);
+    return [`step ${step} took ${goal} by ${words(clause)}`, `it could have gone by ${words(other)}`];
   },
 
   /** Tells how many choices there were, where that is not plain, and why some were not tried. */
@@ -70,8 +78,10 @@ const Judging = part({
   /** After a run that has come to its end: how many steps could have gone by another clause. */
   async tellFree(stop) {
     if (!/^stopped (quiet|clash)/.test(stop) || this.isInterrupted) return;
-    const { count, first } = await freeSteps(this.session);
-    if (count > 0) this.note(`${plural(count, "step")} could have gone by another clause: choices ${first} tells`);
+    const { count, names: [first, ...more] } = await freeSteps(this.session);
+    const others = more.length === 0 ? "" : `; others than ${first} rest on them, too: ${some(more).join(", ")}`;
+    const told = `${plural(count, "step")} could have gone by another clause: choices ${first} tells`;
+    if (count > 0) this.note(told + others);
   },
 });
 

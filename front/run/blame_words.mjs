@@ -9,7 +9,7 @@ import { WIDEST, cut, namesIn, termOf } from "./named.mjs";
 import { plural, some, whyFailed, whyWaits, hasConsequences } from "./reasons.mjs";
 import Run from "./run.mjs";
 
-const WIDEST_VALUE = 80, WIDEST_CLAUSE = 120; // letters of a value and of a clause that are shown
+const WIDEST_VALUE = 80, WIDEST_CLAUSE = 120, WHOLE_CLAUSE = 2000; // letters of a value and of a clause that are shown
 
 const WHY_FAILED = { F10: "no clause takes it (F10)", F11: "its two sides are different things (F11)", F12: "a value would hold itself (F12)", F13: "it has no value (F13)" };
 
@@ -47,9 +47,9 @@ function warnings({ asked, inTurns }) {
 }
 
 /** A clause with its place in the program's text. */
-function clauseWords({ clauses }, number) {
+function clauseWords({ clauses }, number, widest = WIDEST_CLAUSE) {
   const { line, text } = clauses[number - 1];
-  return `clause ${number} (line ${line}): ${cut(inOneLine(text), WIDEST_CLAUSE)}`;
+  return `clause ${number} (line ${line}): ${cut(inOneLine(text), widest)}`;
 }
 
 /** By which step and clause a goal was taken, where one took it. */
@@ -92,7 +92,8 @@ async function clauseAtFault(session, told, subject, answers) {
   const { step, goal, clause } = told.fault, isMade = told.made.some(({ how }) => how === "gave");
   const inner = isMade ? ", though all that its goals gave is right" : "";
   return [`${foundBy(answers)}: ${callWords(session, told, goal)}, which is wrong${inner}`, ...warnings(told),
-    `so the fault is in ${clauseWords(session, clause)}`, ...await otherClauses(session, subject, step), ...await hasConsequences(session, [step])];
+    `so the fault is in ${clauseWords(session, clause, WHOLE_CLAUSE)}`,
+    ...await otherClauses(session, subject, step), ...await hasConsequences(session, [step])];
 }
 
 /** No clause answers a goal as it should be. */
@@ -104,10 +105,19 @@ async function callAtFault(session, told, answers) {
   return [`${foundBy(answers)}: ${should}${how}`, ...some(why)];
 }
 
+/** What to type where a variable is asked about that is unbound: a run may not have come to its end. */
+async function adviceOnUnbound(session) {
+  const ready = (await session.goals()).find(({ status }) => status === "ready");
+  if (ready === undefined) return "stuck tells who waits for whom, blame G asks about a goal G that waits";
+  const runsOn = `The run has not come to its end, for ${ready.name} is ready: leap runs on`;
+  return `${runsOn}; does it never end, blame ${ready.name} asks which call should have`;
+}
+
 /** No clause is at fault. */
 async function noClauseAtFault(session, told, subject, answers) {
   const [value] = await session.ask(`show ${subject}`);
-  if (Replies.isUnbound(value)) return [`${subject} is unbound: no step gave it a value. stuck tells who waits for whom, blame G asks about a goal G that waits`];
+  const isUnbound = `${subject} is unbound: no step gave it a value`;
+  if (Replies.isUnbound(value)) return [`${isUnbound}. ${await adviceOnUnbound(session)}`];
   if (!told.made.some(({ how }) => how === "gave")) return [`no call gave anything to ${subject}: what bound it stands in the query`];
   return [`${foundBy(answers)}: all that the query's goals gave is right. So the query asks for something else, or ${subject} is right`];
 }
@@ -131,4 +141,4 @@ function afterPart(session, { words: [goal] }, reply) {
   return [callWords(session, told.gave === null && told.left === null ? { ...told, left: told.standing } : told, goal), ...warnings(told), ...made];
 }
 
-export { afterBlame, afterPart, callWords, otherClauseWords, questionsLeft };
+export { afterBlame, afterPart, callWords, clauseWords, otherClauseWords, questionsLeft };

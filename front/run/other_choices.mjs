@@ -89,11 +89,15 @@ function lineOf({ words, choices, asItIs }) {
   return `${words} ${asItIs}${from === "" ? "" : `, also${from}`}`;
 }
 
+/** The choice that leads to the first outcome that is another; undefined where none does. */
+const otherIn = (groups) => groups.find(({ asItIs }) => asItIs === undefined)?.choices[0];
+const otherChoice = (outcomes) => otherIn(gathered(outcomes));
+
 /** The lines of all outcomes, and how to go to the first one that is another. */
 function linesOf(outcomes) {
-  const groups = gathered(outcomes), other = groups.find(({ asItIs }) => asItIs === undefined)?.choices[0];
+  const groups = gathered(outcomes), other = otherIn(groups);
   const way = other === undefined ? [] : [`to go there: roll ${other.step}, step ${other.goal} ${other.other}, leap`];
   return [...groups.map(lineOf), ...way];
 }
 
-export { MOST_STEPS, choicesIn, concernedIn, eachOnce, gathered, isOpen, linesOf, outcomeTold };
+export { MOST_STEPS, choicesIn, concernedIn, eachOnce, gathered, isOpen, linesOf, otherChoice, outcomeTold };

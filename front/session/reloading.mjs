@@ -9,6 +9,7 @@ import { unlessEnded } from "./program.mjs";
 import { Session } from "./session.mjs";
 
 const MOST_TRIED = 20; // histories that are tried, with fewer and fewer steps of the shelf
+const MOST_TOLD = 12; // steps that go, of which it is told which; of the others how many
 const NO_MEMORY = "memory was refused for the history; the session stands";
 
 /**
@@ -56,10 +57,18 @@ async function reloadOf(session, { clauses, predicates, bytes }) {
 const clauseLine = (word) => ({ number, line, text }) => `${word}: clause ${number} (line ${line}) ${inOneLine(text)}`;
 const stepLine = (word) => (step) => `${word}: step ${step.number}, ${Replies.wordsOf(step)}`;
 
+/** The first of some lines, and how many more there are. */
+function cut(lines, go) {
+  const left = lines.length - MOST_TOLD;
+  const more = `.. and ${left} steps more ${go}, which depend on what is gone`;
+  return left < 2 ? lines : [...lines.slice(0, MOST_TOLD), more];
+}
+
 /** What has changed, and which steps go, in words. */
 function changesOf({ plan: { gone, come, going }, unshelved }) {
   const clauses = [...gone.map(clauseLine("gone")), ...come.map(clauseLine("new"))];
-  return [...clauses, ...going.map(stepLine("goes")), ...unshelved.map(stepLine("goes from the shelf"))];
+  const goes = cut(going.map(stepLine("goes")), "go");
+  return [...clauses, ...goes, ...cut(unshelved.map(stepLine("goes from the shelf")), "go from the shelf")];
 }
 
 /** How many of the steps stay, in words. */

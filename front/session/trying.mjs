@@ -23,19 +23,19 @@ async function choicesOf(session, name, explained, mostGoals = MOST_GOALS) {
 }
 
 /**
- * Of a run that has come to its end: how many steps could have gone by another clause, and the first variable of the
- * query that rests on one. In a long run none is looked for.
+ * Of a run that has come to its end: how many steps could have gone by another clause, and which variables of the
+ * query rest on one, the first of them first. In a long run none is looked for.
  */
 async function freeSteps(session) {
   const { variables, kept: { steps } } = session, free = new Set();
   const often = MOST_LOOKED / (steps.size * variables.length); // so many explanations of a variable may be asked for
-  let first;
+  const names = [];
   for (const name of often < 1 ? [] : variables) {
     const { found } = await choicesOf(session, name, await session.ask(`explain ${name}`), often);
-    if (found.length > 0) first ??= name;
+    if (found.length > 0) names.push(name);
     found.forEach(({ step }) => free.add(step));
   }
-  return { count: free.size, first };
+  return { count: free.size, first: names[0], names };
 }
 
 class Trying {

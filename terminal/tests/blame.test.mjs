@@ -119,7 +119,9 @@ test("what failed, what waits, asks and turns are told in words", async () => {
   assert.deepStrictEqual((await type("n")).slice(4), ["% question 2 of about 2: part([2],2,S1,_4_1) has failed: no clause takes it (F10). Is that right?"]);
   assert.deepStrictEqual((await type("n")).slice(4), ["% found by 2 answers: 4.2, part([2],2,S1,_4_1), should not have to wait, and it waits for _4_1"]);
   assert.deepStrictEqual((await type("blame R")).slice(2), ["% found without an answer: all that the query's goals gave is right. So the query asks for something else, or R is right"]);
-  assert.deepStrictEqual((await type("blame _0_1")).slice(2), ["% _0_1 is unbound: no step gave it a value. stuck tells who waits for whom, blame G asks about a goal G that waits"]);
+  assert.deepStrictEqual((await type("blame _0_1")).slice(2), ["% _0_1 is unbound: no step gave it a value. "
+    + "The run has not come to its end, for 2.1 is ready: leap runs on; "
+    + "does it never end, blame 2.1 asks which call should have"]);
   await type("step 2.1");
   assert.deepStrictEqual((await type("blame _1_1")).slice(3), ["% no call gave anything to _1_1: what bound it stands in the query"]);
 });

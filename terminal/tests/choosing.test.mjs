@@ -20,8 +20,12 @@ test.afterEach(endAll);
 test.after(() => fs.rmSync(folder, { recursive: true }));
 
 const BILL = [path.join(EXAMPLES, "bill.ghc"), "--query", "bill(12,3,T)"];
-const TO_126 = "% to go there: roll 2, step 1.1 3, leap";
-const OF_BILL = ["% T = 150 as it is", "% T = 126 <- step 2 by 3 instead of 2", TO_126];
+const TO_126 = [
+  "% to go there: roll 2, step 1.1 3, leap",
+  "% step 2 took 1.1 by clause 2 (line 7): price(N,P) :- N > 0 | P := N * 10.",
+  "% it could have gone by clause 3 (line 8): price(N,P) :- N >= 10 | P := N * 8.",
+];
+const OF_BILL = ["% T = 150 as it is", "% T = 126 <- step 2 by 3 instead of 2", ...TO_126];
 const free = (steps, name) => `% ${steps} could have gone by another clause: choices ${name} tells`;
 
 /** A session on a text. */
@@ -46,7 +50,7 @@ test("the price that both clauses allow has two outcomes, and the session stands
   const before = await standing(session);
   assert.deepStrictEqual(await type("choices T"), ["% T = 150 as it is, run on", ...OF_BILL.slice(1)]);
   assert.deepStrictEqual(await standing(session), before);
-  const ofP = ["% _1_1 = 120 as it is, run on", "% _1_1 = 96 <- step 2 by 3 instead of 2", TO_126];
+  const ofP = ["% _1_1 = 120 as it is, run on", "% _1_1 = 96 <- step 2 by 3 instead of 2", ...TO_126];
   assert.deepStrictEqual(await type("choices P"), ["% _1_1 (P of step 1)", ...ofP]);
 });
 
@@ -63,9 +67,12 @@ test("a race: outcomes that are alike stand in one line, as docs/RACE.md shows t
   const told = [
     `% End = 120 as it is, also <- 3 choices: ${same}`, "% End = 130 <- step 8 by 8 instead of 9",
     "% End = 110 <- step 20 by 9 instead of 8", "% to go there: roll 8, step 6.2 8, leap",
+    "% step 8 took 6.2 by clause 9 (line 15): merge(X,[A|Y],Z) :- true | Z = [A|Z1], merge(X,Y,Z1).",
+    "% it could have gone by clause 8 (line 14): merge([A|X],Y,Z) :- true | Z = [A|Z1], merge(X,Y,Z1).",
   ];
   assert.deepStrictEqual(await session.type("choices End"), told);
-  assert.ok(fs.readFileSync(RACE, "utf8").includes(told.map((line) => `    ${line}\n`).join("")));
+  const shown = told.slice(0, -2).map((line) => `    ${line}\n`).join(""); // without the texts of both clauses
+  assert.ok(fs.readFileSync(RACE, "utf8").includes(shown));
 });
 
 test("what fails, waits or does not end says so", AT_MOST, async () => {
@@ -77,7 +84,8 @@ test("what fails, waits or does not end says so", AT_MOST, async () => {
     "% R = 9 as it is", "% R = _0_1, failed 3.1 F10 <- step 1 by 2 instead of 1",
     "% R = 9, still running after 20,000 steps <- step 1 by 3 instead of 1",
     "% R = [_3_1|_3_2], stuck <- step 1 by 4 instead of 1",
-    "% to go there: roll 1, step 0.1 2, leap",
+    "% to go there: roll 1, step 0.1 2, leap", "% step 1 took 0.1 by clause 1 (line 1): p(N,R) :- true | R = N.",
+    "% it could have gone by clause 2 (line 2): p(N,R) :- true | q(N), R = N.",
   ]);
 });
 
@@ -141,6 +149,10 @@ test("of a variable that a step let go of, the other choices of that step are tr
   const { program } = front.session, ask = program.ask.bind(program);
   const told = ["R = _0_1", "_0_1 lost by 1 0.1 by 1 p(9,_0_1)", "stays unbound"];
   program.ask = (line, hear) => (line === "whynot R" ? Promise.resolve(told) : ask(line, hear)); // whatever engine runs it
-  const outcomes = ["% R = _0_1 as it is", "% R = 9 <- step 1 by 2 instead of 1", "% to go there: roll 1, step 0.1 2, leap"];
+  const outcomes = [
+    "% R = _0_1 as it is", "% R = 9 <- step 1 by 2 instead of 1", "% to go there: roll 1, step 0.1 2, leap",
+    "% step 1 took 0.1 by clause 1 (line 1): p(N,R) :- N > 0 | true.",
+    "% it could have gone by clause 2 (line 2): p(N,R) :- N > 5 | R = N.",
+  ];
   assert.deepStrictEqual(await type("choices R"), outcomes);
 });
