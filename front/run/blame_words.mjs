@@ -62,7 +62,7 @@ function takenWords(session, goal) {
 const questionsLeft = (of) => Math.ceil(Math.log2(of + 1));
 
 /** What can be answered. */
-const hint = (predicate) => `y: right, n: wrong, u: one answer back, trust ${predicate}: always right`;
+const hint = (predicate) => `y: right as given, n: wrong, u: back, trust ${predicate}: always right`;
 
 /** A question in words. `answers` counts those that stand on the line. */
 function questionWords(session, told, answers) {

@@ -52,7 +52,7 @@ async function sorted() {
 }
 
 const TAKEN = "% step 7 took 1.2 by clause 2 (line 2): qs([P|L],R,T) :- true | part(L,P,S,B), qs(S,R,M), qs(B,M,T).";
-const HINT = "% y: right, n: wrong, u: one answer back, trust qs/3: always right";
+const HINT = "% y: right as given, n: wrong, u: back, trust qs/3: always right";
 
 test("a question is told with the names of the program, and answered by a letter", async () => {
   const { type } = await sorted();
