@@ -1,7 +1,7 @@
 // The place "Why?" where it tells what the other choices of a value lead to: a table of outcomes, which a session beside
 // this one finds out in a worker of its own; and after a run, how many of its steps could have gone otherwise.
 import * as Replies from "../front/protocol/replies.mjs";
-import { MOST_STEPS, gathered } from "../front/run/other_choices.mjs";
+import { MOST_STEPS, gathered, linesTo } from "../front/run/other_choices.mjs";
 import { plural, some } from "../front/run/reasons.mjs";
 import { freeSteps, tryingOf } from "../front/session/trying.mjs";
 import Deeds from "./deeds.mjs";
@@ -89,10 +89,12 @@ function howFar({ count, outcomes, isAtWork }) {
   return `${tried} of ${plural(count, "other choice")} tried${isAtWork ? " …" : "."}`;
 }
 
+const nameOf = ({ step, goal, other }) => `${step} ${goal} ${other}`;
+
 /** A choice as a link: it keeps the run of the table beside, and goes there. One that was gone to is marked. */
-function choiceLink({ step, goal, other }) {
-  const outcome = `${step} ${goal} ${other}`, words = `step ${step} by clause ${other}`;
-  const title = `keeps the run beside; roll ${step}, step ${goal} ${other}, leap ${MOST_STEPS}`;
+function choiceLink(choice) {
+  const outcome = nameOf(choice), words = `step ${choice.step} by clause ${choice.other}`;
+  const title = `keeps the run beside; ${[...linesTo(choice), `leap ${MOST_STEPS}`].join(", ")}`;
   if (outcome === table.chosen) return make("b", { "aria-current": "true" }, words);
   return link({ "data-outcome": outcome, title }, words);
 }
@@ -151,11 +153,12 @@ async function comeBack({ chosen, way: { given, lines, steps } }) {
 
 /** Keeps the run of the table beside, and goes where another choice leads; the table stays. */
 async function goThere(step, goal, other) {
-  const own = table;
+  const own = table, chosen = nameOf({ step, goal, other }), choices = own.outcomes.map((outcome) => outcome.choice);
+  const choice = choices.find((one) => one !== undefined && nameOf(one) === chosen) ?? { step, goal, other };
   own.isGoing = true;
   if (await comeBack(own) && Deeds.keepRun()) {
-    own.chosen = `${step} ${goal} ${other}`;
-    await Talk.send(`roll ${step}`, `step ${goal} ${other}`, `leap ${MOST_STEPS}`);
+    own.chosen = chosen;
+    await Talk.send(...linesTo(choice), `leap ${MOST_STEPS}`);
   }
   own.isGoing = false;
 }

@@ -78,6 +78,9 @@ function gathered(outcomes) {
   return [...groups.values()];
 }
 
+/** The lines by which another clause is taken: what is held back goes on first. */
+const linesTo = ({ step, goal, other, held = [] }) => [`roll ${step}`, ...held, `step ${goal} ${other}`];
+
 const choiceTold = ({ step, other, clause }) => `step ${step} by ${other} instead of ${clause}`;
 
 /** The line of an outcome: `T = 130 <- step 8 by 3 instead of 2`. */
@@ -96,8 +99,10 @@ const otherChoice = (outcomes) => otherIn(gathered(outcomes));
 /** The lines of all outcomes, and how to go to the first one that is another. */
 function linesOf(outcomes) {
   const groups = gathered(outcomes), other = otherIn(groups);
-  const way = other === undefined ? [] : [`to go there: roll ${other.step}, step ${other.goal} ${other.other}, leap`];
+  const way = other === undefined ? [] : [`to go there: ${[...linesTo(other), "leap"].join(", ")}`];
   return [...groups.map(lineOf), ...way];
 }
 
-export { MOST_STEPS, choicesIn, concernedIn, eachOnce, gathered, isOpen, linesOf, otherChoice, outcomeTold };
+export {
+  MOST_STEPS, choicesIn, concernedIn, eachOnce, gathered, isOpen, linesOf, linesTo, otherChoice, outcomeTold,
+};

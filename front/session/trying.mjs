@@ -1,7 +1,7 @@
 // What the other choices of a session lead to: for each, another program of the same engine plays the kept steps, rolls
 // one, takes another clause and runs on. The session itself is only asked.
 import * as Replies from "../protocol/replies.mjs";
-import { MOST_STEPS, choicesIn, concernedIn, eachOnce, isOpen, outcomeTold } from "../run/other_choices.mjs";
+import { MOST_STEPS, choicesIn, concernedIn, eachOnce, isOpen, linesTo, outcomeTold } from "../run/other_choices.mjs";
 import { isWhole, textOf } from "./way_back.mjs";
 
 const MOST = 40; // choices that are tried
@@ -65,7 +65,7 @@ class Trying {
 
   /** What X is after a choice, or without one, when the run has gone on; undefined where that is not found out. */
   outcome(name, choice) {
-    const taking = choice === undefined ? [] : [`roll ${choice.step}`, `step ${choice.goal} ${choice.other}`];
+    const taking = choice === undefined ? [] : linesTo(choice);
     return this.inAnother(async (program) => {
       const told = await program.ask([...this.prepared, ...taking, `leap ${MOST_STEPS}`].join("\n"));
       const refusal = told.find(Replies.isRefusal), [shown] = await program.ask(`show ${name}`), stop = told.at(-1);
@@ -95,9 +95,38 @@ class Trying {
     return found ?? [];
   }
 
+  /**
+   * The clauses that say yes to the goal of a step once all others have gone on without it: what was rolled back with
+   * the step need not have needed it.
+   */
+  async choicesHeld({ number: step, goal, clause, others }) {
+    const found = await this.inAnother(async (program) => {
+      const held = [];
+      await program.ask([...this.prepared, `roll ${step}`].join("\n"));
+      for (let isGoing = true; isGoing && held.length < MOST;) {
+        isGoing = false;
+        for (const { name, status } of Replies.readGoals(await program.ask("goals"))) {
+          if (name === goal || status !== "ready") continue;
+          if ((await program.ask(`skip ${name}`)).length < 2) continue;
+          held.push(`skip ${name}`);
+          isGoing = true;
+        }
+      }
+      const said = held.length === 0 ? [] : (await program.ask(`clauses ${goal}`)).map(Replies.readChoice);
+      const isKnown = (number) => number === clause || others.includes(number);
+      const more = said.filter((choice) => choice?.says === "yes" && !isKnown(choice.number));
+      return more.map(({ number }) => ({ step, goal, clause, other: number, held }));
+    });
+    return found ?? [];
+  }
+
   /** All choices on which X rests, by what `explain X` told. */
   async choices(name, explained) {
-    const { found, losses } = await choicesOf(this.session, name, explained);
+    const { found, losses } = await choicesOf(this.session, name, explained), sizes = new Map();
+    for (const { predicate } of this.session.clauses) sizes.set(predicate, (sizes.get(predicate) ?? 0) + 1);
+    const isFree = (clause) => sizes.get(this.session.clauses[clause - 1]?.predicate) > 1;
+    const steps = explained.map(Replies.readExplained).filter((step) => step?.clause && isFree(step.clause));
+    for (const step of steps.slice(0, MOST)) if (!this.isStopped) found.push(...await this.choicesHeld(step));
     for (const loss of losses.slice(0, MOST_LOSSES)) if (!this.isStopped) found.push(...await this.choicesOfLoss(loss));
     return eachOnce(found);
   }

@@ -156,3 +156,17 @@ test("of a variable that a step let go of, the other choices of that step are tr
   ];
   assert.deepStrictEqual(await type("choices R"), outcomes);
 });
+
+// By hand: X gets its value by the other goals too, but they read what step 1's body bound, and go with it.
+test("a choice that stands open only once the others have gone on", AT_MOST, async () => {
+  const clauses = ["g(X,O) :- true | X = 5, O = early.", "g(X,O) :- wait(X) | O = late."];
+  const { type } = await onText("late.ghc", `${clauses.join("\n")}\n`, "Y = 5, X = Y, g(X,O)");
+  await type("leap");
+  const way = "% to go there: roll 1, skip 0.1, skip 0.2, step 0.3 2, leap";
+  assert.deepStrictEqual(await type("choices O"), [
+    "% O = early as it is", "% O = late <- step 1 by 2 instead of 1", way,
+    `% step 1 took 0.3 by clause 1 (line 1): ${clauses[0]}`, `% it could have gone by clause 2 (line 2): ${clauses[1]}`,
+  ]);
+  for (const line of way.slice("% to go there: ".length).split(", ")) await type(line);
+  assert.deepStrictEqual(await type("show O"), ["O = late"]);
+});
