@@ -47,4 +47,34 @@ function aboutOf(clauses, place) {
   return undefined;
 }
 
-export { aboutOf, clausesIn, groupsOf, rangeOf };
+/** The tokens of a clause at which a predicate is called or is the head, and no guard test or argument is. */
+function callsIn({ tokens }, predicate) {
+  const found = [];
+  for (let at = 0, depth = 0; at < tokens.length; at += 1) {
+    const token = tokens[at];
+    if (depth === 0 && token.kind === "name" && Tokens.predicateAt(tokens, at) === predicate) found.push(token);
+    depth += Tokens.depthOf([token]);
+  }
+  return found;
+}
+
+/** All tokens that mean what a place is about: calls and heads of its predicate, or its variable in its clause. */
+function sameAs(clauses, place) {
+  const about = aboutOf(clauses, place);
+  if (about === undefined) return [];
+  if (about.first === undefined) return clauses.flatMap((clause) => callsIn(clause, about.predicate));
+  const own = clauses.find(({ tokens }) => tokens.includes(about.token));
+  return own.tokens.filter(({ text }) => text === about.token.text);
+}
+
+/** The clause in which a place stands, or behind whose beginning it is the last. */
+function clauseAt(clauses, { line, character }) {
+  const isBefore = ({ start }) => start.line < line || (start.line === line && start.character <= character);
+  return clauses.findLast(({ range }) => isBefore(range));
+}
+
+/** The names of the variables of a clause, but `_`, each once. */
+const variablesOf = ({ tokens }) =>
+  [...new Set(tokens.filter(({ kind, text }) => kind === "variable" && text !== "_").map(({ text }) => text))];
+
+export { aboutOf, clauseAt, clausesIn, groupsOf, rangeOf, sameAs, variablesOf };

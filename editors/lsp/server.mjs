@@ -1,10 +1,14 @@
 // The language server: it answers an editor's messages, in the Language Server Protocol, about the programs that are open there.
 import { diagnosticsOf } from "./diagnosing.mjs";
-import { aboutOf, clausesIn, groupsOf, rangeOf } from "./outline.mjs";
+import { aboutOf, clauseAt, clausesIn, groupsOf, rangeOf, sameAs, variablesOf } from "./outline.mjs";
 import { plural } from "../../front/text/plural.mjs";
 
 const NOT_BEGUN = -32002, INVALID = -32600, UNKNOWN = -32601, WRONG_WORDS = -32602, BROKEN = -32603; // of the protocol's errors
 const WHOLE_TEXTS = 1, FUNCTION = 12, CLAUSE = 6; // how texts are sent; kinds of symbols
+const CALL = 3, VARIABLE = 6, TEST = 14; // kinds of what is completed
+const TESTS = ["true", "wait(", "integer(", "atom(", "list("];
+const NAME = { name: /^[a-z]\w*$/u, variable: /^[A-Z_]\w*$/u };
+const RESERVED = /^(_\d+_\d+|_|mod|true|wait|integer|atom|list|instream)$/;
 const PAUSE = 150; // milliseconds without a key, before a text is read
 const LONGEST = 1_048_576; // letters: a longer text is no program, and is not taken apart
 const MOST_SHOWN = 20; // clauses, when one points at a predicate
@@ -68,7 +72,11 @@ class Server {
   asked_initialize({ capabilities = {} } = {}) {
     this.isBegun = true;
     this.format = capabilities.textDocument?.hover?.contentFormat?.includes("markdown") ? "markdown" : "plaintext";
-    const can = { textDocumentSync: { openClose: true, change: WHOLE_TEXTS }, documentSymbolProvider: true, definitionProvider: true, hoverProvider: true };
+    const can = {
+      textDocumentSync: { openClose: true, change: WHOLE_TEXTS }, documentSymbolProvider: true, hoverProvider: true,
+      definitionProvider: true, referencesProvider: true, documentHighlightProvider: true,
+      renameProvider: { prepareProvider: true }, completionProvider: {},
+    };
     return { capabilities: can, serverInfo: { name: "ghcdb" } };
   }
 
@@ -140,6 +148,51 @@ class Server {
     const { about, clauses = [] } = this.clausesAt(given) ?? {}, { uri } = given.textDocument;
     if (about?.first !== undefined) return { uri, range: rangeOf(about.first) };
     return clauses.length === 0 ? null : { uri, range: clauses[0].nameRange };
+  }
+
+  /** Where the predicate stands as a head or a goal, or the variable in its clause. */
+  "asked_textDocument/references"(given) {
+    const { textDocument: { uri }, context } = given, { clauses } = this.programOf(given);
+    const all = sameAs(clauses, given.position), heads = new Set(clauses.map(({ tokens }) => tokens[0]));
+    const wanted = context?.includeDeclaration === false ? all.filter((token) => !heads.has(token)) : all;
+    return wanted.map((token) => ({ uri, range: rangeOf(token) }));
+  }
+
+  "asked_textDocument/documentHighlight"(given) {
+    return sameAs(this.programOf(given).clauses, given.position).map((token) => ({ range: rangeOf(token) }));
+  }
+
+  "asked_textDocument/prepareRename"(given) {
+    const { clauses } = this.programOf(given), about = aboutOf(clauses, given.position);
+    if (sameAs(clauses, given.position).length === 0) return null;
+    return { range: rangeOf(about.token), placeholder: about.token.text };
+  }
+
+  /** Another name for a predicate in the whole text, or a variable in its clause; one that is taken is refused. */
+  "asked_textDocument/rename"(given) {
+    const { newName, textDocument: { uri } } = given, { clauses } = this.programOf(given);
+    const about = aboutOf(clauses, given.position), all = sameAs(clauses, given.position);
+    if (all.length === 0) throw told(WRONG_WORDS, "no predicate or variable stands there");
+    const { kind, text } = about.token, clause = clauses.find(({ tokens }) => tokens.includes(about.token));
+    const isOne = NAME[kind].test(newName) && !RESERVED.test(newName), isVariable = about.predicate === undefined;
+    if (!isOne) throw told(WRONG_WORDS, `${newName} is no name of a ${isVariable ? "variable" : "predicate"}`);
+    const others = isVariable ? variablesOf(clause) : clauses.map(({ predicate }) => predicate);
+    const renamed = isVariable ? newName : `${newName}${about.predicate.slice(text.length)}`;
+    const isTaken = newName !== text && others.includes(renamed);
+    if (isTaken) throw told(WRONG_WORDS, `${renamed} stands for something else already`);
+    return { changes: { [uri]: all.map((token) => ({ range: rangeOf(token), newText: newName })) } };
+  }
+
+  /** The predicates of the text, the variables of the clause, and the tests of guards. */
+  "asked_textDocument/completion"(given) {
+    const { clauses } = this.programOf(given), clause = clauseAt(clauses, given.position);
+    const heads = new Map();
+    for (const { predicate, tokens: [{ text: label }], head: detail } of clauses) {
+      if (!heads.has(predicate)) heads.set(predicate, { label, kind: CALL, detail });
+    }
+    const variables = clause === undefined ? [] : variablesOf(clause).map((label) => ({ label, kind: VARIABLE }));
+    const tests = TESTS.map((label) => ({ label, kind: TEST, detail: "a test of a guard" }));
+    return [...variables, ...heads.values(), ...tests];
   }
 
   /** The clauses of a predicate, with their numbers. */

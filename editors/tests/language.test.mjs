@@ -41,8 +41,12 @@ test("it tells what it can, answers nothing before that, and ends with status 0 
   const client = new LanguageClient();
   assert.strictEqual(await client.errorOf("textDocument/hover", {}), NOT_BEGUN);
   const { capabilities } = await client.begin();
-  assert.deepStrictEqual(capabilities, { textDocumentSync: { openClose: true, change: 1 }, documentSymbolProvider: true, definitionProvider: true, hoverProvider: true });
-  assert.strictEqual(await client.errorOf("textDocument/rename", {}), UNKNOWN);
+  assert.deepStrictEqual(capabilities, {
+    textDocumentSync: { openClose: true, change: 1 }, documentSymbolProvider: true, hoverProvider: true,
+    definitionProvider: true, referencesProvider: true, documentHighlightProvider: true,
+    renameProvider: { prepareProvider: true }, completionProvider: {},
+  });
+  assert.strictEqual(await client.errorOf("textDocument/formatting", {}), UNKNOWN);
   assert.strictEqual(await client.errorOf("toString", {}), UNKNOWN);
   assert.strictEqual(await client.errorOf("textDocument/hover", { textDocument: { uri: URI }, position: { line: 0, character: 0 } }), WRONG_WORDS);
   client.tell("$/anything", {});
@@ -54,6 +58,25 @@ test("it tells what it can, answers nothing before that, and ends with status 0 
   await other.begin();
   other.tell("exit");
   assert.strictEqual(await other.ended, 1);
+});
+
+test("a predicate and a variable are found everywhere, renamed, and completed", LIMIT, async () => {
+  const client = await opened(APPEND), textDocument = { uri: URI };
+  const at = (line, character, more) => ({ textDocument, position: { line, character }, ...more });
+  const places = [range(0, 0, 6), range(1, 0, 6), range(2, 14, 20)];
+  const found = async (what, where) => (await client.ask(`textDocument/${what}`, where)).map((one) => one.range);
+  const calls = { context: { includeDeclaration: false } };
+  assert.deepStrictEqual(await found("references", at(2, 15)), places);
+  assert.deepStrictEqual(await found("references", at(2, 15, calls)), [places[2]]);
+  assert.deepStrictEqual(await found("documentHighlight", at(1, 8)), [range(1, 8, 9), range(2, 7, 8)]);
+  assert.strictEqual((await client.ask("textDocument/prepareRename", at(0, 2))).placeholder, "append");
+  const { changes } = await client.ask("textDocument/rename", at(0, 2, { newName: "app" }));
+  assert.deepStrictEqual(changes, { [URI]: places.map((one) => ({ range: one, newText: "app" })) });
+  for (const newName of ["X", "app", "_", "_1_1", "a b", ""]) {
+    assert.strictEqual(await client.errorOf("textDocument/rename", at(1, 8, { newName })), WRONG_WORDS);
+  }
+  const labels = (await client.ask("textDocument/completion", at(2, 2))).map(({ label }) => label);
+  assert.deepStrictEqual(labels, ["A", "X", "Y", "Z", "Z1", "append", "true", "wait(", "integer(", "atom(", "list("]);
 });
 
 test("a refusal comes with its cause while one types, and goes when the text is right", LIMIT, async () => {
