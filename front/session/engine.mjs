@@ -64,6 +64,11 @@ class Run {
     if (this.waits) this.goOn();
   }
 
+  giveText(text) {
+    this.host.feedText(text);
+    if (this.waits) this.goOn();
+  }
+
   // Ends the input.
   end() {
     this.host.inputEnded = true;
@@ -73,6 +78,10 @@ class Run {
   // What was written to standard output since it was taken last, and to standard error.
   takeOutput() {
     return this.host.takeWritten(Host.OUTPUT);
+  }
+
+  get hasErrors() {
+    return this.broken !== undefined || this.host.hasWritten(Host.ERRORS);
   }
 
   // With why it stopped, where it did not end by itself.
@@ -103,9 +112,10 @@ class Session {
   bytes(text) {
     if (text.includes("\n")) throw new Error("a line holds no line feed");
     if (this.hasEnded) return new Uint8Array(0);
-    this.run.give(encode(`${text}\n`));
-    const told = this.run.takeOutput(), errors = this.errors();
-    return errors === "" ? told : encode(decode(told) + errors);
+    this.run.giveText(`${text}\n`);
+    const told = this.run.takeOutput();
+    if (!this.run.hasErrors) return told;
+    return joined([told, this.run.takeErrors()]);
   }
 
   // The lines of the reply to a line.
