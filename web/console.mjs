@@ -1,7 +1,12 @@
 // What web/console does; how it is called stands there.
+import v8 from "node:v8";
 import fs from "node:fs";
 import Host from "../front/session/host.mjs";
 import { moduleOfPage } from "../front/session/engine_of_page.mjs";
+
+// A session of a process is short: to make better code of the module, in threads beside, costs more than that code
+// saves up to 200,000 steps and more.
+v8.setFlagsFromString("--liftoff-only");
 
 const BROKEN = 70;
 const BAD_DESCRIPTOR = 9, CANNOT_SEEK = 29, INPUT_OUTPUT = 5; // errors by their numbers on Linux

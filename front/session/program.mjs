@@ -4,6 +4,7 @@
 import fs from "node:fs";
 import os from "node:os";
 import path from "node:path";
+import v8 from "node:v8";
 import { Worker } from "node:worker_threads";
 import { fileURLToPath } from "node:url";
 import { spawn } from "node:child_process";
@@ -278,7 +279,10 @@ class NativeSession extends Talk {
 let compiled;
 
 /** The module that the page carries, which is compiled once. */
-const ofPage = () => (compiled ??= new WebAssembly.Module(moduleOfPage()));
+const ofPage = () => {
+  v8.setFlagsFromString("--liftoff-only"); // better code costs more than it saves up to a million steps
+  return (compiled ??= new WebAssembly.Module(moduleOfPage()));
+};
 
 class EngineSession extends Talk {
   constructor(words, files) {
