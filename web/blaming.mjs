@@ -1,6 +1,7 @@
 // The place "Why?": what a call was given and gave, side by side, with two buttons that answer `blame`'s question; and its verdict, the wrong clause.
 import * as BlameLines from "../front/protocol/blame_lines.mjs";
 import { questionsLeft } from "../front/run/blame_words.mjs";
+import { OpenQuestion } from "../front/run/open_question.mjs";
 import * as Terms from "../front/run/terms.mjs";
 import * as Printed from "../front/text/printed.mjs";
 import Deeds from "./deeds.mjs";
@@ -17,6 +18,7 @@ import { plural } from "../front/text/plural.mjs";
 const MOST_LETTERS = 2000, MOST_IN_LINE = 400; // of an argument that is shown on a side; of what stands within a line
 const MOST_ASKS = 12; // that are named
 const SLICE = 8; // milliseconds that the part of a call is looked for without a pause
+let question = new OpenQuestion();
 let asked = null; // the last question or verdict: its line, what its reply tells, and whether the verdict's step was rolled back
 let leaving = null, left = null; // the session that is left to try a call alone; the one that was
 let sought = 0; // how often a part was looked for
@@ -24,8 +26,10 @@ let sought = 0; // how often a part was looked for
 /** What is asked after a line: another question, the same one, or none where the run has changed. */
 function askedAfter(entry) {
   if (!entry.note && BlameLines.isBlame(entry.line)) {
-    const { line, reply } = entry, isTold = BlameLines.isQuestion(reply) || BlameLines.isVerdict(reply);
-    return isTold ? { line, told: BlameLines.read(reply), isRolled: false } : asked;
+    const { line, reply } = entry;
+    if (!BlameLines.isQuestion(reply) && !BlameLines.isVerdict(reply)) return asked;
+    question.take(line, reply);
+    return { line, told: question.told, isRolled: false };
   }
   if (!State.mayChange(entry) || State.isRefused(entry)) return asked;
   const isRoll = asked !== null && asked.told.fault !== null && entry.line.trim() === `roll ${asked.told.fault.step}`;
@@ -37,12 +41,14 @@ function show(what, fresh) {
   const before = asked;
   if (what !== "lines") asked = null;
   if (what === "start") {
+    question = new OpenQuestion();
     left = leaving;
     leaving = null;
   }
   for (const entry of fresh) asked = askedAfter(entry);
   if (asked !== before || what !== "lines") fill();
-  if (asked !== null && asked !== before) point();
+  if (asked !== null && asked !== before && question.isTrusted) Talk.send(question.lineByTrust());
+  else if (asked !== null && asked !== before) point();
   else if (asked !== null && Shown.chosen === null) light();
 }
 
@@ -101,20 +107,39 @@ function hintFor({ ask, gave, left: goal }) {
 function questionParts(told) {
   const { line } = asked, { goal, of } = told.ask, taker = OnScreen.takerOf(goal);
   const count = BlameLines.answersOn(line).length, about = count + questionsLeft(of);
-  const answer = (isRight, id, key, words) => make("button", { id, "data-line": BlameLines.answered(line, goal, isRight), title: `${BlameLines.answered(line, goal, isRight)} (key ${key})` }, words);
+  const answer = (isRight, id, key, words) => {
+    const answered = BlameLines.answered(line, goal, isRight);
+    return make("button", { id, "data-line": answered, title: `${answered} (key ${key})` }, words);
+  };
   const by = taker === undefined ? "" : [", which step ", goTo(taker.number), ` took${taker.clause ? ` by clause ${taker.clause}` : ""}`];
   return [
     titleRow(make("b", null, "Is this right?"), ` Question ${count + 1} of about ${about}: call `, link({ id: "blame-light", title: "lights the part of this call" }, goal), ...by, ". ",
       make("span", { class: "dim" }, `Of ${plural(of, "call")} it is not known yet.`)),
     sides(told), ...warnings(told),
-    answerRow(answer(true, "blame-right", "y", "Right"), answer(false, "blame-wrong", "n", "Wrong"), backButton(), make("span", { class: "dim" }, hintFor(told))),
+    answerRow(answer(true, "blame-right", "y", "Right"), answer(false, "blame-wrong", "n", "Wrong"), trustButton(),
+      backButton(), make("span", { class: "dim" }, hintFor(told))),
   ].filter(Boolean);
 }
 
-/** Takes back the last answer. */
+/** Takes all calls of the predicate for right, this one and those that are asked about later. */
+function trustButton() {
+  const { predicate } = question;
+  if (predicate === undefined) return null;
+  const title = `this call and all others of ${predicate}`;
+  return make("button", { id: "blame-trust", title }, `Always right: ${predicate}`);
+}
+
+function trust() {
+  if (asked === null || question.goal === undefined) return;
+  question.trusted.add(question.predicate);
+  Talk.send(question.lineByTrust());
+}
+
+/** Takes back the last answer by hand, and those that trust gave after it. */
 function backButton() {
-  const line = BlameLines.unanswered(asked.line);
-  return make("button", { id: "blame-back", "data-line": line, disabled: line === asked.line, title: `${line} (key b)` }, "Take back");
+  const line = question.lineBefore(), title = line === undefined ? "no answer was given by hand" : `${line} (key b)`;
+  const given = { "data-line": line ?? asked.line, disabled: line === undefined, title };
+  return make("button", { id: "blame-back", ...given }, "Take back");
 }
 
 /** The clauses of a call's predicate, as a part of the program, where they stand one after the other; else null. */
@@ -249,4 +274,4 @@ function goBack() {
 /** What a key does: a click on the button of this name, where it is there. */
 const press = (name) => find(`blame-${name}`)?.click();
 
-export { show, lightPart, lightAgain, close, tryAlone, goBack, press };
+export { show, lightPart, lightAgain, close, tryAlone, goBack, press, trust };

@@ -228,7 +228,8 @@ const BUTTONS = {
   "lanes-alone": () => Panels.showLanes(true), "lanes-all": () => Panels.showLanes(false),
   wrap: () => Program.setWrap(!Program.isWrapped()), again: () => Talk.again(), "close-answer": () => Answers.hide(),
   "why-close": Why.close, "choices-stop": Choosing.stop, "choices-close": Choosing.close,
-  "blame-light": () => Blaming.lightAgain(), "blame-close": () => Blaming.close(), "blame-alone": () => Blaming.tryAlone(), "blame-return": () => Blaming.goBack(),
+  "blame-light": () => Blaming.lightAgain(), "blame-close": () => Blaming.close(), "blame-trust": () => Blaming.trust(),
+  "blame-alone": () => Blaming.tryAlone(), "blame-return": () => Blaming.goBack(),
   "tour-do": () => Guide.doIt(), "tour-back": () => Guide.back(), "tour-again": () => Guide.putThere(), "tour-end": () => Guide.end(),
   forget: () => Keeping.forget(), "make-link": () => Keeping.makeLink(), "copy-link": () => Keeping.copyLink(),
 };

@@ -1,6 +1,7 @@
-// The talk about who is to blame: which question is open, what an answer to it says, and which predicates are trusted.
+// The talk about who is to blame, by words: what an answer to the open question says, and which predicates are trusted.
 import * as BlameLines from "../protocol/blame_lines.mjs";
 import { meant, usageOf } from "../protocol/commands.mjs";
+import { OpenQuestion } from "./open_question.mjs";
 import * as Own from "./own.mjs";
 import * as Printed from "../text/printed.mjs";
 import * as Replies from "../protocol/replies.mjs";
@@ -10,14 +11,10 @@ import { notesAfter } from "./telling.mjs";
 const ANSWERS = new Map(Object.entries({ y: true, yes: true, right: true, n: false, no: false, wrong: false }));
 const BACK = "u";
 
-class Blaming {
+class Blaming extends OpenQuestion {
   constructor(session) {
+    super();
     this.session = session;
-    this.trusted = new Set(); // predicates, as `part/4`
-    this.byTrust = new Set(); // goals that were taken for right, for their predicate is trusted
-    this.line = undefined; // of `blame`, that was answered last
-    this.told = undefined; // what its reply tells
-    this.goal = undefined; // about which it asks; none where it has found who is to blame
   }
 
   /** Does what was told last still hold? A line that changes the session ends the talk. */
@@ -27,13 +24,10 @@ class Blaming {
 
   /** Asks a line of `blame`, and notes what it was answered by. */
   async askOnce(line) {
-    const reply = await this.session.ask(line), told = BlameLines.read(reply);
+    const reply = await this.session.ask(line);
     if (Replies.isRefused(reply)) return reply;
-    this.line = line;
-    this.told = told;
+    this.take(line, reply);
     this.changes = this.session.kept.changes;
-    this.goal = told.ask?.goal;
-    this.predicate = told.given === null ? undefined : Printed.predicateOf(told.given);
     return reply;
   }
 
@@ -49,9 +43,7 @@ class Blaming {
   /** The line with the answer that a word gives; undefined where nothing is asked, or there is none to take back. */
   lineWith(word) {
     if (word.toLowerCase() === BACK) return this.lineBefore();
-    if (this.goal === undefined) return undefined;
-    this.byTrust.delete(this.goal);
-    return BlameLines.answered(this.line, this.goal, ANSWERS.get(word.toLowerCase()));
+    return this.goal === undefined ? undefined : this.answered(ANSWERS.get(word.toLowerCase()));
   }
 
   /** The line that words ask for: alone that of the open question. */
@@ -63,18 +55,6 @@ class Blaming {
   /** Why there is no such line. */
   whyNoLine(word) {
     return word.toLowerCase() === BACK ? "no answer was given yet; undo takes back a step" : "nothing is asked any more; u takes the last answer back, step takes a step";
-  }
-
-  /** The line without the last answer that was given by hand, and without those that trust gave after it; undefined where none was. */
-  lineBefore() {
-    const answers = BlameLines.answersOn(this.line), last = answers.map(({ goal }) => this.byTrust.has(goal)).lastIndexOf(false);
-    if (last < 0) return undefined;
-    return answers.slice(last).reduce((line) => BlameLines.unanswered(line), this.line);
-  }
-
-  /** Is the question that is open about a predicate that is trusted? */
-  get isTrusted() {
-    return this.isOpen && this.goal !== undefined && this.trusted.has(this.predicate);
   }
 
   /**
@@ -92,7 +72,9 @@ class Blaming {
   /** What `blame`, `trust` or an answer means: lines to be told, and the line of `blame` to be asked then, if any. */
   asked(name, words) {
     if (name === "blame") return { told: [], line: this.lineOf(words) };
-    if (name === "trust") return { told: this.trustLines(words[0]), line: this.isTrusted ? this.line : undefined };
+    if (name === "trust") {
+      return { told: this.trustLines(words[0]), line: this.isOpen && this.isTrusted ? this.line : undefined };
+    }
     const line = this.lineWith(name);
     return { told: line === undefined ? [this.whyNoLine(name)] : [], line };
   }
@@ -106,8 +88,7 @@ class Blaming {
     let line = given, reply = await this.askOnce(line);
     while (BlameLines.isQuestion(reply) && this.trusted.has(this.predicate) && !isEnded()) {
       goals.push(this.goal);
-      this.byTrust.add(this.goal);
-      line = BlameLines.answered(line, this.goal, true);
+      line = this.lineByTrust();
       reply = await this.askOnce(line);
     }
     return { line, reply, notes: goals.length === 0 ? [] : [`right, for they are trusted: ${goals.join(", ")}`] };

@@ -139,3 +139,16 @@ inBrowsers("with 100,000 steps a question is shown and its part lit while the pa
   });
   assert.match(await page.value('document.getElementById("overview").getAttribute("aria-valuetext")'), /100000 steps are lit/);
 });
+
+inBrowsers("a predicate that is trusted is asked about no more, and an answer by hand is taken back", async (page) => {
+  await play(page);
+  await page.value('Talk.send("blame R -2.2 -16.2").then(() => true)');
+  assert.equal(await page.value("document.getElementById('blame-trust').textContent"), "Always right: part/4");
+  await page.click("#blame-trust");
+  await page.value("Talk.settled().then(() => true)");
+  assert.equal((await page.value(lines)).at(-1), "blame R -2.2 -16.2 +24.1");
+  assert.equal(await page.value("document.getElementById('blame-back').dataset.line"), "blame R -2.2");
+  await page.click("#blame-trust");
+  await until(page, "document.querySelector('#blame .blame-title').textContent.startsWith('Clause 2 is wrong')");
+  assert.equal((await page.value(lines)).at(-1), ALL_ANSWERS);
+});
