@@ -21,7 +21,7 @@ const byNumber = (word) =>
 export default requests({
   /** A line of the console as it was typed; where it changed the session, the editor hears of a stop. `explain X all` asks for `explain X`. */
   async typed(given, word) {
-    const isWhole = word === "explain" && / all$/.test(given), line = isWhole ? given.replace(/ +all$/, "") : given;
+    const isWhole = word === "explain" && / all$/.test(given), line = isWhole ? given.replace(/(?<! ) +all$/, "") : given;
     const before = this.session.kept.changes, reply = await this.session.ask(line);
     if (reply[0] === "F25 command" && !NAMES.includes(word)) throw new Refused(suggestionFor(line));
     const meaning = { name: word, words: line.split(/ +/).slice(1), line, isWhole };

@@ -40,7 +40,7 @@ function readFunction(text, predicates) {
 /** From which hit on a breakpoint stops. */
 function readHits(text) {
   if (!isGiven(text)) return 1;
-  const [, number] = /^\s*(?:>=)?\s*(\d+)\s*$/.exec(text) ?? [];
+  const [, number] = /^\s*(?:>=\s*)?(\d+)\s*$/.exec(text) ?? [];
   if (number !== undefined) return Number(number);
   throw new Refused(`${text}: a hit condition is a number, as 3 or >= 3; from that hit on it stops`);
 }
@@ -63,7 +63,7 @@ function wordsFor(clause, query) {
   return words;
 }
 
-const IN_BRACES = /\{(.*?)\}/g;
+const IN_BRACES = /\{([^{}]*)\}/g;
 
 /** Why a word in braces is refused that is none of those known, in words. */
 function whyNoWord(word, clause, known) {

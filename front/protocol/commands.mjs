@@ -34,7 +34,7 @@ function commandOf(word) {
 }
 
 /** A word without the marks that people put around names and numbers. */
-const bare = (word) => word.replace(/^[("']+/, "").replace(/[.,;)"']+$/, "");
+const bare = (word) => word.replace(/^[("']+/, "").replace(/(?<![.,;)"'])[.,;)"']+$/, "");
 
 /** Does a word alone ask for a variable's value? One of the query does; another one where it means no command. */
 function isVariable(word, variables) {

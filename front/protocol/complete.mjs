@@ -34,7 +34,7 @@ const OFFERS = {
 
 /** In goals: predicates and variables, whatever mark stands before them. */
 async function completeGoals(session, line) {
-  const [begun] = /\w*$/.exec(line), calls = session.predicates.map((predicate) => predicate.replace(/\/0$/, "").replace(/\/\d+$/, "("));
+  const [begun] = /(?<!\w)\w*$/.exec(line), calls = session.predicates.map((predicate) => predicate.replace(/\/0$/, "").replace(/\/\d+$/, "("));
   return { begun, words: some([...new Set([...calls, ...await variables(session)])].filter((word) => word.startsWith(begun))) };
 }
 

@@ -82,7 +82,7 @@ function linesOf(cause, text) {
 
 const UNUSED = "what nobody else names is read or bound by nobody";
 
-const lettersOf = (name) => name.replace(/\d+$/, "");
+const lettersOf = (name) => name.replace(/(?<!\d)\d+$/, "");
 const mayBeMeant = (name, other) => name.length > 2 && other.length > 2 && lettersOf(name) !== lettersOf(other);
 
 /** The assignments of a clause that wait for what they are to bind: the place of the variable, and the right side. */
@@ -116,14 +116,17 @@ function cureOfSum(clause, { place, right }) {
   return `a variable gets one value; is ${meant.text} meant? ${told(text, right.map((token) => (token.text === text ? meant : token)))}`;
 }
 
+const MOST_COMPARED = 100_000; // pairs of names of a clause among which one that was mistyped is looked for
+
 /** Notes on the variables of a clause that stand once in it. */
 function loneVariables(clause, number) {
   const all = clause.filter(({ kind, text }) => kind === "variable" && !text.startsWith("_"));
   const lone = standingOnce(all), isMeant = new Set(meantInSums(clause, lone));
   const textsOf = (tokens) => tokens.map(({ text }) => text);
   const names = [...textsOf(lone), ...new Set(textsOf(all))]; // two that stand once may be meant to be one
+  const areFew = lone.length * names.length <= MOST_COMPARED;
   return lone.map((token) => {
-    const near = Nearest.nearest(token.text, names.filter((name) => mayBeMeant(token.text, name)));
+    const near = areFew ? Nearest.nearest(token.text, names.filter((name) => mayBeMeant(token.text, name))) : undefined;
     const other = isMeant.has(token) ? UNUSED : `${UNUSED}; write _ where that is meant`;
     const hint = near === undefined ? other : `is it ${near}? ${UNUSED}`;
     return { token, title: `${token.text} stands once in clause ${number}`, hint };

@@ -15,7 +15,7 @@ function textOf(tokens) {
 function newName(name, clause) {
   const used = new Set(clause.map(({ text }) => text));
   if (!used.has(name)) return name;
-  const letters = /^[A-Z]/.test(name) ? name.replace(/\d+$/, "") : "N";
+  const letters = /^[A-Z]/.test(name) ? name.replace(/(?<!\d)\d+$/, "") : "N";
   let number = 1;
   while (used.has(letters + number)) number += 1;
   return letters + number;
