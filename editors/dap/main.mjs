@@ -1,7 +1,7 @@
 // What editors/ghcdb-adapter does; how it is called stands there.
 import fs from "node:fs";
 import { Adapter } from "./adapter.mjs";
-import { Decoder, encode } from "./wire.mjs";
+import { Wire } from "./wire.mjs";
 import { nativeProgram } from "../../front/session/program.mjs";
 
 const log = process.env.GHCDB_MESSAGES;
@@ -11,22 +11,14 @@ const adapter = new Adapter({
   native: nativeProgram(),
   send: (message) => {
     note("<-", message);
-    process.stdout.write(encode(message));
+    wire.send(message);
   },
-  leave: () => process.exit(0),
+  leave: () => wire.leave(0),
 });
-const decoder = new Decoder((message) => {
-  note("->", message);
-  adapter.hear(message);
+const wire = new Wire(process.stdin, process.stdout, {
+  hear: (message) => {
+    note("->", message);
+    adapter.hear(message);
+  },
+  gone: 0,
 });
-process.stdin.on("data", (piece) => {
-  try {
-    decoder.take(piece);
-  } catch (error) {
-    if (!(error instanceof RangeError)) throw error;
-    process.stderr.write(`ghcdb: ${error.message}\n`);
-    process.exit(1);
-  }
-});
-process.stdout.on("error", () => process.exit(0)); // the editor has gone
-process.stdin.on("end", () => process.exit(0));

@@ -51,4 +51,42 @@ class Decoder {
   }
 }
 
-export { encode, Decoder };
+const LATE = 1000; // milliseconds in which an editor may take the last messages
+
+// Messages from one stream to another. While the editor takes none of those that were sent, nothing more is read.
+class Wire {
+  /** `hear` takes the messages; `gone` is the status of the process where the editor closes its end. */
+  constructor(input, output, { hear, gone }) {
+    this.input = input;
+    this.output = output;
+    const decoder = new Decoder(hear);
+    output.on("error", () => process.exit(gone)); // the editor has gone
+    output.on("drain", () => input.resume());
+    input.on("data", (piece) => this.read(decoder, piece));
+    input.on("end", () => this.leave(gone));
+  }
+
+  read(decoder, piece) {
+    try {
+      decoder.take(piece);
+    } catch (error) {
+      if (!(error instanceof RangeError)) throw error;
+      process.stderr.write(`ghcdb: ${error.message}\n`);
+      process.exit(1);
+    }
+  }
+
+  send(message) {
+    if (!this.output.write(encode(message))) this.input.pause();
+  }
+
+  /** Ends the process when all that was sent is taken. */
+  leave(status) {
+    if (this.isLeaving) return;
+    this.isLeaving = true;
+    setTimeout(() => process.exit(status), LATE);
+    this.output.write("", () => process.exit(status));
+  }
+}
+
+export { encode, Decoder, Wire };
