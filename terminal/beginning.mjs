@@ -15,6 +15,12 @@ import { part } from "./part.mjs";
 
 const ASK_AGAIN = { quit: "quit again ends", restart: "restart again begins anew", query: "query again begins anew" };
 
+/** How many steps go with a session. */
+function unsavedIn({ kept: { steps, shelved } }) {
+  const isShelf = steps.size === 0;
+  return `${plural(isShelf ? shelved.size : steps.size, "step")} ${isShelf ? "taken back" : "kept"} and not saved`;
+}
+
 const Beginning = part({
   /** Warns once that steps would be lost; true where it does so now. */
   warnsOfLoss(name) {
@@ -22,8 +28,7 @@ const Beginning = part({
     if (session.isSaved || this.warned === state) return false;
     this.warned = state;
     if (name !== "query") this.question = () => this.act(meant(name), name); // y says the word again
-    const count = plural(session.kept.steps.size, "step");
-    this.note(`${count} kept and not saved: save FILE keeps them; ${ASK_AGAIN[name]}`);
+    this.note(`${unsavedIn(session)}: save FILE keeps them; ${ASK_AGAIN[name]}`);
     return true;
   },
 
@@ -90,10 +95,11 @@ const Beginning = part({
 
   /** Another session takes the place of this one: on the new program, with the steps that stay. */
   async reloadBy(reload) {
-    const { plan, unspied, handed } = reload, { words, native } = this.session;
+    const { plan, unspied, handed } = reload, { session, session: { words, native } } = this;
     const next = new Session(words, native, handed);
     if (!await this.goOnWith(next)) return;
     next.savedAt = undefined; // it stands in no file yet
+    next.savedInto = session.savedInto;
     unspied.forEach((predicate) => this.patterns.forget(predicate));
     this.displayed = this.displayed.map((name) => ReloadPlan.nameAfter(plan, name)).filter(Boolean);
     this.tellNotes();

@@ -13,7 +13,7 @@ import * as Own from "../front/run/own.mjs";
 import { Patterns } from "../front/run/patterns.mjs";
 import { MARK, plain } from "./plain.mjs";
 import { everyRefusal, linesAfterFirst } from "../front/session/every_refusal.mjs";
-import { whyNoName, whyNotWritten, whyOtherFile } from "../front/session/files.mjs";
+import { isHistory, whyNoName, whyNotWritten, whyOtherFile } from "../front/session/files.mjs";
 import Running from "./running.mjs";
 import { Showing, withoutAll } from "./showing.mjs";
 import Spying from "./spying.mjs";
@@ -331,8 +331,21 @@ class Front {
   async on_save({ words }) {
     const version = words[0] === "1" ? "1" : "", file = words.slice(version === "" ? 0 : 1).join(" ");
     if (file === "") return false;
-    const why = whyNoName(file) ?? whyOtherFile(file);
+    const why = whyNoName(file) ?? whyOtherFile(file), act = () => this.saveInto(file, version);
     if (why !== undefined) return this.note(why);
+    if (!this.isOfOther(file)) return act();
+    this.question = act;
+    return this.note(`${file} is the history of another session: y writes over it`);
+  }
+
+  /** Is a file a history that this session neither came from nor was saved in? */
+  isOfOther(file) {
+    const { given: { load }, savedInto } = this.session, own = [load, savedInto].filter((one) => one !== undefined);
+    return isHistory(file) && !own.some((one) => path.resolve(one) === path.resolve(file));
+  }
+
+  /** Saves the session, and tells what of it stands in no file. */
+  async saveInto(file, version) {
     let refusal;
     try {
       refusal = await this.session.save(file, version);
@@ -341,8 +354,10 @@ class Front {
       return this.note(whyNotWritten(file, error));
     }
     if (refusal === undefined) {
-      if (version === "") this.forgetLeft();
-      return this.note(`saved in ${file}; --load ${file} goes on from it`);
+      if (this.session.isSaved) this.forgetLeft();
+      this.note(`saved in ${file}; --load ${file} goes on from it`);
+      if (!this.session.isSaved) this.note("what was taken back, and what is spied, is not in it: save FILE keeps that, too");
+      return undefined;
     }
     this.out(refusal);
     return this.note(refusal.startsWith("F1 ") ? NO_ROOM : NOT_ALONE);

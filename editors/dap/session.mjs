@@ -48,7 +48,6 @@ class EditorSession extends Session {
       return `${file}: ${error.message}`;
     });
     if (refusal !== undefined) throw new Refused(`${refusal}; nothing was saved`);
-    this.savedInto = file;
     return [`saved in ${file}: with "load" in the launch configuration a session goes on from it`];
   }
 }

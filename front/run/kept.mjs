@@ -9,6 +9,7 @@ class Kept {
     this.texts = new Map(); // goals as written, as far as CALL lines told them
     this.changes = 0; // how many lines have changed the session
     this.removed = new Set(); // steps that went since somebody looked; some may be there again
+    this.shelved = new Set(); // steps that were taken back, and stand on the shelf
   }
 
   /** May a line change which steps are kept? */
@@ -19,6 +20,7 @@ class Kept {
   /** Adds a step, without what it read, bound and made. */
   add({ number, goal, act, kind, clause }) {
     this.steps.set(number, { number, goal, act, kind, clause });
+    this.shelved.delete(number);
     if (goal !== null) this.takers.set(goal, number);
   }
 
@@ -27,6 +29,7 @@ class Kept {
     if (step === undefined) return;
     this.steps.delete(number);
     this.removed.add(number);
+    this.shelved.add(number);
     if (step.goal !== null) this.takers.delete(step.goal);
   }
 

@@ -136,9 +136,13 @@ const whyNoName = (word) => (/^\d+$/.test(word) ? `${word} ${NO_VERSION} ./${wor
 
 const HEADING = "ghc-history ";
 
+const headOf = (file) => (isFile(file) ? tried(() => beginningOf(file, HEADING.length).toString("latin1"), "") : "");
+
+const isHistory = (file) => headOf(file) === HEADING;
+
 /** Why nothing is saved into a file that is no history. Undefined where it may be saved; of a folder writing tells. */
 function whyOtherFile(file) {
-  const head = isFile(file) ? tried(() => beginningOf(file, HEADING.length).toString("latin1"), "") : "";
+  const head = headOf(file);
   const isOther = isEndless(file) || (head !== "" && head !== HEADING);
   return isOther ? `${file} is there and is no history: name another file` : undefined;
 }
@@ -153,5 +157,5 @@ const NOT_WRITTEN = {
 const whyNotWritten = (file, error) => `${file}: ${NOT_WRITTEN[error.code] ?? error.message}; nothing was saved`;
 
 export {
-  beginningOf, inHome, isEndless, isFile, isNoFile, lineOf, tried, whyNoName, whyNotWritten, whyOtherFile, writeWhole,
+  beginningOf, inHome, isEndless, isFile, isHistory, isNoFile, lineOf, tried, whyNoName, whyNotWritten, whyOtherFile, writeWhole,
 };

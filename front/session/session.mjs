@@ -1,5 +1,6 @@
 // A session as the terminal and the editors keep it: the program that runs, the steps that its replies told, and a look at the run,
 // which is taken only when something has changed and somebody asks.
+import path from "node:path";
 import Kept from "../run/kept.mjs";
 import * as Reader from "../text/reader.mjs";
 import * as Replies from "../protocol/replies.mjs";
@@ -24,6 +25,9 @@ const MOST_BYTES = 1_048_576; // of a program: ghcdb reads one byte further to s
 /** The bytes of a program, which is read once; undefined where it cannot be read, which ghcdb tells. */
 const bytesOf = (file) => tried(() => beginningOf(file, MOST_BYTES + 1));
 
+/** Has a session more than its kept steps: some that were taken back, or spied predicates? */
+const holdsMore = (saved) => saved.some((line) => line.startsWith("undo ")) || Replies.spiesIn(saved).length > 0;
+
 class Session {
   /**
    * A session for the words of a command line, which is not begun yet. `handed` may have the program's bytes and a history's text:
@@ -35,6 +39,7 @@ class Session {
     this.handed = handed;
     this.given = readWords(words);
     this.savedAt = 0; // the number of changes when the session was saved last
+    this.savedInto = undefined; // the file
   }
 
   /** Begins anew with the files as they are now. Throws `Program.Ended` where ghcdb refuses them. */
@@ -95,7 +100,8 @@ class Session {
   }
 
   get isSaved() {
-    return this.kept.steps.size === 0 || this.kept.changes === this.savedAt;
+    const { steps, shelved, changes } = this.kept;
+    return steps.size + shelved.size === 0 || changes === this.savedAt;
   }
 
   /** The lines of the reply to a line. */
@@ -229,8 +235,9 @@ class Session {
   }
 
   /**
-   * Writes the session into a file, as a history; `version` is "1" for that of the kept steps alone. The refusal, where
-   * there is one. Throws what the system says where the file cannot be written.
+   * Writes the session into a file, as a history; `version` is "1" for that of the kept steps alone: where there is
+   * more, the session is not saved by that. The refusal, where there is one. Throws what the system says where the file
+   * cannot be written.
    */
   async save(file, version = "") {
     const reply = await this.ask(`save ${version}`.trim());
@@ -238,7 +245,8 @@ class Session {
     if (!isWhole(reply)) return Replies.NO_MEMORY;
     if (version === "") this.way?.begin(textOf(reply), reply.length);
     writeWhole(file, Buffer.from(textOf(reply), "latin1"));
-    this.savedAt = this.kept.changes;
+    this.savedInto = path.resolve(file);
+    if (version === "" || !holdsMore(await this.ask("save"))) this.savedAt = this.kept.changes;
     return undefined;
   }
 
