@@ -6,6 +6,7 @@ import * as Replies from "../front/protocol/replies.mjs";
 import { plural, some } from "../front/run/reasons.mjs";
 import { notesAfter } from "../front/run/telling.mjs";
 import { Ended } from "../front/session/program.mjs";
+import * as Room from "../front/session/room.mjs";
 import { part } from "./part.mjs";
 
 const SLICE = 1000; // steps between which ^C is heard
@@ -72,11 +73,13 @@ const Running = part({
   /** Gathers the lines of slices, and the goals that were passed. Why the last one stopped. */
   async runSlices(most, lines, passed) {
     let stop = "stopped limit";
-    while (stop === "stopped limit" && lines.length < most && !this.isInterrupted) {
+    this.isShort = false;
+    while (stop === "stopped limit" && lines.length < most && !this.isInterrupted && !this.isShort) {
       const reply = await this.session.ask(`leap ${Math.min(most - lines.length, sliceOf(this.session))}`);
       stop = reply.pop();
       const before = lines.length;
       reply.forEach((line) => lines.push(line));
+      this.isShort = Room.isShort();
       if (stop === "stopped limit" && lines.length < most) this.tellGoesOn(before, lines.length);
       const goal = spiedIn(stop), step = goal === undefined ? undefined : await this.passOther(goal);
       if (step === undefined) continue;
@@ -121,6 +124,7 @@ const Running = part({
     const sent = some(passed.map((goal) => `step ${goal}`)).join(", ");
     if (passed.length > 0) this.note(`passed ${plural(passed.length, "goal")} that no pattern fits; sent: ${sent}`);
     await this.show(reply, meaning);
+    if (this.isShort) return this.note(Room.cure());
     if (isEnded) return this.note(`ended by ^C after ${plural(reply.length - 1, "step")}, which stand; leap goes on`);
     await this.noteAll(await notesAfter(this.session, meaning, reply));
     return this.tellFree(reply.at(-1));

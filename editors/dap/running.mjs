@@ -4,6 +4,7 @@ import { requests, CANCELLED } from "./requests.mjs";
 import { Ended } from "../../front/session/program.mjs";
 import { plural } from "../../front/run/reasons.mjs";
 import * as Replies from "../../front/protocol/replies.mjs";
+import * as Room from "../../front/session/room.mjs";
 
 /** @typedef {import("./types").Stop} Stop */
 
@@ -58,6 +59,7 @@ export default requests({
         const stop = await this.atSpied(name);
         if (stop !== undefined) return stop;
       } else if (reason !== "limit") return this.atEnd(reason, name);
+      if (Room.isShort()) return ["pause", Room.cure()];
       if (this.wantsPause) return ["pause", `after ${plural(steps, "step")}`];
       await this.handleWaiting();
     }

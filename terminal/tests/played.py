@@ -277,7 +277,8 @@ def test_launcher_gives_a_terminal_the_front(home):
     wants("% Flat GHC. help lists the commands" in terminal.start, terminal.start)
     wants(is_met("=% sent: step 0.1", terminal.type("s")), "no front")
     wants(is_met("=undone 1", terminal.type("back")), "no front")
-    terminal.type("exit")
+    wants(is_met("% 1 step taken back and not saved", terminal.type("exit")), "it is lost without a word")
+    terminal.type("y")
     wants(terminal.status == 0, f"status {terminal.status}")
 
 
@@ -411,6 +412,7 @@ def test_terminal_that_edits_no_lines(home):
     wants("% quit ends; the session stands" in terminal.read(), "^C ends the session")
     wants(is_met("=undone 1", terminal.type("back")), "the session is gone")
     terminal.type("quit")
+    terminal.type("y")
     wants(terminal.status == 0, f"status {terminal.status}")
 
 
