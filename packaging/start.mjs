@@ -12,7 +12,7 @@
 import tty from "node:tty";
 import { isMainThread } from "node:worker_threads";
 import { readRun, readWords, isSession } from "../front/protocol/words.mjs";
-import { withQuery } from "../front/session/words_with_query.mjs";
+import { namesFileAlone, withQuery } from "../front/session/words_with_query.mjs";
 
 const STREAMS = [0, 1, 2];
 const COMMAND_LINE = 2, DEVICE = 3; // statuses
@@ -45,7 +45,10 @@ const AFTER = new Map(Object.entries({
 }));
 
 /** Is it typed at a terminal? A stream is asked by its number, for Node changes a pipe that is asked itself. */
-const isTyped = (words) => STREAMS.every((stream) => tty.isatty(stream)) && isSession(readWords(withQuery(words)));
+function isTyped(words) {
+  const asks = isSession(readWords(withQuery(words))) || namesFileAlone(words);
+  return asks && STREAMS.every((stream) => tty.isatty(stream));
+}
 
 /** Runs ghcdb's own command line. */
 async function runConsole(words) {

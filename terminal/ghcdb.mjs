@@ -6,11 +6,12 @@ import { spawnSync } from "node:child_process";
 import { completionsOf } from "../front/protocol/complete.mjs";
 import { Front } from "./front.mjs";
 import { Keyboard } from "./keyboard.mjs";
-import { MARK } from "./plain.mjs";
+import { MARK, plain } from "./plain.mjs";
 import { nativeProgram } from "../front/session/program.mjs";
 import { readWords, isSession } from "../front/protocol/words.mjs";
-import { withQuery } from "../front/session/words_with_query.mjs";
+import { namesFileAlone, whyNoSession, withQuery } from "../front/session/words_with_query.mjs";
 
+const COMMAND_LINE = 2; // a status
 const HERE = path.dirname(fileURLToPath(import.meta.url));
 
 const areTerminals = process.stdin.isTTY && process.stdout.isTTY && process.stderr.isTTY;
@@ -91,5 +92,11 @@ async function main() {
   });
 }
 
+/** Says what is lacking where no session can begin. */
+function tellLacking() {
+  process.stderr.write(`ghcdb: ${plain(whyNoSession(words))}\n`);
+  return COMMAND_LINE;
+}
+
 if (areTerminals && isSession(readWords(words))) main();
-else process.exitCode = runAlone();
+else process.exitCode = areTerminals && namesFileAlone(words) ? tellLacking() : runAlone();

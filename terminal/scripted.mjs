@@ -3,9 +3,8 @@
 import { Ended } from "../front/session/program.mjs";
 import { ScriptSession, asked } from "../front/session/script_session.mjs";
 import { everyRefusal, linesAfterFirst } from "../front/session/every_refusal.mjs";
-import { withQuery } from "../front/session/words_with_query.mjs";
+import { whyNoSession, withQuery } from "../front/session/words_with_query.mjs";
 import { isLetGo } from "../front/run/waits.mjs";
-import { isFile } from "../front/session/files.mjs";
 import { isWhole } from "../front/session/way_back.mjs";
 import { readWords, isSession } from "../front/protocol/words.mjs";
 import * as Replies from "../front/protocol/replies.mjs";
@@ -116,16 +115,6 @@ async function statusOf(session, input, teller) {
 const addLines = (errors, lines) => lines.forEach((line) => errors(`${MARK}${plain(line)}\n`));
 
 /**
- * Why the words of a command line begin no session.
- * @param {import("../front/types").WordsRead} named
- */
-function whyNoSession({ file, query }) {
-  if (file === undefined || query !== undefined) return "PROGRAM --query QUERY and the options of a session are wanted";
-  if (!isFile(file)) return `there is no file ${file}`;
-  return `${file} has no comment \`% Query: GOALS\`: --query GOALS is wanted`;
-}
-
-/**
  * Begins a session for the words of a command line, and gives the exit status that comes of `plays(session)`. Where the
  * program ends by itself, `errors` takes texts that say why, and `ended(error, refusals)` of the teller hears of it,
  * with all that it refuses of its texts.
@@ -136,9 +125,8 @@ function whyNoSession({ file, query }) {
  * }} takers
  */
 async function withSession(words, { plays, errors, teller }) {
-  const named = readWords(words);
-  if (!isSession(named)) {
-    errors(`${plain(whyNoSession(named))}\n`);
+  if (!isSession(readWords(words))) {
+    errors(`${plain(whyNoSession(words))}\n`);
     return STATUS.commandLine;
   }
   const session = new ScriptSession(words);

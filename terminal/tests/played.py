@@ -282,6 +282,17 @@ def test_launcher_gives_a_terminal_the_front(home):
     wants(terminal.status == 0, f"status {terminal.status}")
 
 
+def test_words_that_begin_no_session(home):
+    environment = {"HOME": home, "COLUMNS": "220", "GHCDB_QUIET": "1"}
+    for words, why in (
+        ([], "ghcdb: a program and a query are wanted, as bill.ghc --query 'bill(12,3,T)'; --help lists the options"),
+        (["nofile.ghc"], "ghcdb: there is no file nofile.ghc"),
+        (["README.md"], "ghcdb: README.md has no comment `% Query: GOALS`: --query GOALS is wanted"),
+    ):
+        terminal = Terminal([str(ROOT / "ghcdb"), *words], environment, folder=ROOT)
+        wants(why in terminal.start and terminal.status == 2, f"{terminal.start} {terminal.status}")
+
+
 def test_long_run_is_shortened(home):
     terminal = start(home, str(ROOT / "examples/primes.ghc"), "--query", "primes(40,Ps)")
     shown = terminal.type("run")

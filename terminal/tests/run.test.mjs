@@ -31,7 +31,7 @@ const RUNS = [
   [[BILL, "--run", "--expect", "T = 126", "--expect", "Q = [1, a]"], "T = 150\n", "% expected T = 126, got T = 150\n% expected Q = [1,a], and the query has no variable Q\n", 8],
   [[BILL, "--run", "--expect", "T = 126."], "", "--expect 'T = 126.': X = TERM is wanted\n", 2],
   [[BILL, "--run", "--expect"], "", "--expect '': X = TERM is wanted\n", 2],
-  [["--run"], "", "PROGRAM --query QUERY and the options of a session are wanted\n", 2],
+  [["--run"], "", "a program and a query are wanted, as bill.ghc --query 'bill(12,3,T)'; --help lists the options\n", 2],
   [[BILL, "--run", "--query", "price(0,T)", "--expect", "T = 1"], "T = _0_1\n",
     "% price(0,_0_1) has failed: F10\n% clause 2: N > 0 says no (N = 0)\n% clause 3: N >= 10 says no (N = 0)\n% expected T = 1, got T = _0_1\n", 5],
   [[DEADLOCK, "--run", "--query", "after(A,B)"], "A = _0_1\nB = _0_2\n", "% 0.1 waits for _0_1 (A of the query): nobody can bind it (no other goal has it)\n", 6],
