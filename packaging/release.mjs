@@ -72,14 +72,24 @@ const NODES_START = Buffer.from("#!/usr/bin/env node\n");
 /** The one file, as a program of Node's: for npm, which makes a start of it for each system. */
 const startedByNode = (ghcdb) => Buffer.concat([NODES_START, ghcdb.subarray(START.join("\n").length + 1)]);
 
+// What stands about the modules: a folder above the file may have a package.json by which it is an ES module, and such
+// a one has neither of the two names.
+const BEFORE = "const $begin = (require, __filename) => {\n", AFTER = `};
+if (typeof require === "function") $begin(require, __filename);
+else {
+  const place = process.argv[1];
+  import("node:module").then(({ createRequire }) => $begin(createRequire(place), createRequire(place)("node:fs").realpathSync(place)));
+}
+`;
+
 /** The one file that is ghcdb. */
 function program(version, madeWith) {
   const kind = madeWith.proved ? "the proved program" : "a program WITHOUT PROOF";
-  const made = `of commit ${madeWith.commit}, by ${madeWith.kit}`;
+  const made = `of the sources of sum ${madeWith.sources}, by ${madeWith.kit}`;
   const about = `// ghcdb ${version} in one file: ${kind} ${made}, and all that stands before it`;
   const constant = `const CARRIED = ${JSON.stringify(carried(madeWith))};`;
-  const head = Buffer.from([...START, about, '"use strict";', "", constant, "\n"].join("\n"));
-  return Buffer.concat([head, run("python3", ["tools/bundle.py", ...MODULES], { cwd: ROOT })]);
+  const head = [...START, about, '"use strict";', "", constant, "", BEFORE].join("\n");
+  return Buffer.concat([Buffer.from(head), run("python3", ["tools/bundle.py", ...MODULES], { cwd: ROOT }), Buffer.from(AFTER)]);
 }
 
 /** What npm reads of the package. */

@@ -8,7 +8,7 @@
 //     ghcdb --lsp                              their language server
 //     ghcdb --picture ..                       a run as an SVG (web/picture)
 //     ghcdb --example [NAME]                   an example's text; without NAME the names of all
-//     ghcdb --version                          the version, the commit, and the kit that proved the program
+//     ghcdb --version                          the version, the sum of the sources (tools/sources-sum), and the kit
 import tty from "node:tty";
 import { isMainThread } from "node:worker_threads";
 import { readRun, readWords, isSession } from "../front/protocol/words.mjs";
@@ -55,8 +55,8 @@ async function runConsole(words) {
   if (readRun(words).isRun) return import("../terminal/run.mjs");
   if (isTyped(words)) return import("../terminal/ghcdb.mjs");
   await import("../web/console.mjs");
-  const { help, madeWith: { commit, kit } } = CARRIED;
-  if (words.join() === "--version" && process.exitCode === 0) tell(`commit ${commit}\nkit ${kit}\n`);
+  const { help, madeWith: { sources, kit } } = CARRIED;
+  if (words.join() === "--version" && process.exitCode === 0) tell(`sources ${sources}\nkit ${kit}\n`);
   if (["--help", "-h"].includes(words.join()) && process.exitCode === 0) tell(help);
   return undefined;
 }

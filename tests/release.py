@@ -13,6 +13,7 @@ exit status is 1 where a test failed, and where Node or dpkg-deb is missing.
 import hashlib
 import json
 import os
+import re
 import shutil
 import subprocess
 import sys
@@ -67,6 +68,12 @@ class Place:
         return ended.stdout.decode().splitlines()
 
 
+def sources_of_page():
+    """The sum of the sources of which the page's program is."""
+    [made] = re.findall(r"^const MADE_WITH = (.*);$", (ROOT / "web" / "ghcdb.html").read_text(), re.M)
+    return json.loads(made)["sources"]
+
+
 def make(folder):
     """Makes the release: its files by their names."""
     made = [ROOT / "tools" / "make-release", folder, *(word for word in sys.argv[1:] if word == "--unproved")]
@@ -88,6 +95,15 @@ def test_alone(release, _files):
     place = release.with_name("alone")
     place.mkdir()
     shutil.copy(release / "ghcdb", place)
+    try_sessions(Place(place, "ghcdb"))
+
+
+def test_among_modules(release, _files):
+    """The file runs also below a package.json by which all files there are ES modules."""
+    place = release.with_name("modules")
+    place.mkdir()
+    shutil.copy(release / "ghcdb", place)
+    (place / "package.json").write_text('{"type": "module"}')
     try_sessions(Place(place, "ghcdb"))
 
 
@@ -214,7 +230,9 @@ def message(told):
 
 def try_others(place):
     """The words that begin no session, and those that are refused."""
-    wants(place.told("--version")[0].startswith("ghcdb "), "the version is not told")
+    told = place.told("--version")
+    wants(told[0].startswith("ghcdb "), "the version is not told")
+    wants(f"sources {sources_of_page()}" in told, f"the sources are not told: {told}")
     is_same(place.run("--example", "none").returncode, 2)
     is_same(place.run("constructor").returncode, 2)
     (place.home / "run.history").write_bytes(place.run("b.ghc", "--query", QUERY, given="leap\nsave\n").stdout)
@@ -261,7 +279,7 @@ def main():
     if missing:
         print(f"release: there is no {missing[0]} here, so nothing was tried")
         return 1
-    tests = (test_sums, test_alone, test_node_missing, test_debian, test_npm, test_shells, test_rows)
+    tests = (test_sums, test_alone, test_among_modules, test_node_missing, test_debian, test_npm, test_shells, test_rows)
     with tempfile.TemporaryDirectory(prefix="ghcdb-release-") as folder:
         release = Path(folder) / "release"
         files = make(release)
