@@ -3,7 +3,7 @@
 // told whether one could.
 import { meant, usageOf } from "../front/protocol/commands.mjs";
 import * as Replies from "../front/protocol/replies.mjs";
-import { linesOf, otherChoice } from "../front/run/other_choices.mjs";
+import { NONE_FOUND, linesOf, otherChoice } from "../front/run/other_choices.mjs";
 import { clauseWords } from "../front/run/blame_words.mjs";
 import * as Own from "../front/run/own.mjs";
 import { plural, some } from "../front/run/reasons.mjs";
@@ -71,7 +71,7 @@ const Judging = part({
   tellUntried(count, tried) {
     const left = plural(count - tried, "choice");
     if (this.isInterrupted) this.note(`ended by ^C: ${tried} of ${plural(count, "choice")} tried; the session stands`);
-    else if (count === 0) this.note("no step on which it rests could have gone by another clause");
+    else if (count === 0) this.note(NONE_FOUND);
     else if (count > tried) this.note(`.. ${left} more not tried ..`);
   },
 

@@ -1,7 +1,7 @@
 // The place "Why?" where it tells what the other choices of a value lead to: a table of outcomes, which a session beside
 // this one finds out in a worker of its own; and after a run, how many of its steps could have gone otherwise.
 import * as Replies from "../front/protocol/replies.mjs";
-import { MOST_STEPS, gathered, linesTo } from "../front/run/other_choices.mjs";
+import { MOST_STEPS, NONE_FOUND, gathered, linesTo } from "../front/run/other_choices.mjs";
 import { plural, some } from "../front/run/reasons.mjs";
 import { freeSteps, tryingOf } from "../front/session/trying.mjs";
 import Deeds from "./deeds.mjs";
@@ -11,9 +11,10 @@ import * as Service from "./service.mjs";
 import State from "./state.mjs";
 import * as Talk from "./talk.mjs";
 
-const NONE = { count: 0, first: undefined };
+const NONE = { count: 0, names: [] };
+const MOST_ASKED = 4; // variables that rest on a choice, and are asked about
 let table = null; // the outcomes of a value as far as they are found out
-let free = NONE; // how many steps of the run could have gone by another clause, and the first value that rests on one
+let free = NONE; // how many steps of the run could have gone by another clause, and the variables that rest on one
 
 /** A program in a worker, once that is ready, which goes on from a history of this session. */
 function programIn(side, isReady, history) {
@@ -85,7 +86,7 @@ function close() {
 function howFar({ count, outcomes, isAtWork }) {
   const tried = outcomes.filter(({ choice }) => choice !== undefined).length;
   if (count === null) return "Looking for steps that could have gone by another clause …";
-  if (count === 0 && !isAtWork) return "No step on which it rests could have gone by another clause.";
+  if (count === 0 && !isAtWork) return `${NONE_FOUND[0].toUpperCase()}${NONE_FOUND.slice(1)}.`;
   return `${tried} of ${plural(count, "other choice")} tried${isAtWork ? " …" : "."}`;
 }
 
@@ -117,10 +118,11 @@ function tableParts() {
   ];
 }
 
-/** After a run: that some of its steps could have gone otherwise. */
-function freeParts({ count, first }) {
-  const asks = make("button", { class: "small", "data-choices": first }, `What else could ${first} be?`);
-  return [make("div", null, `${plural(count, "step")} could have gone by another clause. `, asks)];
+/** After a run: that some of its steps could have gone otherwise, and which variables of the query rest on these. */
+function freeParts({ count, names }) {
+  const asked = (name) => make("button", { class: "small", "data-choices": name }, `What else could ${name} be?`);
+  const asks = names.slice(0, MOST_ASKED).flatMap((name) => [" ", asked(name)]);
+  return [make("div", null, `${plural(count, "step")} could have gone by another clause.`, ...asks)];
 }
 
 const show = () => Names.fill("choices", table !== null ? tableParts() : free.count > 0 ? freeParts(free) : []);

@@ -81,6 +81,9 @@ function gathered(outcomes) {
 /** The lines by which another clause is taken: what is held back goes on first. */
 const linesTo = ({ step, goal, other, held = [] }) => [`roll ${step}`, ...held, `step ${goal} ${other}`];
 
+// It is no proof that there is none: each step is tried alone, after its roll and once all others have gone on.
+const NONE_FOUND = "found no step on which it rests that could have gone by another clause";
+
 const choiceTold = ({ step, other, clause }) => `step ${step} by ${other} instead of ${clause}`;
 
 /** The line of an outcome: `T = 130 <- step 8 by 3 instead of 2`. */
@@ -104,5 +107,5 @@ function linesOf(outcomes) {
 }
 
 export {
-  MOST_STEPS, choicesIn, concernedIn, eachOnce, gathered, isOpen, linesOf, linesTo, otherChoice, outcomeTold,
+  MOST_STEPS, NONE_FOUND, choicesIn, concernedIn, eachOnce, gathered, isOpen, linesOf, linesTo, otherChoice, outcomeTold,
 };

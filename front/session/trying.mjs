@@ -24,7 +24,7 @@ async function choicesOf(session, name, explained, mostGoals = MOST_GOALS) {
 
 /**
  * Of a run that has come to its end: how many steps could have gone by another clause, and which variables of the
- * query rest on one, the first of them first. In a long run none is looked for.
+ * query rest on one. In a long run none is looked for.
  */
 async function freeSteps(session) {
   const { variables, kept: { steps } } = session, free = new Set();
@@ -35,7 +35,7 @@ async function freeSteps(session) {
     if (found.length > 0) names.push(name);
     found.forEach(({ step }) => free.add(step));
   }
-  return { count: free.size, first: names[0], names };
+  return { count: free.size, names };
 }
 
 class Trying {

@@ -93,7 +93,7 @@ test("where there is no other choice that is told; what is refused is refused as
   const session = await begin([path.join(EXAMPLES, "append.ghc"), "--query", "append([1],[2],R)"]);
   assert.strictEqual((await session.type("leap")).at(-1), "% all is done");
   const rows = [
-    ["choices R", "% R = [1,2] as it is", "% no step on which it rests could have gone by another clause"],
+    ["choices R", "% R = [1,2] as it is", "% found no step on which it rests that could have gone by another clause"],
     ["choices Q", "F23 no variable", "% the query's variables: R"],
     ["choices 1.1", "% usage: choices X        tell what X is had a step gone by another clause: each is tried"],
   ];
