@@ -4,6 +4,7 @@
 import { meant, usageOf } from "../front/protocol/commands.mjs";
 import * as Replies from "../front/protocol/replies.mjs";
 import { plural, some } from "../front/run/reasons.mjs";
+import * as GoingOn from "../front/run/going_on.mjs";
 import { notesAfter } from "../front/run/telling.mjs";
 import { Ended } from "../front/session/program.mjs";
 import * as Room from "../front/session/room.mjs";
@@ -80,7 +81,7 @@ const Running = part({
       const before = lines.length;
       reply.forEach((line) => lines.push(line));
       this.isShort = Room.isShort();
-      if (stop === "stopped limit" && lines.length < most) this.tellGoesOn(before, lines.length);
+      if (stop === "stopped limit" && lines.length < most) this.tellGoesOn(before, lines);
       const goal = spiedIn(stop), step = goal === undefined ? undefined : await this.passOther(goal);
       if (step === undefined) continue;
       lines.push(step);
@@ -90,10 +91,12 @@ const Running = part({
     return stop;
   },
 
-  /** Of a long run it is told now and then that it goes on. */
-  tellGoesOn(before, now) {
-    const told = Math.floor(now / TOLD) * TOLD;
-    if (told > before) this.note(`${told.toLocaleString("en-US")} steps so far; ^C ends the run, and they stand`);
+  /** Of a long run it is told now and then that it goes on, and of which predicates its last steps were. */
+  tellGoesOn(before, lines) {
+    const told = Math.floor(lines.length / TOLD) * TOLD;
+    if (told <= before) return;
+    const last = GoingOn.predicatesIn(lines, this.session.clauses);
+    this.note(`${told.toLocaleString("en-US")} steps so far, the last of ${last}; ^C ends the run, and they stand`);
   },
 
   /**
@@ -125,7 +128,10 @@ const Running = part({
     if (passed.length > 0) this.note(`passed ${plural(passed.length, "goal")} that no pattern fits; sent: ${sent}`);
     await this.show(reply, meaning);
     if (this.isShort) return this.note(Room.cure());
-    if (isEnded) return this.note(`ended by ^C after ${plural(reply.length - 1, "step")}, which stand; leap goes on`);
+    if (isEnded) {
+      const ended = `ended by ^C after ${plural(reply.length - 1, "step")}, which stand; leap goes on`;
+      return this.noteAll([ended, ...GoingOn.wordsOf(reply, this.session.clauses)]);
+    }
     await this.noteAll(await notesAfter(this.session, meaning, reply));
     return this.tellFree(reply.at(-1));
   },

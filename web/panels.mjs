@@ -1,6 +1,7 @@
 // Fills what stands around the picture: console, goals, store, what was taken back, the chosen step, and how many there are.
 import * as Replies from "../front/protocol/replies.mjs";
 import * as Explain from "../front/run/explain.mjs";
+import * as GoingOn from "../front/run/going_on.mjs";
 import * as Terms from "../front/run/terms.mjs";
 import { plural } from "../front/text/plural.mjs";
 import Deeds from "./deeds.mjs";
@@ -21,7 +22,7 @@ const MOST_KEPT = 1000000; // steps that the program keeps
 const LONGEST_LINE = 4000; // letters of a reply's line that are shown
 const MOST_TOLD = 100; // lines that were typed at once, and are shown
 const LEAST_SUMMED = 4; // causes or consequences of a step that are summed
-const RUN = 1000, LEAST_LONE = 100; // steps that Run takes at most; reductions by one clause of which it is told
+const RUN = 1000; // steps that Run takes at most
 const MOST_LINKED = 60; // lines of a reply in which numbers are links
 const isRefusal = (line) => Replies.isRefusal(line) || /^(program|query|history|session): /.test(line);
 let wasChanged = false;
@@ -204,30 +205,17 @@ function noteParts() {
   return [...beside, ...(beside.length > 0 && state.length > 0 ? [make("br")] : []), ...state];
 }
 
-/** The clause by which each of the last steps that were reductions went, if it is one, and how many they are. */
-function loneClause({ graph }, most) {
-  let count = 0, lone = 0;
-  for (let at = graph.count - 1; at >= Math.max(0, graph.count - most); at--) {
-    const clause = graph.clauses.at(at);
-    if (clause === 0) continue;
-    if (lone !== 0 && clause !== lone) return { clause: 0, count: 0 };
-    lone = clause;
-    count += 1;
-  }
-  return { clause: lone, count };
-}
-
 /** Where the last run came to its limit: that it is not at its end, and whether it may have none. */
 function limitParts() {
   const last = State.entries[State.entries.length - 1], [told] = last === undefined ? [] : last.tail(1);
   if (told !== "stopped limit" || State.mayChange(last) === false) return [];
-  const { clause, count } = loneClause(State.run, RUN), { predicate } = State.run.clauses[clause - 1] ?? {};
-  const steps = plural(State.run.graph.count, "step"), more = RUN.toLocaleString("en");
+  const { graph: { count, clauses: taken }, clauses } = State.run, steps = plural(count, "step");
+  const latest = Array.from({ length: Math.min(count, GoingOn.MOST) }, (none, at) => taken.at(count - 1 - at));
+  const lone = GoingOn.loneClause(latest, clauses), more = RUN.toLocaleString("en");
   const stopped = `The run stopped after ${steps}, and is not at its end: Run takes up to ${more} more.`;
-  if (count < LEAST_LONE || predicate === undefined) return [stopped];
-  const named = link({ "data-clause": clause, title: "lights its steps" }, `clause ${clause}`);
-  const all = ` The last ${plural(count, "reduction")} all went by `;
-  return [stopped, all, named, `, of ${predicate}: should another one have ended it?`];
+  const clauseOf = ({ clause }) => link({ "data-clause": clause, title: "lights its steps" }, `clause ${clause}`);
+  const all = lone === undefined ? [] : GoingOn.partsOf(lone);
+  return [stopped, ...all.map((part) => (part.clause ? clauseOf(part) : part.replace("the last", " The last")))];
 }
 
 /** What is said of the run as it stands: a failure, a circle, who waits for what. */

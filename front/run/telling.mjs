@@ -4,6 +4,7 @@ import * as BlameLines from "../protocol/blame_lines.mjs";
 import * as Causes from "../text/causes.mjs";
 import { inOneLine } from "../text/clauses.mjs";
 import * as GoalTree from "./goal_tree.mjs";
+import * as GoingOn from "./going_on.mjs";
 import Run from "./run.mjs";
 import * as Print from "../text/print.mjs";
 import * as Printed from "../text/printed.mjs";
@@ -137,8 +138,9 @@ async function afterQuiet(session, goals) {
 }
 
 /** What the last line of a run means. */
-async function afterStop(session, line) {
-  const [, reason, name] = line.split(" "), goals = await session.goalsTold();
+async function afterStop(session, reply) {
+  const [, reason, name] = reply.at(-1).split(" "), goals = await session.goalsTold();
+  if (reason === "limit") return [...STOPS.limit, ...GoingOn.wordsOf(reply, session.clauses)];
   if (goals === undefined || STOPS[reason] !== undefined) return STOPS[reason] ?? [];
   const goal = goals.find((other) => other.name === name);
   if (reason === "quiet") return afterQuiet(session, goals);
@@ -244,7 +246,7 @@ const AFTER = {
 async function notesAfter(session, meaning, reply) {
   if (Replies.isRefused(reply)) return afterRefusal(session, meaning, reply);
   const last = reply.at(-1) ?? "";
-  if (last.startsWith("stopped ")) return afterStop(session, last);
+  if (last.startsWith("stopped ")) return afterStop(session, reply);
   return (AFTER[meaning.name] ?? afterSettling)(session, meaning, reply);
 }
 

@@ -37,6 +37,8 @@ async function runOf(file, query, most) {
   return (await front.runOn(most)).reply;
 }
 
+const GOES_ON = "% the last 500 reductions all went by clause 1, of p/1: should another one have ended it?";
+
 test("a run in slices tells, byte for byte, what one run tells", AT_MOST, async () => {
   for (const most of [999, 1000, 1001, 2500]) {
     assert.deepStrictEqual(await runOf(endless(), "p(0)", most), await replyTo(endless(), "p(0)", `leap ${most}`), `${most}`);
@@ -62,7 +64,8 @@ test("^C ends a run between two slices, and all its steps are kept", AT_MOST, as
   assert.ok(size >= 3000 && size % 1000 === 0, `${size}`);
   assert.deepStrictEqual([records.length, records.at(-1).split(" ")[0]], [size, String(size)]);
   assert.deepStrictEqual(lines.slice(0, 2), ["REDU 1 0.1 by 1", "REDU 2 1.1 is"]);
-  assert.deepStrictEqual(lines.slice(-3), [`REDU ${size} ${size - 1}.1 is`, "stopped limit", `% ended by ^C after ${size} steps, which stand; leap goes on`]);
+  const last = [`REDU ${size} ${size - 1}.1 is`, "stopped limit"], ended = `% ended by ^C after ${size} steps, which stand; leap goes on`;
+  assert.deepStrictEqual(lines.slice(-4), [...last, ended, GOES_ON]);
   assert.deepStrictEqual(await type("leap 1"), [`REDU ${size + 1} ${size - 1}.2 by 1`, "stopped limit", "% leap goes on"]);
 });
 
@@ -70,7 +73,7 @@ test("a slice that answers after ^C ends as a run of its own", AT_MOST, async ()
   const { front, type } = await begin([endless(), "--query", "p(0)"]), shown = type("leap 1000");
   while (!front.session.program.isBusy) await new Promise((resolve) => { setImmediate(resolve); });
   front.interrupt();
-  assert.deepStrictEqual((await shown).slice(-2), ["stopped limit", "% leap goes on"]);
+  assert.deepStrictEqual((await shown).slice(-3), ["stopped limit", "% leap goes on", GOES_ON]);
 });
 
 test("of a long run it is told that it goes on, and that ^C ends it", AT_MOST, async () => {
@@ -79,6 +82,6 @@ test("of a long run it is told that it goes on, and that ^C ends it", AT_MOST, a
   session.ask = async (line) => [...steps(Number(line.split(" ")[1])), "stopped limit"];
   front.note = (line) => notes.push(line);
   await front.runOn(250_000);
-  const goesOn = (count) => `${count} steps so far; ^C ends the run, and they stand`;
+  const goesOn = (count) => `${count} steps so far, the last of p/1; ^C ends the run, and they stand`;
   assert.deepStrictEqual(notes, ["100,000", "200,000"].map(goesOn));
 });
