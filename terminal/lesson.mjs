@@ -4,6 +4,7 @@ import path from "node:path";
 import { fileURLToPath } from "node:url";
 import { spawnSync } from "node:child_process";
 import { nativeProgram } from "../front/session/program.mjs";
+import { plain } from "./plain.mjs";
 import { Lesson } from "./lesson_played.mjs";
 
 const WRONG = 1, COMMAND_LINE = 2, DEVICE = 3; // statuses
@@ -39,8 +40,15 @@ async function main() {
   const text = textOf(file);
   if (text === undefined) return undefined;
   const lesson = new Lesson({ folder: path.dirname(file), draw, native: nativeProgram() });
+  for (const signal of ["SIGINT", "SIGTERM", "SIGHUP"]) {
+    process.once(signal, () => {
+      lesson.forget();
+      process.kill(process.pid, signal); // which ends it now as it ends others
+    });
+  }
   try {
-    process.stdout.write(await lesson.fill(text));
+    const filled = await lesson.fill(text);
+    process.stdout.write(process.stdout.isTTY ? filled.split("\n").map(plain).join("\n") : filled);
   } catch (error) {
     fail(`${file}: ${error.message}`, WRONG);
   }

@@ -4,6 +4,7 @@ import fs from "node:fs";
 import os from "node:os";
 import path from "node:path";
 import { queryOf } from "../front/text/query_comment.mjs";
+import { beginningOf, isFile } from "../front/session/files.mjs";
 import { Front } from "./front.mjs";
 import { MARK } from "./plain.mjs";
 
@@ -11,8 +12,9 @@ const FENCE = "```", OPENS = `${FENCE}ghcdb`;
 const FIRST = /^(program|query|file|picture) +(\S.*)$/, MORE = /^ {9}(.*)$/, TYPED = /^> ?(.*)$/;
 const BESIDE = "picture NAME.svg names a file beside the lesson";
 const NO_ITEM = "a block has lines \"program ..\", \"file ..\", \"query ..\", \"> ..\" and \"picture ..\"; this is none";
-const WRITES = /^[> ]*save +(?!1? *$)/; // `save FILE`
 const NO_FILE = "a lesson writes no file but its pictures: save alone shows the history";
+const MOST_BYTES = 1_048_577; // of a program: ghcdb reads one byte further to see that it is longer
+const SVG = "<svg"; // how a picture begins
 const PICTURE = /^[\w-]+\.svg$/;
 const GREETING = `${MARK}Flat GHC. help`; // how the line begins that a session begins with
 const PROGRAM = "program.ghc"; // what a program of the lesson's own is called in replies
@@ -56,6 +58,12 @@ function readLesson(text) {
   return [...parts, { lines: lines.slice(from) }];
 }
 
+/** May a picture be written there? A link could lead out of the folder, also one to no file yet. */
+function isOwn(place) {
+  const there = fs.lstatSync(place, { throwIfNoEntry: false });
+  return there === undefined || (there.isFile() && beginningOf(place, SVG.length).toString("latin1") === SVG);
+}
+
 class Lesson {
   /** `folder` is the lesson's, `draw(history, program, query)` gives a picture's text, `native` plays sessions. */
   constructor({ folder, draw, native }) {
@@ -77,8 +85,13 @@ class Lesson {
       return this.out.join("\n");
     } finally {
       await this.front?.session.program?.kill();
-      fs.rmSync(this.own, { recursive: true });
+      this.forget();
     }
+  }
+
+  /** Takes away what was written for it alone. */
+  forget() {
+    fs.rmSync(this.own, { recursive: true, force: true });
   }
 
   /** A block: what is shown stands between fences, but for pictures. */
@@ -111,9 +124,9 @@ class Lesson {
 
   play_file({ text, number }) {
     this.file = path.resolve(this.folder, text);
-    if (!fs.existsSync(this.file)) throw wrongAt(number, `there is no file ${text}`);
+    if (!isFile(this.file)) throw wrongAt(number, `there is no file ${text}`);
     this.take({ name: text, query: undefined });
-    const lines = fs.readFileSync(this.file, "utf8").split("\n").filter((line) => line !== "" && !line.startsWith("%"));
+    const lines = beginningOf(this.file, MOST_BYTES).toString("utf8").split("\n").filter((line) => line !== "" && !line.startsWith("%"));
     this.out.push(...lines);
   }
 
@@ -155,17 +168,18 @@ class Lesson {
     await this.begin();
     if (this.front === undefined) throw wrongAt(number, "a program and a query stand before what is typed");
     if (this.front.hasEnded) throw wrongAt(number, "the session has ended, so nothing can be typed");
-    if (WRITES.test(text)) throw wrongAt(number, NO_FILE);
+    let wantsFile = false;
+    this.front.saveInto = () => { wantsFile = true; };
     this.out.push(`> ${text}`);
     await this.front.answer(text);
+    if (wantsFile) throw wrongAt(number, NO_FILE);
   }
 
   async play_picture({ text, number }) {
     await this.begin();
     if (this.front === undefined || this.front.hasEnded) throw wrongAt(number, "there is no run to be drawn");
     const history = path.join(this.own, "run.history"), to = path.join(this.folder, text);
-    const isOther = fs.existsSync(to) && !fs.readFileSync(to, "latin1").startsWith("<svg");
-    if (isOther) throw wrongAt(number, `${text} is there, and is no picture`);
+    if (!isOwn(to)) throw wrongAt(number, `${text} is there, and is no picture`);
     await this.front.session.save(history);
     fs.writeFileSync(to, this.draw(history, this.file, this.query));
     this.out.push(FENCE, `![the run of ${this.query}](${text})`, FENCE);

@@ -68,13 +68,18 @@ const WRONG = [
     "line 4: a lesson writes no file but its pictures: save alone shows the history"],
   [["```ghcdb", PROGRAM, "query    p(1)", "picture  ../a.svg", "```"], "line 4: picture NAME.svg names a file beside the lesson"],
   [["```ghcdb", PROGRAM, "query    p(1)", "picture  text.svg", "```"], "line 4: text.svg is there, and is no picture"],
+  [["```ghcdb", PROGRAM, "query    p(1)", "picture  out.svg", "```"], "line 4: out.svg is there, and is no picture"],
+  [["```ghcdb", "file     pipe", "```"], "line 2: there is no file pipe"],
 ];
 
 test("a wrong lesson is told with its line, and nothing is written over", () => inFolder(async (folder) => {
   fs.writeFileSync(path.join(folder, "text.svg"), "a text\n");
+  fs.symlinkSync("../nowhere.svg", path.join(folder, "out.svg")); // a link out of the folder, to no file yet
+  spawnSync("mkfifo", [path.join(folder, "pipe")]);
   for (const [lines, message] of WRONG) await assert.rejects(filled(folder, lines), { message });
   assert.strictEqual(fs.readFileSync(path.join(folder, "text.svg"), "utf8"), "a text\n");
-  assert.deepStrictEqual(fs.readdirSync(folder), ["text.svg"]);
+  assert.deepStrictEqual(fs.readdirSync(folder), ["out.svg", "pipe", "text.svg"]);
+  assert.ok(!fs.existsSync(path.join(folder, "..", "nowhere.svg")));
 }));
 
 test("the command tells by its status what is wrong", () => inFolder((folder) => {
