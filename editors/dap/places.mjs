@@ -16,7 +16,7 @@ class Places {
     this.first = first;
     const found = COMMENT.exec(text);
     if (found === null || found[1] !== query) return;
-    const at = found.index + found[0].indexOf(query);
+    const at = found.index + found[0].length - query.length;
     this.query = { line: text.slice(0, at).split("\n").length, letter: at - text.lastIndexOf("\n", at - 1) };
   }
 

@@ -13,6 +13,15 @@ const PAUSE = 150; // milliseconds without a key, before a text is read
 const LONGEST = 1_048_576; // letters: a longer text is no program, and is not taken apart
 const MOST_SHOWN = 20; // clauses, when one points at a predicate
 
+const CONTROL = /[\u0000-\u0008\u000b-\u001f\u007f-\u009f]/g; // but tabs and line feeds
+
+/** A text of Markdown that is shown as it is: its fence is longer than any row of back quotes in it. */
+function fenced(text) {
+  const longest = (text.match(/`+/g) ?? []).reduce((most, { length }) => Math.max(most, length), 0);
+  const fence = "`".repeat(Math.max(3, longest + 1));
+  return `${fence}fghc\n${text}\n${fence}`;
+}
+
 /** An error that the editor hears of. */
 const told = (code, message) => Object.assign(new Error(message), { code });
 
@@ -200,7 +209,7 @@ class Server {
     const { about, clauses = [] } = this.clausesAt(given) ?? {}, left = clauses.length - MOST_SHOWN;
     if (clauses.length === 0) return null;
     const lines = [...clauses.slice(0, MOST_SHOWN).map(({ number, text }) => `% clause ${number}\n${text}`), ...(left > 0 ? [`% and ${left} more`] : [])];
-    const value = this.format === "markdown" ? `\`\`\`fghc\n${lines.join("\n")}\n\`\`\`` : lines.join("\n");
+    const shown = lines.join("\n").replace(CONTROL, "\ufffd"), value = this.format === "markdown" ? fenced(shown) : shown;
     return { contents: { kind: this.format, value }, range: rangeOf(about.token) };
   }
 }

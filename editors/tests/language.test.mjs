@@ -165,6 +165,9 @@ test("who points at a goal sees the clauses of its predicate", LIMIT, async () =
   const other = await opened("p(1).\n".repeat(22), { textDocument: { hover: { contentFormat: ["markdown", "plaintext"] } } });
   const { contents: { kind, value } } = await other.at("hover", URI, 0, 0);
   assert.deepStrictEqual([kind, value.split("\n").slice(0, 3), value.split("\n").slice(-2)], ["markdown", ["```fghc", "% clause 1", "p(1)."], ["% and 2 more", "```"]]);
+  const hostile = await opened("p(\u001b[31m) :-\n```\n| true.\n", { textDocument: { hover: { contentFormat: ["markdown"] } } });
+  const { contents } = await hostile.at("hover", URI, 0, 0);
+  assert.strictEqual(contents.value, "````fghc\n% clause 1\np(\ufffd[31m) :-\n```\n| true.\n````", "no escape, and within the fence");
 });
 
 test("each example is accepted, and none of its goals is without a clause", LIMIT, async () => {
