@@ -7,7 +7,7 @@ const { numbersOf, nameParts } = Printed, { readRecord } = Replies;
 const KINDS = ["reduce", "unify", "assign", "input", "close", "ask"];
 const MOST_WITH_IMPLIED = 3000; // steps; of a longer run it is not looked for which edges others imply
 const MOST_KEPT = 20000; // steps and lists of causes that are kept after they were read
-const NONE = -1, MOVED = 4096; // no index; steps that are moved up without a pause
+const NONE = -1; // no index
 const MADE = 0, READ = 1, NAMED = 2, WAYS = 3, WOKE = 4; // how a step depends on another one
 const WORDS = ["made", "read", "named"];
 
@@ -30,62 +30,6 @@ class Numbers {
 
   at(index) {
     return this.all[index];
-  }
-}
-
-const PARTS = 251; // a prime number, so that all parts grow alike
-const EMPTY = new Map(); // the parts in which nothing was put yet
-
-/** A map by numbers (and a few other keys) in many parts: a large one grows at once by a small part alone, and so never stands still for long. */
-class PartedMap {
-  constructor() {
-    this.parts = Array(PARTS).fill(EMPTY);
-    this.size = 0;
-  }
-
-  placeOf(key) {
-    return typeof key === "number" ? key % PARTS : 0;
-  }
-
-  get(key) {
-    return this.parts[this.placeOf(key)].get(key);
-  }
-
-  has(key) {
-    return this.parts[this.placeOf(key)].has(key);
-  }
-
-  set(key, value) {
-    const place = this.placeOf(key);
-    if (this.parts[place] === EMPTY) this.parts[place] = new Map();
-    const part = this.parts[place], before = part.size;
-    part.set(key, value);
-    this.size += part.size - before;
-  }
-
-  delete(key) {
-    if (this.parts[this.placeOf(key)].delete(key)) this.size -= 1;
-  }
-}
-
-const PIECE = 64; // numbers whose indexes stand side by side
-
-/** The indexes of steps by their numbers, in pieces: numbers far apart take no room between them. */
-class Indexes {
-  constructor() {
-    this.pieces = new Map();
-  }
-
-  /** The index of the step of a number; NONE where there is none. */
-  of(number) {
-    const piece = this.pieces.get(Math.floor(number / PIECE));
-    return piece === undefined ? NONE : piece[number % PIECE];
-  }
-
-  set(number, index) {
-    const place = Math.floor(number / PIECE);
-    if (!this.pieces.has(place)) this.pieces.set(place, new Int32Array(PIECE).fill(NONE));
-    this.pieces.get(place)[number % PIECE] = index;
   }
 }
 
@@ -120,8 +64,8 @@ function keyOfVariable(variable) {
 class RunGraph {
   constructor() {
     this.told = []; // for each step its line, or the step as it was given
-    this.indexes = new Indexes(); // by number
-    this.binders = new PartedMap(); // by variable
+    this.indexes = new Map(); // by number
+    this.binders = new Map(); // by variable
     this.queryConsumers = new Map(); // by place in the query
     this.kinds = new Numbers(Uint8Array);
     this.numbers = new Numbers(Float64Array); // of the step
@@ -160,7 +104,7 @@ class RunGraph {
   }
 
   indexOf(number) {
-    return this.indexes.of(number);
+    return this.indexes.get(number) ?? NONE;
   }
 
   /** The step at a place; undefined where there is none. */
@@ -320,58 +264,12 @@ class RunGraph {
     return ways;
   }
 
-  /**
-   * Takes steps away from anywhere: `to` tells for each index where its step stands then, or NONE; `first` is the first that goes. No step
-   * that stays depends on one that goes. All that comes later moves up; yields now and then.
-   */
-  *remove(to, first) {
-    for (let index = first; index < this.count; index++) {
-      if (index % MOVED === 0) yield index;
-      if (to[index] === NONE) this.forgetStep(index);
-    }
-    this.knownSteps.clear();
-    this.knownCauses.clear();
-    const end = this.count, perStep = [this.numbers, this.kinds, this.clauses, this.makers, this.places, this.depths];
-    let step = first, made = this.firstMade.at(first), edge = this.firstCause.at(first);
-    for (let index = first; index < end; index++) {
-      if (index % MOVED === MOVED - 1) yield index;
-      if (to[index] === NONE) continue;
-      const madeFrom = this.firstMade.at(index), madeTo = this.madeEnd(index), edgeFrom = this.firstCause.at(index), edgeTo = this.causeEnd(index);
-      for (const list of perStep) list.all[step] = list.at(index);
-      this.told[step] = this.told[index];
-      this.indexes.set(this.numbers.at(step), step);
-      this.firstMade.all[step] = made;
-      for (let at = madeFrom; at < madeTo; at++) this.consumers.all[made++] = this.consumers.at(at);
-      this.firstCause.all[step] = edge;
-      for (let at = edgeFrom; at < edgeTo; at++, edge++) {
-        this.from.all[edge] = to[this.from.at(at)];
-        this.to.all[edge] = step;
-        this.hows.all[edge] = this.hows.at(at);
-      }
-      this.deepest.all[step] = Math.max(this.depths.at(step), step > 0 ? this.deepest.at(step - 1) : 0);
-      step += 1;
-    }
-    this.shorten(step, made, edge);
-    yield* this.moveConsumers(to, first);
-    yield* this.chainEffects();
-  }
-
-  /** Moves up the steps that consumed goals, from the first on that goes. */
-  *moveConsumers(to, first) {
-    const { all, length } = this.consumers;
-    for (let at = 0; at < length; at++) {
-      if (at % MOVED === 0) yield at;
-      if (all[at] >= first) all[at] = to[all[at]];
-    }
-    for (const [place, index] of this.queryConsumers) this.queryConsumers.set(place, to[index]);
-  }
-
   /** Forgets what a step bound and consumed, and its number. */
   forgetStep(index) {
     const step = this.stepAt(index);
     for (const binding of step.binds) this.binders.delete(keyOfVariable(binding.variable));
     this.setConsumer(step, NONE);
-    this.indexes.set(step.number, NONE);
+    this.indexes.delete(step.number);
   }
 
   shorten(steps, made, edges) {
@@ -380,16 +278,6 @@ class RunGraph {
     for (const list of [this.from, this.to, this.effectBefore, this.hows]) list.length = edges;
     this.consumers.length = made;
     this.changed();
-  }
-
-  /** Chains the edges of each step's consequences anew. */
-  *chainEffects() {
-    this.lastEffect.all.fill(NONE, 0, this.count);
-    for (let edge = 0; edge < this.from.length; edge++) {
-      if (edge % MOVED === 0) yield edge;
-      this.effectBefore.all[edge] = this.lastEffect.at(this.from.at(edge));
-      this.lastEffect.all[this.from.at(edge)] = edge;
-    }
   }
 
   /** Takes the last step away. No step that stays depends on it. */
@@ -504,4 +392,4 @@ function tidyOrder(graph, laneOf) {
   return order;
 }
 
-export { graphOf, partOf, tidyOrder, RunGraph, causesReached, dependents, effectsReached, keyOfGoal, PartedMap, NONE };
+export { graphOf, partOf, tidyOrder, RunGraph, causesReached, dependents, effectsReached, keyOfGoal, NONE };

@@ -6,7 +6,7 @@ import { NO_WAITS } from "./arcs.mjs";
 
 const between = (least, value, most) => Math.max(least, Math.min(value, most));
 const MOST_CLEAR_ROWS = 5;
-const PART = 64, MANY = 1024; // what is put in, and what is moved, between two places where one may pause
+const PART = 64, MANY = 1024; // what is put in, and what is taken away, between two places where one may pause
 const MOST_ARC_COLUMNS = 6; // columns of arcs for which room is kept
 const NARROW = 600; // the room below which names are short, and stand above their lanes where the picture is not made to fit
 const LEAST_LEFT = 22; // points beside the first step where names stand above
@@ -22,7 +22,7 @@ const named = new WeakMap();
 
 /** Finds goals by their names, once for each list of goals; yields now and then. */
 function* gatherNames(goals) {
-  const byKey = new Graph.PartedMap();
+  const byKey = new Map();
   for (const [at, goal] of goals.entries()) {
     if (at % PART === 0) yield at;
     byKey.set(keyOfName(goal.name), goal);
@@ -40,7 +40,7 @@ function goalsByKey(goals) {
 class GoalKinds {
   constructor(run) {
     this.run = run;
-    this.there = new Graph.PartedMap();
+    this.there = new Map();
   }
 
   /** The kind of a goal that is there, by its key. */
@@ -165,60 +165,6 @@ class RunLanes {
     }
   }
 
-  /**
-   * Takes away what came with steps from anywhere, before the graph does: `to` tells for each index where its step stands then, or NONE.
-   * Gives the lanes that stay and had such a step; yields now and then.
-   */
-  *remove(graph, to, first) {
-    const touched = new Set();
-    let step = first, made = graph.firstMade.at(first);
-    for (let index = first; index < this.ofStep.length; index++) {
-      if (index % MANY === 0) yield index;
-      if (to[index] === Graph.NONE) {
-        touched.add(this.ofStep[index]);
-        this.ofStep[index].count -= 1;
-      } else {
-        for (let at = graph.firstMade.at(index); at < graph.madeEnd(index); at++) this.ofMade[made++] = this.ofMade[at];
-        this.ofStep[step++] = this.ofStep[index];
-      }
-    }
-    this.ofStep.length = step;
-    this.ofMade.length = made;
-    yield* this.moveLanes(to);
-    return touched;
-  }
-
-  /** Takes away the lanes that began with steps that go, and moves up the indexes that the others have; yields now and then. */
-  *moveLanes(to) {
-    let kept = 0;
-    for (let at = 0; at < this.lanes.length; at++) {
-      if (at % MANY === 0) yield at;
-      const lane = this.lanes[at];
-      if (lane.bornAt >= 0 && to[lane.bornAt] === Graph.NONE) {
-        this.ring.takeOut(lane);
-      } else {
-        moveUp(lane, to);
-        this.lanes[kept++] = lane;
-      }
-    }
-    this.lanes.length = kept;
-    this.isNumbered = false;
-  }
-
-  /** Finds anew which predicates some lanes were; yields now and then. */
-  *nameAnew(lanes, graph, kinds) {
-    let count = 0;
-    for (const lane of lanes) {
-      if (count++ % MANY === 0) yield count;
-      lane.predicates = [];
-      lane.since = [];
-    }
-    for (let index = 0; lanes.size > 0 && index < this.ofStep.length; index++) {
-      if (index % MANY === 0) yield index;
-      if (lanes.has(this.ofStep[index]) && graph.makers.at(index) !== Graph.NONE) notePredicate(this.ofStep[index], kinds.ofConsumer(index), index);
-    }
-  }
-
   /** Gives the next step its lane, and the goals that it made theirs: its own process goes on, small goals stay with it, other calls begin lanes beside it. */
   add(graph, kinds) {
     const index = this.ofStep.length, maker = graph.makers.at(index), place = graph.places.at(index);
@@ -257,12 +203,6 @@ class RunLanes {
     }
     this.isNumbered = true;
   }
-}
-
-/** Puts the places where steps stand now into a lane. */
-function moveUp(lane, to) {
-  if (lane.bornAt >= 0) lane.bornAt = to[lane.bornAt];
-  for (let at = 0; at < lane.since.length; at++) lane.since[at] = to[lane.since[at]];
 }
 
 /**
@@ -475,7 +415,7 @@ const taken = new WeakMap(); // by lists of steps that were taken back: those of
 
 /** Finds the steps that were taken back from each of some goals; yields now and then. */
 function* gatherTaken(shelf, goals) {
-  const there = goalsByKey(goals), byGoal = new Graph.PartedMap();
+  const there = goalsByKey(goals), byGoal = new Map();
   for (const [at, step] of shelf.entries()) {
     if (at % PART === 0) yield at;
     const key = step.goal === null ? null : keyOfName(step.goal);

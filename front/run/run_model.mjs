@@ -5,7 +5,7 @@ import * as Lanes from "./lanes.mjs";
 import * as Replies from "../protocol/replies.mjs";
 import * as Clauses from "../text/clauses.mjs";
 
-const PART = 64, MANY = 4096; // lines that are read, and steps that are moved, between two places where the reader may pause
+const PART = 64, MANY = 4096; // lines that are read, and steps that are looked at, between two places where the reader may pause
 
 class RunModel {
   constructor(program, query = "") {
@@ -76,32 +76,17 @@ class RunModel {
     }
   }
 
-  /** Takes steps away, on which no step that stays depends. */
+  /** Takes steps away, on which no step that stays depends: all from the first of them on go, and those that stay come again. */
   *takeAway(numbers) {
-    const { graph, lanes } = this, to = new Int32Array(graph.count), first = yield* this.markGone(numbers, to);
-    if (first === graph.count - numbers.length) {
-      yield* this.cut(first);
-      return;
-    }
-    for (let index = 0, next = 0; index < to.length; index++) {
+    const { graph } = this, gone = new Set(numbers), lines = [];
+    let first = graph.count;
+    for (let left = gone.size; left > 0 && first > 0; first--) if (gone.has(graph.numbers.at(first - 1))) left -= 1;
+    for (let index = first; index < graph.count; index++) {
       if (index % MANY === 0) yield index;
-      if (to[index] !== Graph.NONE) to[index] = next++;
+      if (!gone.has(graph.numbers.at(index))) lines.push(graph.told[index]);
     }
-    const touched = yield* lanes.remove(graph, to, first);
-    yield* graph.remove(to, first);
-    yield* lanes.nameAnew(touched, graph, new Lanes.GoalKinds(this));
-  }
-
-  /** Puts NONE into the places of the steps of some numbers; gives the first of these places. */
-  *markGone(numbers, to) {
-    let first = to.length;
-    for (let at = 0; at < numbers.length; at++) {
-      if (at % MANY === 0) yield at;
-      const index = this.graph.indexOf(numbers[at]);
-      to[index] = Graph.NONE;
-      first = Math.min(first, index);
-    }
-    return first;
+    yield* this.cut(first);
+    yield* this.add(lines);
   }
 }
 
