@@ -56,6 +56,7 @@ class Front {
     this.stoppedAt = undefined; // the spied goal at which the last run stopped, and the number of changes then
     this.patterns = new Patterns(); // to which spied goals are narrowed
     this.question = undefined; // what is done after `y`
+    this.isShort = false; // did a run stop since Node has little memory left?
     this.displayed = []; // the variables that are shown after each run and step
     this.trying = undefined; // what tries other choices
   }

@@ -169,7 +169,7 @@ class Lesson {
     if (this.front === undefined) throw wrongAt(number, "a program and a query stand before what is typed");
     if (this.front.hasEnded) throw wrongAt(number, "the session has ended, so nothing can be typed");
     let wantsFile = false;
-    this.front.saveInto = () => { wantsFile = true; };
+    this.front.saveInto = async () => { wantsFile = true; };
     this.out.push(`> ${text}`);
     await this.front.answer(text);
     if (wantsFile) throw wrongAt(number, NO_FILE);

@@ -56,6 +56,12 @@ const goTo = (number, words = String(number)) => link({ "data-goto": number, tit
 /** The name of a goal as a link: a click chooses that goal, and opens what can be done with it. */
 const goToGoal = (name) => link({ "data-go-goal": name, title: `goes to goal ${name}` }, name);
 
+/** Words in parts as elements, in which steps and goals are links. */
+const elementsOf = (parts) => parts.map((part) => {
+  if (typeof part === "string") return part;
+  return part.step !== undefined ? goTo(part.step) : part.goal !== undefined ? goToGoal(part.goal) : part.variable;
+});
+
 /** A line of a reply, with the number of its step, or the name of its goal, as a link. */
 function linkedLine(line) {
   const named = Replies.namedIn(line);
@@ -94,6 +100,6 @@ function fillRows(name, rows) {
 }
 
 export {
-  keepFocus, find, make, lineButton, buttons, closeButton, joined, ringing, withCode, link, goTo, goToGoal, linkedLine,
+  keepFocus, find, make, lineButton, buttons, closeButton, joined, ringing, withCode, link, goTo, goToGoal, elementsOf, linkedLine,
   fillRows,
 };

@@ -1,11 +1,11 @@
 // Fills what stands around the picture: console, goals, store, what was taken back, the chosen step, and how many there are.
 import * as Replies from "../front/protocol/replies.mjs";
-import * as Explain from "../front/run/explain.mjs";
 import * as GoingOn from "../front/run/going_on.mjs";
+import { FAILED } from "../front/run/reasons.mjs";
 import * as Terms from "../front/run/terms.mjs";
 import { plural } from "../front/text/plural.mjs";
 import Deeds from "./deeds.mjs";
-import { find, make, lineButton, joined, withCode, link, goTo, linkedLine, fillRows, keepFocus } from "./elements.mjs";
+import { find, make, lineButton, joined, withCode, link, goTo, elementsOf, linkedLine, fillRows, keepFocus } from "./elements.mjs";
 import { withGoalText } from "./goal_texts.mjs";
 import * as Names from "./names.mjs";
 import * as Outcome from "./outcome.mjs";
@@ -144,11 +144,9 @@ function showDetail(chosen) {
 
 /** Why a goal has failed, with links to the steps that brought it there. */
 function tellFailure(goal) {
-  const { words, binders } = Explain.failureOf(State.run, goal);
-  const bound = binders.flatMap(({ variable, term, step }) => ["Step ", goTo(step), " bound ", make("code", null, `${variable} = ${Terms.cut(term, 60)}`), ". "]);
-  const why = State.run.whyFailed.map((line) => make("div", { class: "hint" }, line));
+  const why = State.run.whyFailed.map((line) => make("div", { class: "hint" }, ...elementsOf(line)));
   const finding = lineButton("Find the wrong clause", `blame ${goal.name}`, { class: "small" });
-  const said = [`Goal ${goal.name} has failed: `, ...withCode(words), ". ", ...why, ...bound];
+  const said = [`Goal ${goal.name} has failed: ${FAILED[goal.refusal] ?? goal.refusal}. `, ...why];
   return [...said, "Take back a step that it read, and it may be ready again. ", finding];
 }
 
@@ -213,9 +211,9 @@ function limitParts() {
   const latest = Array.from({ length: Math.min(count, GoingOn.MOST) }, (none, at) => taken.at(count - 1 - at));
   const lone = GoingOn.loneClause(latest, clauses), more = RUN.toLocaleString("en");
   const stopped = `The run stopped after ${steps}, and is not at its end: Run takes up to ${more} more.`;
-  const clauseOf = ({ clause }) => link({ "data-clause": clause, title: "lights its steps" }, `clause ${clause}`);
-  const all = lone === undefined ? [] : GoingOn.partsOf(lone);
-  return [stopped, ...all.map((part) => (part.clause ? clauseOf(part) : part.replace("the last", " The last")))];
+  if (lone === undefined) return [stopped];
+  const [before, after] = GoingOn.wordsAbout(lone), named = link({ "data-clause": lone.number, title: "lights its steps" }, String(lone.number));
+  return [stopped, before.replace("the", " The"), named, after];
 }
 
 /** What is said of the run as it stands: a failure, a circle, who waits for what. */

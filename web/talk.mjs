@@ -2,7 +2,8 @@
 // session lives in a worker, so that the page goes on meanwhile; what a line leads to comes later, and is read in slices of time.
 import * as Asking from "../front/protocol/asking.mjs";
 import { NO_WAITS, arcsAmong } from "../front/run/arcs.mjs";
-import { whyFailed } from "../front/run/reasons.mjs";
+import { failedParts } from "../front/run/reasons.mjs";
+import Run from "../front/run/run.mjs";
 import { whyAtEnd } from "../front/run/waits.mjs";
 import RunModel from "../front/run/run_model.mjs";
 import * as Reader from "../front/text/reader.mjs";
@@ -45,6 +46,13 @@ function* linesOf(bytes) {
   }
 }
 
+const MOST_READ = 3000; // steps; of a longer run no goal's text is worked out
+
+/** The run as a terminal looks at it. */
+function lookAt({ clauses, query, graph, texts }) {
+  return graph.count > MOST_READ ? { goalOf: () => undefined } : Run.ofSteps(clauses, query, graph.steps, texts);
+}
+
 /**
  * The session, as those know it who ask it alone; that of its first steps where their `count` is told. A stop throws.
  */
@@ -53,6 +61,7 @@ function sessionAt(count = null) {
   return {
     variables: [...Asking.queryVariables(query).keys()], kept: { steps: { size: count ?? graph.count }, texts },
     get clauses() { return Reader.readProgram(program); },
+    look: async () => lookAt({ clauses: Reader.readProgram(program), query, graph, texts }),
     goalsTold: async () => goals,
     goalNamed: async (name) => goals.find((goal) => goal.name === name),
     ask: async (line) => (await inquire("ask", { line, count })).reply,
@@ -62,8 +71,7 @@ function sessionAt(count = null) {
 /** Asks why nothing goes on, where that is so, why a goal has failed, and who waits for whom. */
 async function askWaits(run) {
   const session = sessionAt(), failed = run.goals.find(({ status }) => status === "failed");
-  const isPlain = failed === undefined || failed.refusal === "F11";
-  run.whyFailed = isPlain ? [] : await whyFailed(session, failed.name, failed.refusal);
+  run.whyFailed = failed === undefined ? [] : await failedParts(session, failed.name, failed.refusal);
   run.why = run.goalsRefused ? [] : await whyAtEnd(session, run.goals);
   run.waits = run.goalsRefused ? NO_WAITS : await arcsAmong(session, run.goals, run.why);
 }

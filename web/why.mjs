@@ -3,7 +3,7 @@
 import * as Effects from "../front/protocol/effects.mjs";
 import * as Replies from "../front/protocol/replies.mjs";
 import * as WhyNotLines from "../front/protocol/why_not_lines.mjs";
-import { make, lineButton, buttons, closeButton, goTo, goToGoal } from "./elements.mjs";
+import { make, lineButton, buttons, closeButton, elementsOf } from "./elements.mjs";
 import * as Names from "./names.mjs";
 import State from "./state.mjs";
 import * as WhyWords from "./why_words.mjs";
@@ -11,12 +11,6 @@ import * as WhyWords from "./why_words.mjs";
 const MOST_ROWS = 40;
 
 const known = () => ({ run: State.run, texts: Names.now().run });
-
-/** Words as elements, in which steps and goals are links. */
-function elementsOf(words) {
-  const link = ({ step, goal }) => (step === undefined ? goToGoal(goal) : goTo(step));
-  return words.map((part) => (typeof part === "string" ? part : link(part)));
-}
 
 /** What a run lacks that goes on no more, by its first cause, with the way to all that is told of it. */
 function inShort({ subject, told }) {

@@ -286,7 +286,7 @@ test("a value that is too long to be told is shown by its beginning", () => sess
   assert.match(values.X, /^\[b,f\(f\(f\(.*…/);
   assert.match((await client.ask("evaluate", { expression: "R", context: "watch" })).result, /^f\(f\(f\(.*…$/);
   await client.type("ask R = g(1)");
-  assert.match(await client.type("step 42.1"), /F11 clash\nf\(f\(f\(.*… and g\(1\)\n_0_1 \(R of the query\) was bound by step 41; explain _0_1 tells why$/);
+  assert.match(await client.type("step 42.1"), /F11 clash\nf\(f\(f\(.*… and g\(1\) are two different things\n_0_1 \(R of the query\) was bound by step 41; explain _0_1 tells why$/);
 }));
 
 test("goals that wait for an input stream are told so", () => session(async (client) => {

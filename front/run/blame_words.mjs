@@ -6,12 +6,10 @@ import * as Print from "../text/print.mjs";
 import { inOneLine } from "../text/clauses.mjs";
 import * as Printed from "../text/printed.mjs";
 import { WIDEST, cut, namesIn, termOf } from "./named.mjs";
-import { plural, some, whyFailed, whyWaits, hasConsequences } from "./reasons.mjs";
+import { FAILED, plural, some, whyFailed, whyWaits, hasConsequences } from "./reasons.mjs";
 import Run from "./run.mjs";
 
 const WIDEST_VALUE = 80, WIDEST_CLAUSE = 120, WHOLE_CLAUSE = 2000; // letters of a value and of a clause that are shown
-
-const WHY_FAILED = { F10: "no clause takes it (F10)", F11: "its two sides are different things (F11)", F12: "a value would hold itself (F12)", F13: "it has no value (F13)" };
 
 /** A call, and what it gave, in words with the names of variables: `call` and `gave`, the latter nothing where it is not told. */
 function callIn(run, { given, gave }) {
@@ -27,7 +25,7 @@ function callIn(run, { given, gave }) {
 
 /** How a goal stands, in words. */
 function standingWords(session, { status, waitsFor, refusal }) {
-  if (status === "failed") return `has failed: ${WHY_FAILED[refusal] ?? refusal}`;
+  if (status === "failed") return `has failed: ${FAILED[refusal] ?? refusal}`;
   return status === "waits" ? `waits for ${waitsFor.map((variable) => session.run.labelOf(variable)).join(", ")}` : "was not stepped yet";
 }
 

@@ -19,17 +19,17 @@ function loneClause(numbers, clauses) {
   return count < LEAST || clause === undefined ? undefined : { number: lone, count, predicate: clause.predicate };
 }
 
-/** In parts: words, and the clause's number. */
-const partsOf = ({ number, count, predicate }) =>
-  [`the last ${count} reductions all went by `, { clause: number }, `, of ${predicate}: should another one have ended it?`];
+/** In words about the clause's number: those before it, and those after it. */
+const wordsAbout = ({ count, predicate }) =>
+  [`the last ${count} reductions all went by clause `, `, of ${predicate}: should another one have ended it?`];
 
 /** The clauses of the last steps that lines tell, the last one first. */
 const latestIn = (lines) => lines.slice(-MOST).reverse().map((line) => readTaken(line)?.clause ?? 0);
 
-/** The same as lines, of the reply to a run. */
+/** The words as lines, of the reply to a run. */
 function wordsOf(reply, clauses) {
-  const lone = loneClause(latestIn(reply.slice(0, -1)), clauses), join = (part) => (part.clause ? `clause ${part.clause}` : part);
-  return lone === undefined ? [] : [partsOf(lone).map(join).join("")];
+  const lone = loneClause(latestIn(reply.slice(0, -1)), clauses);
+  return lone === undefined ? [] : [wordsAbout(lone).join(String(lone.number))];
 }
 
 /** Which predicates the last steps were of that lines tell, as `count/2, show/1`. */
@@ -38,4 +38,4 @@ function predicatesIn(lines, clauses) {
   return some([...new Set([...numbers].map((number) => clauses[number - 1]?.predicate))]).join(", ");
 }
 
-export { MOST, loneClause, partsOf, predicatesIn, wordsOf };
+export { MOST, loneClause, predicatesIn, wordsAbout, wordsOf };

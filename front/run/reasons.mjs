@@ -1,10 +1,12 @@
 // Why something stands as it does, in words: a goal that waits or failed, a clause that says no, a step others rest on.
+// Why a goal has failed is told in parts, as front/run/in_words.mjs has them: page and terminal tell the same.
 import * as Print from "../text/print.mjs";
 import * as Printed from "../text/printed.mjs";
 import * as Reader from "../text/reader.mjs";
 import { plural } from "../text/plural.mjs";
 import Refusals from "../protocol/refusals.mjs";
 import * as Replies from "../protocol/replies.mjs";
+import { inWords } from "./in_words.mjs";
 import { cut, termOf } from "./named.mjs";
 import Run from "./run.mjs";
 import { buildingLines, lineOf, waitsOf } from "./waits.mjs";
@@ -12,6 +14,11 @@ import { buildingLines, lineOf, waitsOf } from "./waits.mjs";
 const MOST = 12; // lines of a kind that it tells
 const WIDEST = 60; // letters of a term or a side that are shown
 const MOST_LOOKED = 200_000; // kept steps: of a longer run not all that depends on a step is looked for
+
+const FAILED = {
+  F10: "no clause takes it (F10)", F11: "its two sides are different things (F11)",
+  F12: "a value would hold itself (F12)", F13: "it has no value (F13)",
+};
 
 const some = (words) => (words.length > MOST ? [...words.slice(0, MOST), ".."] : words);
 
@@ -72,7 +79,8 @@ function boundVariable(run, term) {
 /** Which steps had bound the two sides of what could not be made equal. */
 function boundBefore(run, goal) {
   const variables = [goal.left, goal.right].map((term) => boundVariable(run, term)).filter((variable) => variable !== undefined);
-  return [...new Set(variables)].map((variable) => `${run.labelOf(variable)} was bound by step ${run.binders.get(variable)}; explain ${variable} tells why`);
+  return [...new Set(variables)].map((variable) =>
+    [{ variable, label: run.labelOf(variable) }, " was bound by step ", { step: run.binders.get(variable) }, `; explain ${variable} tells why`]);
 }
 
 /** What could not be made equal. */
@@ -80,7 +88,7 @@ async function whyUnequal(session, name) {
   const run = await session.look(), goal = run.goalOf(name);
   if (goal?.right === undefined) return [];
   const [left, right] = [goal.left, goal.right].map((term) => shown(term, run.shown));
-  return [`${left} and ${right}`, ...boundBefore(run, goal)];
+  return [[`${left} and ${right} are two different things`], ...boundBefore(run, goal)];
 }
 
 /** What could not be computed: which of these the console does not tell. */
@@ -104,11 +112,13 @@ async function hasConsequences(session, [word]) {
   return [`${takesAll}: ${some(all).join(",")}${all.length > MOST ? ` (${all.length} steps)` : ""}`];
 }
 
-/** Why a goal has failed. */
-async function whyFailed(session, name, refusal) {
-  if (refusal === "F10") return whyNoClause(session, name);
+/** Why a goal has failed: lines, each in parts. */
+async function failedParts(session, name, refusal) {
   if (refusal === "F11") return whyUnequal(session, name);
-  return refusal === "F13" ? whyNoValue(session, name) : [Refusals[refusal]];
+  const lines = refusal === "F10" ? whyNoClause(session, name) : refusal === "F13" ? whyNoValue(session, name) : [Refusals[refusal]];
+  return (await lines).map((line) => [line]);
 }
 
-export { MOST, plural, some, labelOf, whyNo, whyTheySayNo, whyNoClause, whyWaits, whyFailed, hasConsequences };
+const whyFailed = async (...asked) => (await failedParts(...asked)).map(inWords);
+
+export { FAILED, MOST, failedParts, plural, some, labelOf, whyNo, whyTheySayNo, whyNoClause, whyWaits, whyFailed, hasConsequences };

@@ -284,12 +284,14 @@ def test_launcher_gives_a_terminal_the_front(home):
 
 def test_words_that_begin_no_session(home):
     environment = {"HOME": home, "COLUMNS": "220", "GHCDB_QUIET": "1"}
-    for words, why in (
-        ([], "ghcdb: a program and a query are wanted, as bill.ghc --query 'bill(12,3,T)'; --help lists the options"),
-        (["nofile.ghc"], "ghcdb: there is no file nofile.ghc"),
-        (["README.md"], "ghcdb: README.md has no comment `% Query: GOALS`: --query GOALS is wanted"),
-    ):
-        terminal = Terminal([str(ROOT / "ghcdb"), *words], environment, folder=ROOT)
+    wanted = "ghcdb: a program and a query are wanted, as bill.ghc --query 'bill(12,3,T)'; --help lists the options"
+    lacking = {
+        "": wanted,
+        "nofile.ghc": "ghcdb: there is no file nofile.ghc",
+        "README.md": "ghcdb: README.md has no comment `% Query: GOALS`: --query GOALS is wanted",
+    }
+    for word, why in lacking.items():
+        terminal = Terminal([str(ROOT / "ghcdb"), *filter(None, [word])], environment, folder=ROOT)
         wants(why in terminal.start and terminal.status == 2, f"{terminal.start} {terminal.status}")
 
 

@@ -61,20 +61,6 @@ test("on every run each part of each value of the query is what `show` tells, an
   assert.ok(parts > 1000, `${parts} parts`);
 });
 
-test("the first pair of parts in which two terms differ", () => {
-  assert.deepEqual(Explain.clashOf("f(X,[1,2])", "f(X,[1,3])"), ["2", "3"]);
-  assert.deepEqual(Explain.clashOf("[7]", "[2|_1_1]"), ["7", "2"]);
-  assert.deepEqual(Explain.clashOf("[]", "[2|_1_1]"), ["[]", "[2|_1_1]"]);
-  assert.equal(Explain.clashOf("f(_0_1)", "f(3)"), null);
-});
-
-test("a goal that has failed tells what clashed, and which step bound it", async () => {
-  const { run } = await runFor("append", "append([1],[2],R)", ["step 0.1", "ask _1_1 = [7]", "step 2.1", "step 1.2"]);
-  const failed = run.goals.find((goal) => goal.status === "failed"), { words, binders } = Explain.failureOf(run, failed);
-  assert.match(words, /`7` and `2` are two different things \(F11, a clash\)|`2` and `7` are two different things \(F11, a clash\)/);
-  assert.deepEqual(binders, [{ variable: "_1_1", term: "[7]", step: 3 }]);
-});
-
 test("steps are found by number, predicate, variable and value", async () => {
   const { run } = await runFor("primes", "primes(12,Ps)", ["leap"]);
   const found = (text) => {

@@ -2,10 +2,9 @@
 import assert from "node:assert/strict";
 import test from "node:test";
 import * as Asking from "../../front/protocol/asking.mjs";
-import * as Explain from "../../front/run/explain.mjs";
 import * as Graph from "../../front/run/graph.mjs";
 import { engineOfPage } from "../../front/session/engine_of_page.mjs";
-import { askedRun, eachPlay } from "./lib/runs.mjs";
+import { askedRun, eachPlay, writtenText } from "./lib/runs.mjs";
 import * as Clauses from "../../front/text/clauses.mjs";
 import * as Printed from "../../front/text/printed.mjs";
 import * as Replies from "../../front/protocol/replies.mjs";
@@ -136,7 +135,7 @@ test("the goals' texts that a run does not tell are those that single steps tell
       for (const goal of [step.goal, ...step.makes]) assert.ok(goal === null || run.texts.has(goal) || run.goals.some((one) => one.name === goal), `${play.name}, goal ${goal}`);
     }
     for (const goal of run.goals) {
-      const text = Explain.writtenText(run, goal.name);
+      const text = run.texts.get(goal.name) ?? writtenText(run, goal.name);
       assert.equal(Printed.sortOfText(text), goal.sort, `${play.name}, goal ${goal.name}`);
       if (goal.sort === "call") assert.equal(Printed.predicateOf(text), Printed.predicateOf(goal.text), `${play.name}, goal ${goal.name}`);
     }

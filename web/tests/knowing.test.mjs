@@ -2,7 +2,6 @@
 import assert from "node:assert/strict";
 import test from "node:test";
 import * as Asking from "../../front/protocol/asking.mjs";
-import * as Explain from "../../front/run/explain.mjs";
 import * as Graph from "../../front/run/graph.mjs";
 import * as Reader from "../../front/text/reader.mjs";
 import RunModel from "../../front/run/run_model.mjs";
@@ -10,7 +9,7 @@ import Told from "../../front/protocol/told.mjs";
 import WorkerSide from "../../front/session/worker_side.mjs";
 import { engineOfPage } from "../../front/session/engine_of_page.mjs";
 import { QUERIES, programOf, chance, plainGraph, lineByChance, follow } from "./lib/chance.mjs";
-import { eachPlay } from "./lib/runs.mjs";
+import { eachPlay, writtenText } from "./lib/runs.mjs";
 import * as Replies from "../../front/protocol/replies.mjs";
 
 const LINES = 25, SEEDS = 2;
@@ -143,21 +142,12 @@ test("the page follows `keep` of a value and of a goal", async () => {
   }
 });
 
-test("why a goal has failed is found in the program's text and the record, where no line has told the goal's text", async () => {
-  const { engine } = await engineOfPage(), program = "p(X,Y) :- true | X = a, Y = X, q(Y).\nq(Y) :- true | Y = b.\n", side = new WorkerSide(engine), model = new RunModel(program, "p(X,Y)");
-  follow(model, side.open({ given: { program, query: "p(X,Y)", history: "" } }).look);
-  follow(model, side.lines({ lines: ["leap"] }).look);
-  const failed = model.goals.find((goal) => goal.status === "failed"), { words, binders } = Explain.failureOf(model, failed);
-  assert.match(words, /two different things/);
-  assert.ok(!model.texts.has(failed.name) && binders.length > 0 && binders.every(({ variable, step }) => model.graph.binderOf(variable) === step));
-});
-
 test("the texts of goals that are worked out are those that the console tells", async () => {
   let compared = 0;
   await eachPlay((play, session, run) => {
     if (play.lines.some((line) => /^ *(in|ask|undo|roll|redo|arrange) /.test(line)) || run.graph.count > 400) return;
     for (const step of run.graph.steps) {
-      assert.equal(Explain.writtenText({ ...run, texts: new Map() }, step.goal), run.texts.get(step.goal), `${play.name}, goal ${step.goal}`);
+      assert.equal(writtenText(run, step.goal) || undefined, run.texts.get(step.goal), `${play.name}, goal ${step.goal}`);
       compared += 1;
     }
   });

@@ -27,7 +27,7 @@ inBrowsers("a refusal stands above the picture, also on a phone, and its step is
 
 inBrowsers("a failed goal tells what clashed and which step bound it; an error in the program is scrolled into sight with its line", async (page) => {
   await open(page, FAILED, WIDE);
-  assert.match(await page.value(text("note")), /^Goal 4\.1 has failed: (2 and 7|7 and 2) are two different things \(F11, a clash\)\. Step 3 bound Z1₁ = \[7\]\. Take back/);
+  assert.match(await page.value(text("note")), /^Goal 4\.1 has failed: its two sides are different things \(F11\)\. \[7\] and \[2\S*\] are two different things ?Z1₁ was bound by step 3; explain Z1₁ tells why ?Take back/);
   await page.click("#note [data-goto]");
   assert.deepEqual(await page.value("Canvas.chosen"), { step: 3 });
   const program = `${"p(a) :- true | true.\n".repeat(40)}p(b) :- true | q(.\n`;

@@ -129,14 +129,14 @@ CLASH = [
         "step 1.2",
         "=REDU 3 1.2 eq",
         "=% 1.3 has failed: F11",
-        "=% 1 and 2",
+        "=% 1 and 2 are two different things",
         "=% _1_1 was bound by step 3; explain _1_1 tells why",
     ),
     ("leap", "=stopped clash 1.3", "=% 1 = 2 has failed: F11", "=% _1_1 was bound by step 3; explain _1_1 tells why"),
     ("ask T := 2 + 3", "REDU 4"),
-    ("step 4.1", "=F11 clash", "=% 1 and 2 + 3", "=% _1_1 was bound by step 3; explain _1_1 tells why"),
+    ("step 4.1", "=F11 clash", "=% 1 and 2 + 3 are two different things", "=% _1_1 was bound by step 3; explain _1_1 tells why"),
     ("ask f(T) = f(2)", "REDU 5"),
-    ("step 5.1", "=F11 clash", "=% f(1) and f(2)"),
+    ("step 5.1", "=F11 clash", "=% f(1) and f(2) are two different things"),
 ]
 
 # Who is to blame for a wrong value: questions, answers, what was taken back, trust, the verdict.

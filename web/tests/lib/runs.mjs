@@ -10,6 +10,8 @@ import * as Graph from "../../../front/run/graph.mjs";
 import * as SessionText from "../../../front/protocol/session_text.mjs";
 import { engineOfPage } from "../../../front/session/engine_of_page.mjs";
 import * as Replies from "../../../front/protocol/replies.mjs";
+import * as Reader from "../../../front/text/reader.mjs";
+import Run from "../../../front/run/run.mjs";
 
 const HERE = path.dirname(fileURLToPath(import.meta.url));
 
@@ -81,4 +83,9 @@ function askedRun() {
   return { graph: Graph.graphOf(steps), goals, shelf: Replies.readShelf(["7 - ask append(_6_1,[],_7_1)"]), texts, clauses: Clauses.clausesOf(program) };
 }
 
-export { askedRun, eachPlay, plays, rows, runOf };
+/** A goal's text as it was written, by the program's text and the record, which no line has told. */
+function writtenText({ given: { program, query }, graph }, name) {
+  return Run.ofSteps(Reader.readProgram(program), query, graph.steps, new Map()).textOf(name);
+}
+
+export { writtenText, askedRun, eachPlay, plays, rows, runOf };
