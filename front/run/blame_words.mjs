@@ -5,11 +5,13 @@ import * as Replies from "../protocol/replies.mjs";
 import * as Print from "../text/print.mjs";
 import { inOneLine } from "../text/clauses.mjs";
 import * as Printed from "../text/printed.mjs";
+import * as Reader from "../text/reader.mjs";
 import { WIDEST, cut, namesIn, termOf } from "./named.mjs";
 import { FAILED, plural, some, whyFailed, whyWaits, hasConsequences } from "./reasons.mjs";
 import Run from "./run.mjs";
 
-const WIDEST_VALUE = 80, WIDEST_CLAUSE = 120, WHOLE_CLAUSE = 2000; // letters of a value and of a clause that are shown
+const WIDEST_VALUE = 80, WIDEST_CLAUSE = 120; // letters of a value and of a clause that are shown
+const MOST_UNREAD = 3; // variables that a call did not read, and whose values are told
 
 /** A call, and what it gave, in words with the names of variables: `call` and `gave`, the latter nothing where it is not told. */
 function callIn(run, { given, gave }) {
@@ -38,10 +40,23 @@ function callWords(session, told, goal) {
   return `${call} gave ${gave}, and led to goal ${left.goal}, which ${standingWords(session, left)}`;
 }
 
+const IN_TURNS = "some of what it was given came only after something that it gave: judge the order too, as causes tells it";
+
 /** What stands beside given and gave, and has to be judged with them. */
 function warnings({ asked, inTurns }) {
   const asks = asked.length === 0 ? [] : [`${asked.length === 1 ? "step" : "steps"} ${some(asked).join(", ")} asked for goals that reach into it: judge what it gave together with these`];
-  return inTurns ? [...asks, "some of what it was given came only after something that it gave: judge the order too, as causes tells it"] : asks;
+  return inTurns ? [...asks, IN_TURNS] : asks;
+}
+
+/** Which variables a call was given that no step read which counts here, with what they are by now. */
+async function unreadWords(session, { given, gave }) {
+  const [before, after] = [given, gave ?? given].map((text) => (text === null ? undefined : termOf(text)));
+  if (before === undefined || after === undefined) return [];
+  const run = await session.look(), store = namesIn(run, [given]), left = Reader.addVariables(new Set(), after);
+  const unread = [...Reader.addVariables(new Set(), before)].filter((variable) => left.has(variable) && run.binders.has(variable));
+  const nameOf = (variable) => Print.term({ variable }, { store });
+  const valueOf = (variable) => Print.term({ variable }, { store: run.shown, most: WIDEST_VALUE });
+  return unread.slice(0, MOST_UNREAD).map((variable) => `${nameOf(variable)} was not read; it is ${valueOf(variable)}`);
 }
 
 /** A clause with its place in the program's text. */
@@ -63,10 +78,10 @@ const questionsLeft = (of) => Math.ceil(Math.log2(of + 1));
 const hint = (predicate) => `y: right as given, n: wrong, u: back, trust ${predicate}: always right`;
 
 /** A question in words. `answers` counts those that stand on the line. */
-function questionWords(session, told, answers) {
+async function questionWords(session, told, answers) {
   const { goal, of } = told.ask, count = answers + questionsLeft(of);
   const question = `question ${answers + 1} of about ${count}: ${callWords(session, told, goal)}. Is that right?`;
-  return [question, ...warnings(told), ...takenWords(session, goal), ...(answers === 0 && told.given !== null ? [hint(Printed.predicateOf(told.given))] : [])];
+  return [question, ...await unreadWords(session, told), ...warnings(told), ...takenWords(session, goal), ...(answers === 0 && told.given !== null ? [hint(Printed.predicateOf(told.given))] : [])];
 }
 
 /**
@@ -90,7 +105,7 @@ async function clauseAtFault(session, told, subject, answers) {
   const { step, goal, clause } = told.fault, isMade = told.made.some(({ how }) => how === "gave");
   const inner = isMade ? ", though all that its goals gave is right" : "";
   return [`${foundBy(answers)}: ${callWords(session, told, goal)}, which is wrong${inner}`, ...warnings(told),
-    `so the fault is in ${clauseWords(session, clause, WHOLE_CLAUSE)}`,
+    `so the fault is in ${clauseWords(session, clause, Infinity)}`,
     ...await otherClauses(session, subject, step), ...await hasConsequences(session, [step])];
 }
 
@@ -139,4 +154,4 @@ function afterPart(session, { words: [goal] }, reply) {
   return [callWords(session, told.gave === null && told.left === null ? { ...told, left: told.standing } : told, goal), ...warnings(told), ...made];
 }
 
-export { afterBlame, afterPart, callWords, clauseWords, otherClauseWords, questionsLeft };
+export { IN_TURNS, afterBlame, afterPart, callWords, clauseWords, otherClauseWords, questionsLeft };

@@ -5,7 +5,7 @@ import { OpenQuestion } from "./open_question.mjs";
 import * as Own from "./own.mjs";
 import * as Printed from "../text/printed.mjs";
 import * as Replies from "../protocol/replies.mjs";
-import { afterBlame } from "./blame_words.mjs";
+import { IN_TURNS, afterBlame } from "./blame_words.mjs";
 import { notesAfter } from "./telling.mjs";
 
 const ANSWERS = new Map(Object.entries({ y: true, yes: true, right: true, n: false, no: false, wrong: false }));
@@ -97,8 +97,15 @@ class Blaming extends OpenQuestion {
   /** What the reply to a line of `blame` means, or what helps where it is refused. */
   async wordsAfter(line, reply) {
     if (reply[0] === "F25 command") return [usageOf("blame")];
-    if (!Replies.isRefused(reply)) return afterBlame(this.session, line, reply);
+    if (!Replies.isRefused(reply)) return this.eachOnce(await afterBlame(this.session, line, reply));
     return notesAfter(this.session, meant("blame", ...line.split(" ").slice(1)), reply);
+  }
+
+  /** That a call went in turns is told of the first question alone. */
+  eachOnce(lines) {
+    const isTold = this.hasToldTurns && BlameLines.answersOn(this.line).length > 0;
+    this.hasToldTurns = isTold || lines.includes(IN_TURNS);
+    return isTold ? lines.filter((line) => line !== IN_TURNS) : lines;
   }
 }
 
