@@ -1,5 +1,7 @@
 // The commands that the terminal answers itself: each gives lines, computed from what the session tells. Nothing here changes a session.
+import { arcsAmong } from "./arcs.mjs";
 import * as Graph from "./graph.mjs";
+import { cut, namedCall } from "./named.mjs";
 import { plural } from "./reasons.mjs";
 import * as Waits from "./waits.mjs";
 import * as Printed from "../text/printed.mjs";
@@ -13,11 +15,22 @@ function list(session, [word]) {
   return shown.map(({ number, line, text }) => `${String(number).padStart(width)} (line ${line}) ${inOneLine(text)}`);
 }
 
+const WIDEST_GOAL = 80; // letters of a goal in a circle that are shown
+
+/** The first goals that wait for each other, with their texts, as a line; none where none do. */
+async function circleLines(session, goals) {
+  const { circle } = await arcsAmong(session, goals, []), texts = new Map(goals.map(({ name, text }) => [name, text]));
+  const words = circle.map(({ from }) => `${from} ${cut(namedCall(session.run, texts.get(from)), WIDEST_GOAL)}`);
+  return circle.length === 0 ? [] : [`in a circle: ${[...words, circle[0].from].join(", which waits for ").replace(", which", "")}`];
+}
+
 async function stuck(session) {
   const goals = await session.goals(), waits = await Waits.waitsOf(session, goals);
   const lines = Waits.linesOf(session, goals, waits);
   const failed = goals.filter(({ status }) => status === "failed").map(({ name, refusal }) => `${name} has failed: ${refusal}; explain ${name} and blame ${name} tell more`);
-  if (lines.length + failed.length > 0) return [...failed, ...lines, ...Waits.buildingLines(session, waits)];
+  if (lines.length + failed.length > 0) {
+    return [...failed, ...lines, ...await circleLines(session, goals), ...Waits.buildingLines(session, waits)];
+  }
   return goals.length === 0 ? Waits.linesAtEnd(session) : ["no goal waits"];
 }
 

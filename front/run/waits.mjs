@@ -194,7 +194,8 @@ const named = (all, nameOf) =>
 
 const inVain = ({ goal, status }) =>
   `${goal}, which ${status.startsWith("failed") ? "has failed" : "waits for it too"}`;
-const standing = ({ goal, status }) => `${goal} ${status.split(" ")[0]}`;
+const STANDS = { ready: "is ready", stream: "is an input", waits: "waits", failed: "has failed" };
+const standing = ({ goal, status }) => `${goal} (which ${STANDS[status.split(" ")[0]]})`;
 
 /** Who let go of a variable that nobody binds; else where it comes from. */
 function lostOf(session, { variable, told }) {

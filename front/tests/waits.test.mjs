@@ -18,7 +18,7 @@ test("goals that wait for each other are told by one question, and that they wai
   const held = ["_1_1 in 1.1 waits _1_1", "_1_1 in 1.2 waits _1_2", "_1_2 in 1.1 waits _1_1", "_1_2 in 1.2 waits _1_2"];
   assert.deepStrictEqual(await told(circle, { "whynot 1.1": [circle[0], ...held, STAYS] }), {
     lines: [
-      "1.1 waits for _1_1: held by 1.2 waits", "1.2 waits for _1_2: held by 1.1 waits",
+      "1.1 waits for _1_1: held by 1.2 (which waits)", "1.2 waits for _1_2: held by 1.1 (which waits)",
       "in vain: these stay unbound: _1_1, _1_2",
     ],
     asked: ["whynot 1.1"],
@@ -42,7 +42,7 @@ test("a goal that one of its clauses may take on may bind what it waits for itse
   const { lines } = await told(goals, { "whynot 0.1": [goals[0], ...held, MAY] }, "p(A,B), q(B)");
   assert.deepStrictEqual(lines, [
     "not stuck: some goal is ready", "0.1 waits for _0_1 (A of the query): no other goal has it",
-    "0.1 waits for _0_2 (B of the query): held by 0.2 ready",
+    "0.1 waits for _0_2 (B of the query): held by 0.2 (which is ready)",
   ]);
 });
 
@@ -64,7 +64,7 @@ test("of many goals that may go on it is asked about the first", async () => {
   const { lines, asked } = await told(goals, replies);
   assert.deepStrictEqual([asked.length, lines.length], [40, 50]);
   assert.deepStrictEqual(lines.slice(39, 41),
-    ["40.1 waits for _40_1: held by 0.1 ready", "41.1 waits for _41_1: whynot 41.1 tells who has it"]);
+    ["40.1 waits for _40_1: held by 0.1 (which is ready)", "41.1 waits for _41_1: whynot 41.1 tells who has it"]);
 });
 
 const LOST = [

@@ -36,7 +36,7 @@ const RUNS = [
     "% price(0,_0_1) has failed: F10\n% clause 2: N > 0 says no (N = 0)\n% clause 3: N >= 10 says no (N = 0)\n% expected T = 1, got T = _0_1\n", 5],
   [[DEADLOCK, "--run", "--query", "after(A,B)"], "A = _0_1\nB = _0_2\n", "% 0.1 waits for _0_1 (A of the query): nobody can bind it (no other goal has it)\n", 6],
   [[SUM, "--run", "--query", "instream(S), sum(S,0,R)"], "S = _0_1\nR = _0_2\n",
-    "% 0.2 waits for _0_1 (S of the query): held by 0.1 stream\n% open at the end: 1 input stream\n", 7],
+    "% 0.2 waits for _0_1 (S of the query): held by 0.1 (which is an input)\n% open at the end: 1 input stream\n", 7],
   [[BILL, "--run", "--query", "A = B"], "A = _0_2\nB = _0_2\n",
     "% _0_2 (B of the query) is unbound; no goal has it\n".repeat(2), 0],
   [[BILL, "--run", "--query", "q(1)"], "", "query: F5 undefined q/1\n% undefined: no clause has the head q with 1 argument\n%  --> query:1:1\n%   |\n% 1 | q(1)\n%   | ^\n%   = defined are: bill/3, price/2\n", 1],

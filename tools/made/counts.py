@@ -4,21 +4,24 @@ import re
 
 # The most words of each page by hand; of all together there may be fewer.
 PAGES = {
-    "README.md": 700,
+    "README.md": 900,
     "docs/TUTORIAL.md": 2000,
     "docs/LANGUAGE.md": 9000,
-    "docs/FORMATS.md": 5500,
-    "docs/ARCHITECTURE.md": 2600,
-    "docs/THEOREMS.md": 1500,
+    "docs/FORMATS.md": 5600,
+    "docs/ARCHITECTURE.md": 3000,
+    "docs/THEOREMS.md": 1600,
     "docs/DECISIONS.md": 4000,
-    "CONTRIBUTING.md": 900,
-    "CHANGELOG.md": 600,
+    "CONTRIBUTING.md": 1000,
+    "CHANGELOG.md": 800,
     "docs/PAGE.md": 2200,
-    "docs/TERMINAL.md": 1500,
+    "docs/TERMINAL.md": 1800,
     "docs/RACE.md": 1000,
     "docs/CHEATSHEET.md": 600,
+    "examples/wrong/README.md": 300,
+    "examples/wrong/HABITS.md": 5500,
+    "examples/wrong/ANSWERS.md": 4000,
 }
-MOST_WORDS = 30_000
+MOST_WORDS = 39_700
 MOST_IN_SENTENCE = 40
 LINK = re.compile(r"\]\(([^)\s]+)\)")
 

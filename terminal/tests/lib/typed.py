@@ -73,7 +73,7 @@ REFUSED = [
     ("roll 2", "=undone 2,3,6", "% 1.3 waits for _1_1 (P of step 1)"),
     ("undo 2", "=F16 not a kept step", "% step 2 was taken back: redo 2 puts it there again"),
     ("undo 99", "=F16 not a kept step", "% records lists the kept steps"),
-    ("step 1.3", "=F9 waits", "% 1.3 waits for _1_1 (P of step 1): held by 1.1 ready"),
+    ("step 1.3", "=F9 waits", "% 1.3 waits for _1_1 (P of step 1): held by 1.1 (which is ready)"),
     ("step 1.1 9", "=F8 no such clause for the goal", "% the clauses of price/2: 2, 3"),
     ("clauses 1.1", "yes"),
     ("ask T := 1 / 0", "=REDU 7 - ask _0_1 := 1 / 0"),
@@ -198,7 +198,8 @@ SESSIONS = {
             ("leap", "=stopped quiet", "=% 3 goals wait: stuck tells why"),
             (
                 "stuck",
-                "% 0.1 waits for _0_1 (A of the query): held by 0.3 waits",
+                "% 0.1 waits for _0_1 (A of the query): held by 0.3 (which waits)",
+                "% in a circle: 0.1 after(A,B) waits for 0.3 after(C,A), which waits for 0.2 after(B,C), which waits for 0.1",
                 "% in vain: these stay unbound: _0_1 (A of the query), _0_2 (B of the query)",
             ),
             ("goals", "% waited for: _0_1 (A of the query)"),
