@@ -1,7 +1,6 @@
 // What the terminal does where a value is doubted. For `blame` it asks, hears the answers, and gives those of
 // predicates that are trusted. `choices X` tells what X would be, had a step gone by another clause; after a run it is
 // told whether one could.
-import * as BlameLines from "../front/protocol/blame_lines.mjs";
 import { meant, usageOf } from "../front/protocol/commands.mjs";
 import * as Replies from "../front/protocol/replies.mjs";
 import { NONE_FOUND, linesOf, otherChoice } from "../front/run/other_choices.mjs";
@@ -32,7 +31,7 @@ const Judging = part({
     const { line, reply, notes } = await this.blaming.ask(given, () => this.isInterrupted);
     this.note(...notes);
     this.echo(line, typed);
-    await this.show(BlameLines.withoutCall(reply));
+    await this.show(reply);
     this.note(...await this.blaming.wordsAfter(line, reply));
   },
 

@@ -9,8 +9,6 @@ const TAKEN = new RegExp(`^(\\d+) (${GOAL}) by (\\d+)$`);
 const ASK = new RegExp(`^ask (${GOAL}) of (\\d+)$`), FAULT = new RegExp(`^fault (?:(\\d+) (${GOAL}) by (\\d+)|(${GOAL})|0)$`);
 const ANSWER = new RegExp(`^([+-])(${GOAL})$`);
 
-const SHORT = 200; // letters of what a call was given and gave
-
 /** A goal with its status, as `4.2 failed F10` tells it; null where the text tells none. */
 const readStanding = Replies.reading(STANDS, ([, goal, alone, waits, variables, failed, refusal = ""]) =>
   ({ goal, status: alone ?? waits ?? failed, waitsFor: variables?.split(",") ?? [], refusal }));
@@ -88,14 +86,4 @@ function unanswered(line) {
 const isQuestion = (reply) => !Replies.isRefused(reply) && readAsk(reply.at(-1) ?? "") !== null;
 const isVerdict = (reply) => !Replies.isRefused(reply) && readFault(reply.at(-1) ?? "") !== null;
 
-/**
- * A question or a verdict without the lines that tell what the call was given and gave, where words tell it; whole where
- * it is so long that words cut it, or memory was refused for a line.
- */
-function withoutCall(reply) {
-  const isOfCall = (line) => /^(given|gave) /.test(line), told = reply.filter(isOfCall);
-  const isShort = told.join("").length <= SHORT && !reply.some(Replies.isRefusal);
-  return isShort && (isQuestion(reply) || isVerdict(reply)) ? reply.filter((line) => !isOfCall(line)) : reply;
-}
-
-export { read, withoutCall, isBlame, isQuestion, isVerdict, readAnswer, answersOn, answered, unanswered };
+export { read, isBlame, isQuestion, isVerdict, readAnswer, answersOn, answered, unanswered };
