@@ -64,11 +64,6 @@ class Run {
     if (this.waits) this.goOn();
   }
 
-  giveText(text) {
-    this.host.feedText(text);
-    if (this.waits) this.goOn();
-  }
-
   // Ends the input.
   end() {
     this.host.inputEnded = true;
@@ -78,10 +73,6 @@ class Run {
   // What was written to standard output since it was taken last, and to standard error.
   takeOutput() {
     return this.host.takeWritten(Host.OUTPUT);
-  }
-
-  get hasErrors() {
-    return this.broken !== undefined || this.host.hasWritten(Host.ERRORS);
   }
 
   // With why it stopped, where it did not end by itself.
@@ -112,10 +103,9 @@ class Session {
   bytes(text) {
     if (text.includes("\n")) throw new Error("a line holds no line feed");
     if (this.hasEnded) return new Uint8Array(0);
-    this.run.giveText(`${text}\n`);
-    const told = this.run.takeOutput();
-    if (!this.run.hasErrors) return told;
-    return joined([told, this.run.takeErrors()]);
+    this.run.give(encode(`${text}\n`));
+    const told = this.run.takeOutput(), errors = this.errors();
+    return errors === "" ? told : encode(decode(told) + errors);
   }
 
   // The lines of the reply to a line.

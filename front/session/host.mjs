@@ -10,7 +10,6 @@ const INPUT = 0, OUTPUT = 1, ERRORS = 2, FIRST_FILE = 3;
 const NO_SUCH_FILE = 2, BAD_DESCRIPTOR = 9, NO_THREAD = 11, NO_SPACE = 28, CANNOT_SEEK = 29;
 const FROM_START = 0, FROM_HERE = 1;
 const NOWHERE = 16; // the place given with "no memory"; nobody looks there
-const encoder = new TextEncoder();
 const FEATURES = 32; // bytes that say what a processor can do
 
 // What is thrown where the program ends itself.
@@ -26,9 +25,7 @@ class Host {
     this.words = words;
     this.files = files;
     this.full = full;
-    // By their descriptors bytes, and where they are read next; or a text that is not encoded yet.
-    /** @type {Map<number, { bytes: Uint8Array, at: number, text?: string }>} */
-    this.open = new Map([[INPUT, { bytes: new Uint8Array(0), at: 0 }]]);
+    this.open = new Map([[INPUT, { bytes: new Uint8Array(0), at: 0 }]]); // by their descriptors bytes, and where they are read next
     this.lastFile = FIRST_FILE - 1;
     this.inputEnded = false; // does the input end after what was fed?
     this.written = new Map([[OUTPUT, []], [ERRORS, []]]);
@@ -51,25 +48,8 @@ class Host {
 
   // Adds bytes to the input that is not read yet.
   feed(bytes) {
-    const input = this.open.get(INPUT);
-    if (input.text !== undefined) {
-      input.bytes = encoder.encode(input.text);
-      input.at = 0;
-      input.text = undefined;
-    }
-    input.bytes = input.at === input.bytes.length ? bytes : joined([input.bytes.subarray(input.at), bytes]);
-    input.at = 0;
-  }
-
-  // Adds a text, which is encoded where it is read.
-  feedText(text) {
-    const input = this.open.get(INPUT);
-    if (input.text === undefined && input.at === input.bytes.length) input.text = text;
-    else this.feed(encoder.encode(text));
-  }
-
-  hasWritten(stream) {
-    return this.written.get(stream).length > 0;
+    const { bytes: before, at } = this.open.get(INPUT);
+    this.open.set(INPUT, { bytes: joined([before.subarray(at), bytes]), at: 0 });
   }
 
   // What was written to a stream since it was taken last.
@@ -81,13 +61,7 @@ class Host {
 
   // So many bytes of the memory, from a place on.
   bytes(place, length) {
-    return this.all().subarray(place, place + length);
-  }
-
-  // All bytes of the memory, by another view when it has grown.
-  all() {
-    if (this.view === undefined || this.view.length === 0) this.view = new Uint8Array(this.memory.buffer);
-    return this.view;
+    return new Uint8Array(this.memory.buffer, place, length);
   }
 
   // The bytes from a place up to a byte 0.
@@ -134,27 +108,17 @@ class Host {
     this.reading.before();
     const reader = this.open.get(descriptor);
     if (reader === undefined) return this.fail(BAD_DESCRIPTOR);
-    if (reader.text !== undefined) {
-      const { text } = reader;
-      reader.text = undefined;
-      if (text.length * 3 <= most) return encoder.encodeInto(text, this.bytes(to, most)).written;
-      reader.bytes = encoder.encode(text);
-      reader.at = 0;
-    }
-    const { bytes, at } = reader, length = Math.min(most, bytes.length - at);
-    if (length === 0) {
-      if (descriptor === INPUT && !this.inputEnded) this.reading.wait();
-      return 0;
-    }
-    this.all().set(at === 0 && length === bytes.length ? bytes : bytes.subarray(at, at + length), to);
-    reader.at += length;
-    return length;
+    const piece = reader.bytes.subarray(reader.at, reader.at + most);
+    reader.at += piece.length;
+    if (piece.length === 0 && descriptor === INPUT && !this.inputEnded) this.reading.wait();
+    this.bytes(to, piece.length).set(piece);
+    return piece.length;
   }
 
   write(descriptor, from, length) {
     if (!this.written.has(descriptor)) return this.fail(BAD_DESCRIPTOR);
     if (this.full.includes(descriptor)) return this.fail(NO_SPACE);
-    this.written.get(descriptor).push(this.all().slice(from, from + length));
+    this.written.get(descriptor).push(this.bytes(from, length).slice());
     return length;
   }
 
