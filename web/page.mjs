@@ -443,13 +443,9 @@ function leaveAddress(what) {
 }
 
 /** Does what an address asks for; says whether it tells what to begin with. */
-async function fromAddress() {
+function fromAddress() {
   isOfAddress = true;
-  try {
-    return await beginAddressed();
-  } finally {
-    isOfAddress = false;
-  }
+  return beginAddressed().finally(() => { isOfAddress = false; });
 }
 
 /**

@@ -264,30 +264,20 @@ class RunGraph {
     return ways;
   }
 
-  /** Forgets what a step bound and consumed, and its number. */
-  forgetStep(index) {
-    const step = this.stepAt(index);
+  /** Takes the last step away. No step that stays depends on it. */
+  pop() {
+    const index = this.count - 1, step = this.stepAt(index), edges = this.firstCause.at(index);
+    for (let edge = this.from.length - 1; edge >= edges; edge--) this.lastEffect.all[this.from.at(edge)] = this.effectBefore.at(edge);
     for (const binding of step.binds) this.binders.delete(keyOfVariable(binding.variable));
     this.setConsumer(step, NONE);
     this.indexes.delete(step.number);
-  }
-
-  shorten(steps, made, edges) {
-    this.told.length = steps;
-    for (const list of [this.numbers, this.kinds, this.clauses, this.makers, this.places, this.depths, this.deepest, this.firstMade, this.firstCause, this.lastEffect]) list.length = steps;
-    for (const list of [this.from, this.to, this.effectBefore, this.hows]) list.length = edges;
-    this.consumers.length = made;
-    this.changed();
-  }
-
-  /** Takes the last step away. No step that stays depends on it. */
-  pop() {
-    const index = this.count - 1, first = this.firstCause.at(index);
-    for (let edge = this.from.length - 1; edge >= first; edge--) this.lastEffect.all[this.from.at(edge)] = this.effectBefore.at(edge);
-    this.forgetStep(index);
     this.knownSteps.delete(index);
     this.knownCauses.delete(index);
-    this.shorten(index, this.firstMade.at(index), first);
+    this.consumers.length = this.firstMade.at(index);
+    const perStep = [this.numbers, this.kinds, this.clauses, this.makers, this.places, this.depths, this.deepest];
+    for (const list of [this.told, ...perStep, this.firstMade, this.firstCause, this.lastEffect]) list.length = index;
+    for (const list of [this.from, this.to, this.effectBefore, this.hows]) list.length = edges;
+    this.changed();
   }
 
   changed() {

@@ -11,10 +11,8 @@ let seen = 0; // in use when it was counted last
 
 /** What is in use when what nobody uses is given back. */
 function inUse() {
-  if (collect === undefined) {
-    v8.setFlagsFromString("--expose-gc");
-    collect = vm.runInNewContext("gc");
-  }
+  v8.setFlagsFromString("--expose-gc");
+  collect ??= vm.runInNewContext("gc");
   collect();
   return v8.getHeapStatistics().used_heap_size;
 }
