@@ -14,7 +14,6 @@ use std::sync::Arc;
 
 /// A core: in each state of its run, goals and store are the replay of the steps that it keeps, each noted outcome of a goal is
 /// the one from scratch, and each goal without one, but for stream goals, is marked untried.
-#[derive(Drop)]
 pub struct Core {
     pub(crate) program: Arc<Program>,
     pub(crate) query: Query,
@@ -27,6 +26,24 @@ pub struct Core {
     pub(crate) meter: Meter,
     pub(crate) tries: Tries,
     pub(crate) streams: StreamGoals,
+}
+
+impl Drop for Core {
+    fn drop(self) {
+        let Core {
+            program: _program,
+            query: _query,
+            state: _state,
+            records: _records,
+            shelf: _shelf,
+            next: _next,
+            journal: _journal,
+            loaded: _loaded,
+            meter: _meter,
+            tries: _tries,
+            streams: _streams,
+        } = self;
+    }
 }
 
 impl Model for Core {
