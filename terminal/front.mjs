@@ -17,11 +17,10 @@ import { isHistory, whyNoName, whyNotWritten, whyOtherFile } from "../front/sess
 import Running from "./running.mjs";
 import { Showing, withoutAll } from "./showing.mjs";
 import Spying from "./spying.mjs";
-import { plural } from "../front/run/reasons.mjs";
+import { plural, some } from "../front/run/reasons.mjs";
 import { notesAfter } from "../front/run/telling.mjs";
 import * as Unsaved from "./unsaved.mjs";
 
-const MOST_LEFT = 4; // sessions not saved that are told at the start
 const MOST_NOTES = 6; // on a program that are shown
 const HEARD_LATE = 300; // milliseconds after ^C in which a line that is no long run may still answer
 const SLICE_LATE = 2000; // the same for a slice of a run, of which there are many
@@ -73,15 +72,12 @@ class Front {
     this.tellUnsaved(Unsaved.left(this.session.given.load));
   }
 
-  /** Tells which sessions of this program were not saved last, and how many others there are. */
+  /** Tells in a line which session of this program was not saved last, and where those before it are. */
   tellUnsaved(left) {
-    const file = path.resolve(this.session.given.file), own = left.filter((one) => one.file === file);
-    for (const { place, query } of own.slice(-MOST_LEFT)) {
-      this.note(`a session of ${file} --query '${query}' was not saved: --load ${place} goes on from it`);
-    }
-    const more = left.length - Math.min(own.length, MOST_LEFT), programs = new Set(left.map((one) => one.file)).size;
-    const of = `${plural(more, "session")} more, of ${plural(programs, "program")} in all`;
-    if (more > 0) this.note(`not saved: ${of}; rm ${Unsaved.BEGINNING}* forgets them`);
+    const file = path.resolve(this.session.given.file), own = left.filter((one) => one.file === file), last = own.pop();
+    if (last === undefined) return;
+    const others = some(own.map(({ place }) => place).reverse()), before = others.length === 0 ? "" : `; before it: ${others.join(", ")}`;
+    this.note(`a session of ${file} --query '${last.query}' was not saved: --load ${last.place} goes on from it${before}`);
   }
 
   async start(session) {

@@ -3,10 +3,10 @@
 // told whether one could.
 import { meant, usageOf } from "../front/protocol/commands.mjs";
 import * as Replies from "../front/protocol/replies.mjs";
-import { NONE_FOUND, linesOf, otherChoice } from "../front/run/other_choices.mjs";
+import { NONE_FOUND, freeLines, linesOf, otherChoice } from "../front/run/other_choices.mjs";
 import { clauseWords } from "../front/run/blame_words.mjs";
 import * as Own from "../front/run/own.mjs";
-import { plural, some } from "../front/run/reasons.mjs";
+import { plural } from "../front/run/reasons.mjs";
 import { notesAfter } from "../front/run/telling.mjs";
 import { freeSteps, tryingOf } from "../front/session/trying.mjs";
 import { part } from "./part.mjs";
@@ -78,10 +78,7 @@ const Judging = part({
   /** After a run that has come to its end: how many steps could have gone by another clause. */
   async tellFree(stop) {
     if (!/^stopped (quiet|clash)/.test(stop) || this.isInterrupted) return;
-    const { count, names: [first, ...more] } = await freeSteps(this.session);
-    const others = more.length === 0 ? "" : `; others than ${first} rest on them, too: ${some(more).join(", ")}`;
-    const told = `${plural(count, "step")} could have gone by another clause: choices ${first} tells`;
-    if (count > 0) this.note(told + others);
+    this.note(...freeLines(await freeSteps(this.session)));
   },
 });
 

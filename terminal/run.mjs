@@ -1,5 +1,6 @@
 // What terminal/run does; how it is called stands there.
 import * as Own from "../front/run/own.mjs";
+import { freeLines } from "../front/run/other_choices.mjs";
 import { plural } from "../front/run/reasons.mjs";
 import { notesAfter } from "../front/run/telling.mjs";
 import { meant } from "../front/protocol/commands.mjs";
@@ -7,6 +8,7 @@ import { readExpected, whyOther } from "../front/protocol/expected.mjs";
 import { readRun } from "../front/protocol/words.mjs";
 import * as Replies from "../front/protocol/replies.mjs";
 import { NotTold } from "../front/session/session.mjs";
+import { freeSteps } from "../front/session/trying.mjs";
 import { withQuery } from "../front/session/words_with_query.mjs";
 import { addLines, endWith, statusOfGoals, withSession, write, STATUS } from "./scripted.mjs";
 
@@ -44,7 +46,7 @@ async function notesOnEnd(session, stop) {
 /** All that is to be said of how it went; of a session that tells no more, why. */
 async function notesOnAll(session, stop, answers, status) {
   try {
-    const notes = hasEnded(status) ? [] : await notesOnEnd(session, stop);
+    const notes = hasEnded(status) ? freeLines(await freeSteps(session)) : await notesOnEnd(session, stop);
     for (const [name, line] of answers) notes.push(...await notesOn(session, name, line, hasEnded(status)));
     return notes;
   } catch (error) {

@@ -64,4 +64,4 @@ function left(loaded = "") {
 /** Is a file one of the histories that were left? */
 const isLeft = (file) => file !== undefined && places().includes(path.resolve(file));
 
-export { BEGINNING, forget, isLeft, leave, left };
+export { forget, isLeft, leave, left };

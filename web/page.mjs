@@ -226,7 +226,7 @@ const BUTTONS = {
   reload: () => Reloading.reload(), "keep-run": () => Beside.keep(), "drop-run": () => Beside.drop(), "swap-runs": () => Beside.swap(),
   play: () => Looking.play(), "show-all-steps": () => Looking.showNow(),
   "lanes-alone": () => Panels.showLanes(true), "lanes-all": () => Panels.showLanes(false),
-  wrap: () => Program.setWrap(!Program.isWrapped()), again: () => Talk.again(), "close-answer": () => Answers.hide(),
+  again: () => Talk.again(), "close-answer": () => Answers.hide(),
   "why-close": Why.close, "choices-stop": Choosing.stop, "choices-close": Choosing.close,
   "blame-light": () => Blaming.lightAgain(), "blame-close": () => Blaming.close(), "blame-trust": () => Blaming.trust(),
   "blame-alone": () => Blaming.tryAlone(), "blame-return": () => Blaming.goBack(),

@@ -1,5 +1,5 @@
 // The pane of the program: line numbers and colours, the clauses of the steps that are lit, the place of an error with
-// its cause, lines that wrap or not, comments that fold, and its width. A click on a clause lights its steps.
+// its cause, comments that fold, and its width. A click on a clause lights its steps.
 import * as Colouring from "./colouring.mjs";
 import Deeds from "./deeds.mjs";
 import { find, make } from "./elements.mjs";
@@ -58,7 +58,7 @@ function unmark() {
 /** Keeps the lines behind the field where those in it are. */
 function follow() {
   const field = find("program"), lines = find("program-lines");
-  lines.style.width = isWrapped() ? `${field.clientWidth}px` : "";
+  lines.style.width = `${field.clientWidth}px`;
   lines.style.transform = Folding.isOn() ? "" : `translate(${-field.scrollLeft}px, ${-field.scrollTop}px)`;
 }
 
@@ -69,8 +69,6 @@ function tellWidth() {
 }
 
 const mostWide = () => Math.max(LEAST_WIDE, window.innerWidth - LEAST_VIEW);
-
-const isWrapped = () => find("program").wrap === "soft";
 
 function setText(program) {
   if (find("program").value !== program) { // a browser takes seconds to put a long one there again
@@ -144,13 +142,6 @@ function showPlace(name, line, letter, length, words = "") {
     paint("wrong", [{ from: line, to: line }]);
     showLine(line);
   }
-}
-
-function setWrap(isOn) {
-  find("program").wrap = isOn ? "soft" : "off";
-  find("source").classList.toggle("wraps", isOn);
-  find("wrap").setAttribute("aria-pressed", String(isOn));
-  follow();
 }
 
 /** A click on a clause lights its steps, where the run is of this text. */
@@ -232,4 +223,4 @@ function listenToAll() {
   });
 }
 
-export { setText, underline, markClause, markLit, showPlace, showLine, setWrap, listenToAll, isWrapped };
+export { setText, underline, markClause, markLit, showPlace, showLine, listenToAll };

@@ -99,6 +99,12 @@ function lineOf({ words, choices, asItIs }) {
 const otherIn = (groups) => groups.find(({ asItIs }) => asItIs === undefined)?.choices[0];
 const otherChoice = (outcomes) => otherIn(gathered(outcomes));
 
+/** After a run: how many steps could have gone by another clause, and which variables rest on these; none where none could. */
+function freeLines({ count, names: [first, ...more] }) {
+  const others = more.length === 0 ? "" : `; others than ${first} rest on them, too: ${some(more).join(", ")}`;
+  return count === 0 ? [] : [`${plural(count, "step")} could have gone by another clause: choices ${first} tells${others}`];
+}
+
 /** The lines of all outcomes, and how to go to the first one that is another. */
 function linesOf(outcomes) {
   const groups = gathered(outcomes), other = otherIn(groups);
@@ -107,5 +113,5 @@ function linesOf(outcomes) {
 }
 
 export {
-  MOST_STEPS, NONE_FOUND, choicesIn, concernedIn, eachOnce, gathered, isOpen, linesOf, linesTo, otherChoice, outcomeTold,
+  MOST_STEPS, NONE_FOUND, choicesIn, concernedIn, eachOnce, freeLines, gathered, isOpen, linesOf, linesTo, otherChoice, outcomeTold,
 };

@@ -109,7 +109,7 @@ def test_closed_window_leaves_the_session(home):
     wants(stat.S_IMODE(place.stat().st_mode) == 0o600, "others may read it")
     told = f"% a session of {BILL} --query '{QUERY}' was not saved: --load {place} goes on from it"
     other = start(home, str(ROOT / "examples/append.ghc"), "--query", "append([1],[2],R)")
-    wants(is_met("% not saved: 1 session more, of 1 program in all", other.start.splitlines()), other.start)
+    wants("saved" not in other.start, other.start)
     other.type("quit")
     same = start(home, BILL, "--query", QUERY)
     wants(is_met(f"={told}", same.start.splitlines()), same.start)

@@ -88,14 +88,18 @@ test("sessions are left, each until another is on the disk, and not without end"
   assert.deepStrictEqual([Unsaved.isLeft(places[65]), Unsaved.isLeft(places[66])], [true, false]);
 });
 
-test("at the start each session of this program is told, and how many others there are", () => {
+test("at the start the sessions of this program are told in a line, and no others", () => {
   Unsaved.left().forEach(({ place }) => Unsaved.forget(place));
-  const places = ["other.ghc", BILL].map((file) => Unsaved.leave({ file, query: "p(1)" }, "a history\n")), notes = [];
+  const places = ["other.ghc", BILL, BILL].map((file, turn) => {
+    const place = Unsaved.leave({ file, query: `p(${turn})` }, "a history\n");
+    fs.utimesSync(place, turn, turn); // as if time went by
+    return place;
+  });
+  const notes = [];
   const front = { session: { given: { file: BILL } }, note: (line) => notes.push(line) };
   Front.prototype.tellUnsaved.call(front, Unsaved.left());
   assert.deepStrictEqual(notes, [
-    `a session of ${BILL} --query 'p(1)' was not saved: --load ${places[1]} goes on from it`,
-    `not saved: 1 session more, of 2 programs in all; rm ${home}/.ghcdb_unsaved.* forgets them`,
+    `a session of ${BILL} --query 'p(2)' was not saved: --load ${places[2]} goes on from it; before it: ${places[1]}`,
   ]);
 });
 

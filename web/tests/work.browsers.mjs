@@ -207,10 +207,7 @@ inBrowsers("the chosen step's clause is marked in the program, lines wrap, the d
   assert.deepEqual(await page.value(marked), ["price(N,P) :- N > 0 | P := N * 10."]);
   await page.value('Canvas.choose({ step: 3 })');
   assert.deepEqual(await page.value(marked), []);
-  const high = 'document.getElementById("program-lines").offsetHeight', before = await page.value(`(document.getElementById("program").focus(), ${high})`);
   assert.equal(await page.value('document.getElementById("program").scrollHeight - document.getElementById("program-lines").offsetHeight < 30 || document.getElementById("program").scrollHeight === document.getElementById("program").clientHeight'), true);
-  await page.click("#wrap");
-  assert.ok((await page.value(high)) < before, "a long line goes on in one row");
   const wide = 'document.getElementById("source").offsetWidth', narrow = await page.value(wide);
   await page.value('document.getElementById("divider").focus()');
   await page.key("ArrowRight");
