@@ -151,3 +151,19 @@ inBrowsers("Stop ends what is tried, and the session stands", async (page) => {
   await page.value('Talk.send("undo 2").then(() => true)');
   assert.deepEqual([await page.value(lines), await page.value(text("choices"))], [["leap", "undo 2"], ""]);
 });
+
+inBrowsers("a choice that opens once the others have gone on is tried, too, and none is said to be there where none was found", async (page) => {
+  await open(page, "", WIDE);
+  await run(page, "g(X,O) :- true | X = 5, O = early.\ng(X,O) :- wait(X) | O = late.\n", "Y = 5, X = Y, g(X,O)");
+  await page.click('#store [data-variable="O"]');
+  await page.click("#menu [data-choices]");
+  await until(page, tried("1 of 1 other choice tried."));
+  assert.deepEqual(await page.value(table), [["O = early", "as it is"], ["O = late", "step 1 by clause 2"]]);
+  await page.click("#choices [data-outcome]");
+  await page.idle();
+  assert.equal(await page.value('document.querySelector("#result").textContent.includes("O = late")'), true);
+  await run(page, "p(X) :- true | X = 1.\n", "p(X)");
+  await page.click('#store [data-variable="X"]');
+  await page.click("#menu [data-choices]");
+  await until(page, tried("Found no step on which it rests that could have gone by another clause."));
+});
