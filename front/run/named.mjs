@@ -30,10 +30,19 @@ const termOf = (text) => (text.length > LONGEST ? undefined : Reader.termIn(text
 /** What stands as a term for a text that is too long to be read. */
 const beginningOf = (text, most) => ({ name: `${text.slice(0, most)}${Print.CUT}`, arguments: [] });
 
-/** A call with the names of its variables. */
-function namedCall(run, text) {
+/** A call with the names of its variables, as a store tells them. */
+function printed(text, store) {
   const call = termOf(text);
-  return call === undefined ? cut(text, WIDEST) : Print.term(call, { store: namesIn(run, [text]), most: WIDEST });
+  return call === undefined ? cut(text, WIDEST) : Print.term(call, { store, most: WIDEST });
 }
 
-export { LONGEST, WIDEST, beginningOf, cut, namesIn, termOf, namedCall };
+const namedCall = (run, text) => printed(text, namesIn(run, [text]));
+
+/** The same with the values of those variables that are bound by now. */
+function callNow(run, text) {
+  const names = namesIn(run, [text]), isOpen = (end) => end.variable !== undefined;
+  const endOf = (term) => (isOpen(run.shown.endOf(term)) ? names.endOf(term) : run.shown.endOf(term));
+  return printed(text, { endOf });
+}
+
+export { LONGEST, WIDEST, beginningOf, callNow, cut, namesIn, termOf, namedCall };

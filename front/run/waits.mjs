@@ -8,7 +8,7 @@ import * as Printed from "../text/printed.mjs";
 import * as Reader from "../text/reader.mjs";
 import * as Replies from "../protocol/replies.mjs";
 import * as WhyNotLines from "../protocol/why_not_lines.mjs";
-import { namedCall, termOf } from "./named.mjs";
+import { callNow, termOf } from "./named.mjs";
 
 const MOST_KEPT = 20_000; // steps: of a longer run it is asked by `whynot` alone which step let a variable go
 const MOST_TOLD = 5; // variables of the query that are told
@@ -18,8 +18,12 @@ const TOLD = 200; // goals of which it is told
 const ASKED = 40; // goals about which it is asked: a reply tells of others, too
 const BUILDING = 6; // lines on what heads would have to build
 
-/** What `whynot` tells of a variable or a goal. */
-const whyNot = async (session, subject) => WhyNotLines.read(await session.ask(`whynot ${subject}`));
+/** What `whynot` tells of a variable or a goal; where steps let something go, the run knows the values by then. */
+async function whyNot(session, subject) {
+  const told = WhyNotLines.read(await session.ask(`whynot ${subject}`));
+  if (told.lost.length > 0 && session.run !== undefined) await session.look();
+  return told;
+}
 
 /** Is a run so long that an answer may take a while? */
 const isLong = ({ kept }) => kept.steps.size > MOST_KEPT;
@@ -27,7 +31,7 @@ const isLong = ({ kept }) => kept.steps.size > MOST_KEPT;
 /** The goal that a step took, the clause and its line. */
 function takenWords({ run, clauses }, { act, text }) {
   const clause = clauses[Number(/^by (\d+)$/.exec(act)?.[1]) - 1];
-  return `${namedCall(run, text)}${clause === undefined ? "" : ` by clause ${clause.number} (line ${clause.line})`}`;
+  return `${callNow(run, text)}${clause === undefined ? "" : ` by clause ${clause.number} (line ${clause.line})`}`;
 }
 
 /** The first of the steps that let go of a variable; nothing where there is none. */

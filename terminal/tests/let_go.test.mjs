@@ -43,7 +43,7 @@ async function typed(t, file, query, lines) {
   return all;
 }
 
-const WHO = "step 5 let it go, sum([],B,S) by clause 1 (line 1); whynot S tells more";
+const WHO = "step 5 let it go, sum([],3,S) by clause 1 (line 1); whynot S tells more";
 
 test("at the end of a run the terminal tells which step let go of the answer", async (t) => {
   const [run, step, value, why] = await typed(t, SUM, "sum([1,2],0,S)", ["leap", "step", "S", "whynot S"]);
@@ -51,7 +51,7 @@ test("at the end of a run the terminal tells which step let go of the answer", a
   assert.deepStrictEqual(step, [`% no goal is ready: S is never bound: ${WHO}`]);
   assert.deepStrictEqual(value.slice(1), ["S = _0_1", `% _0_1 (S of the query) is unbound; no goal has it: ${WHO}`]);
   const names = "% _0_1 (S of the query), _3_1 (B of step 3)";
-  assert.deepStrictEqual(why, [...OF_SUM, names, "% step 5 took sum([],B,S) by clause 1 (line 1)"]);
+  assert.deepStrictEqual(why, [...OF_SUM, names, "% step 5 took sum([],3,S) by clause 1 (line 1)"]);
 });
 
 test("of a goal that waits in vain it is told who let go of what it waits for", async (t) => {

@@ -21,7 +21,7 @@ function played(query, replies, length = 1) {
     asked.push(line);
     return replies[line] ?? ["F25 command"];
   };
-  return { run, kept, asked, ask, clauses: run.clauses, variables: run.query.variables };
+  return { run, kept, asked, ask, look: async () => run, clauses: run.clauses, variables: run.query.variables };
 }
 
 export { OPENED, TURNED, played };
