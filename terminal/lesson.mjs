@@ -40,12 +40,8 @@ async function main() {
   const text = textOf(file);
   if (text === undefined) return undefined;
   const lesson = new Lesson({ folder: path.dirname(file), draw, native: nativeProgram() });
-  for (const signal of ["SIGINT", "SIGTERM", "SIGHUP"]) {
-    process.once(signal, () => {
-      lesson.forget();
-      process.kill(process.pid, signal); // which ends it now as it ends others
-    });
-  }
+  const end = (signal) => { lesson.forget(); process.kill(process.pid, signal); }; // which ends it now as it ends others
+  for (const signal of ["SIGINT", "SIGTERM", "SIGHUP"]) process.once(signal, end);
   try {
     const filled = await lesson.fill(text);
     process.stdout.write(process.stdout.isTTY ? filled.split("\n").map(plain).join("\n") : filled);

@@ -100,7 +100,8 @@ const otherIn = (groups) => groups.find(({ asItIs }) => asItIs === undefined)?.c
 const otherChoice = (outcomes) => otherIn(gathered(outcomes));
 
 /** After a run: how many steps could have gone by another clause, and which variables rest on these; none where none could. */
-function freeLines({ count, names: [first, ...more] }) {
+function freeLines({ count, names }) {
+  const [first, ...more] = names;
   const others = more.length === 0 ? "" : `; others than ${first} rest on them, too: ${some(more).join(", ")}`;
   return count === 0 ? [] : [`${plural(count, "step")} could have gone by another clause: choices ${first} tells${others}`];
 }

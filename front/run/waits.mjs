@@ -18,11 +18,10 @@ const TOLD = 200; // goals of which it is told
 const ASKED = 40; // goals about which it is asked: a reply tells of others, too
 const BUILDING = 6; // lines on what heads would have to build
 
-/** What `whynot` tells of a variable or a goal; where steps let something go, the run knows the values by then. */
+/** What `whynot` tells of a variable or a goal. Of the steps that let something go the values are told: a look has them. */
 async function whyNot(session, subject) {
   const told = WhyNotLines.read(await session.ask(`whynot ${subject}`));
-  if (told.lost.length > 0 && session.run !== undefined) await session.look();
-  return told;
+  return told.lost.length > 0 && session.run !== undefined ? session.look().then(() => told) : told;
 }
 
 /** Is a run so long that an answer may take a while? */

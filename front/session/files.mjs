@@ -137,7 +137,6 @@ const whyNoName = (word) => (/^\d+$/.test(word) ? `${word} ${NO_VERSION} ./${wor
 const HEADING = "ghc-history ";
 
 const headOf = (file) => (isFile(file) ? tried(() => beginningOf(file, HEADING.length).toString("latin1"), "") : "");
-
 const isHistory = (file) => headOf(file) === HEADING;
 
 /** Why nothing is saved into a file that is no history. Undefined where it may be saved; of a folder writing tells. */

@@ -5,7 +5,6 @@ import vm from "node:vm";
 // Of the limit: what may be in use, since a long reply, a history or a table that doubles needs the rest; and what is
 // used anew before it is counted again.
 const MOST = 0.4, STEP = 0.1;
-const MB = 2 ** 20;
 let collect; // gives back what nobody uses
 let seen = 0; // in use when it was counted last
 
@@ -26,7 +25,7 @@ function isShort() {
 
 /** What helps where there is little room. */
 function cure() {
-  const most = Math.floor(v8.getHeapStatistics().heap_size_limit / MB);
+  const most = Math.floor(v8.getHeapStatistics().heap_size_limit / 2 ** 20);
   return `most of the ${most} MB that Node gives is used: save the session, then roll steps; ` +
     "or begin with NODE_OPTIONS=--max-old-space-size=2000";
 }

@@ -122,9 +122,8 @@ class Trying {
 
   /** All choices on which X rests, by what `explain X` told. */
   async choices(name, explained) {
-    const { found, losses } = await choicesOf(this.session, name, explained), sizes = new Map();
-    for (const { predicate } of this.session.clauses) sizes.set(predicate, (sizes.get(predicate) ?? 0) + 1);
-    const isFree = (clause) => sizes.get(this.session.clauses[clause - 1]?.predicate) > 1;
+    const { found, losses } = await choicesOf(this.session, name, explained), { clauses } = this.session;
+    const isFree = (clause) => clauses.filter(({ predicate }) => predicate === clauses[clause - 1]?.predicate).length > 1;
     const steps = explained.map(Replies.readExplained).filter((step) => step?.clause && isFree(step.clause));
     for (const step of steps.slice(0, MOST)) if (!this.isStopped) found.push(...await this.choicesHeld(step));
     for (const loss of losses.slice(0, MOST_LOSSES)) if (!this.isStopped) found.push(...await this.choicesOfLoss(loss));
