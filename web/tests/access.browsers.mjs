@@ -65,7 +65,10 @@ const STATES = {
   "a failure": ["#example=append&query=append([1],[2],R)&lines=step 0.1;ask _1_1 = [7];step 2.1;step 1.2", null],
   "a refusal": ["#example=bill", (page) => page.value(begin("p(X) :- even(X) | true.\n", "p(1)"))],
   "a stream": ["#example=sum&query=instream(S), sum(S,0,R)", (page) => page.click('#canvas [data-goal="0.1"]')],
-  "the help": [QUICKSORT, (page) => page.click("#open-help")],
+  "the help": [QUICKSORT, async (page) => {
+    await page.click("#open-help");
+    await until(page, 'document.querySelector("#open-help:hover") === null'); // what opens stands over it
+  }],
   "a long run": ["#example=primes&query=primes(80,Ps)&lines=leap 300", null],
   "the tour": ["", (page) => page.click("#begin-tour")],
   "a phone": [`${QUICKSORT}leap;explain R`, null, PHONE],
